@@ -1,0 +1,1 @@
+-- The trials of document 01 at the edges.

@@ -1,0 +1,13 @@
+pub mod Limits
+pub mod Bounded
+pub mod Nodes
+pub mod Tables
+pub mod Recordings
+pub mod Projection
+pub mod Readings
+pub mod Rewriting
+pub mod Lines
+pub mod RuleText
+pub mod RecordingText
+pub mod Operations
+pub mod Program

@@ -1,0 +1,101 @@
+-- The limits and the refusal numbers of document 01, each said once.
+use Prim.Native.Nat.{ℕ, _*_}
+
+-- "C controllers (1 to 8, numbered from 0)"
+abbrev pub maxControllers : ℕ
+maxControllers = 8
+
+-- "N states (1 to 128)"; a row has as many marks, a local trace at most as many places
+abbrev pub maxStates : ℕ
+maxStates = 128
+
+-- "A state is a word of 32 atoms"
+abbrev pub atomCount : ℕ
+atomCount = 32
+
+-- "1 to 64 nodes; the last is the rule"
+abbrev pub maxRuleNodes : ℕ
+maxRuleNodes = 64
+
+-- "Takes a table of 1 to 1,024 nodes"
+abbrev pub maxTableNodes : ℕ
+maxTableNodes = 1024
+
+-- "two 64-bit words" hold the marks of a row
+abbrev pub wordMarks : ℕ
+wordMarks = 64
+
+-- "1,024 row pairs", each of six words
+abbrev pub pairWords : ℕ
+pairWords = 6
+
+abbrev pub maxRowWords : ℕ
+maxRowWords = maxTableNodes * pairWords
+
+-- "1,024 bytes of rule text"
+abbrev pub maxRuleBytes : ℕ
+maxRuleBytes = 1024
+
+-- "14 over 16,384 bytes"
+abbrev pub maxInputBytes : ℕ
+maxInputBytes = 16384
+
+-- no refusal
+abbrev pub accepted : ℕ
+accepted = 0
+
+-- "1 not closed by byte 10, or not of its form"
+abbrev pub ruleForm : ℕ
+ruleForm = 1
+
+-- "2 a count, controller or atom outside its limits, an unknown kind, run or end in a rule, an unused operand not 0"
+abbrev pub ruleLimits : ℕ
+ruleLimits = 2
+
+-- "3 any other operand that isn't an earlier node"
+abbrev pub ruleOperand : ℕ
+ruleOperand = 3
+
+-- "4 a line missing or one too many"
+abbrev pub ruleLines : ℕ
+ruleLines = 4
+
+-- "5 not closed by byte 10, or not of its form"
+abbrev pub recordingForm : ℕ
+recordingForm = 5
+
+-- "6 a number outside its limits, a run mark at C or above"
+abbrev pub recordingLimits : ℕ
+recordingLimits = 6
+
+-- "7 mask meets an earlier mask"
+abbrev pub masksMeet : ℕ
+masksMeet = 7
+
+-- "8 a line missing or one too many"
+abbrev pub recordingLines : ℕ
+recordingLines = 8
+
+-- "9 run mark in the last state"
+abbrev pub lastMark : ℕ
+lastMark = 9
+
+-- "10 output rule broken by the state before"
+abbrev pub outputRule : ℕ
+outputRule = 10
+
+-- "11 rule's controller not below C"
+abbrev pub noController : ℕ
+noController = 11
+
+-- "12 over 1,024 nodes"
+abbrev pub tooManyNodes : ℕ
+tooManyNodes = 12
+
+-- "13 any of it, lent for output, shorter than its full size"
+abbrev pub lentShort : ℕ
+lentShort = 13
+
+-- "14 over 16,384 bytes"
+abbrev pub inputLong : ℕ
+inputLong = 14

@@ -1,0 +1,92 @@
+-- "The recording": states and masks in lent space, the output rule, and the check.
+use Prim.Native.Nat.{ℕ, zero, suc, _+_, _-_, _*_, _/_, _%_, _^_}
+use mathlib.Core.Bool.{Bool, true, false, not, _&&_, _||_}
+use mathlib.Core.List.{List, [], _∷_}
+use lib.ListN.{length, take, getD}
+use lib.Dec.{eqb, ltb, leb}
+use lib.Bits.{bitAnd}
+use Rattle.definitions.specs.Limits.{maxControllers, maxStates, atomCount, recordingLimits, masksMeet, recordingLines, lastMark, outputRule, accepted}
+use Rattle.definitions.specs.Bounded.{pick, some, bitOf, within, orElse}
+
+-- a recording as tables: C, N, "a mask of own atoms" for each controller, and the states, one word each
+pub record Recording : Type 0 where
+  pub controllers : ℕ
+  pub count : ℕ
+  pub masks : List ℕ
+  pub states : List ℕ
+
+-- a state in lent space is one word: the word of 32 atoms in its low half, the run marks above, bit c for controller c
+abbrev pub stateOf : ℕ → ℕ → ℕ
+stateOf marks word = marks * 2 ^ atomCount + word
+
+abbrev pub atomsOf : ℕ → ℕ
+atomsOf s = s % 2 ^ atomCount
+
+abbrev pub marksOf : ℕ → ℕ
+marksOf s = s / 2 ^ atomCount
+
+-- state s has a run mark of controller c
+abbrev pub marked : ℕ → ℕ → Bool
+marked c s = bitOf (marksOf s) c
+
+-- "entries past the count aren't read"
+abbrev pub masksOf : Recording → List ℕ
+masksOf R = take (R .controllers) (R .masks)
+
+abbrev pub statesOf : Recording → List ℕ
+statesOf R = take (R .count) (R .states)
+
+abbrev pub maskOf : Recording → ℕ → ℕ
+maskOf R c = getD (masksOf R) c 0
+
+abbrev pub stateAt : Recording → ℕ → ℕ
+stateAt R k = getD (statesOf R) k 0
+
+abbrev pub wordAt : Recording → ℕ → ℕ
+wordAt R k = atomsOf (stateAt R k)
+
+-- c runs in state k
+abbrev pub runsAt : Recording → ℕ → ℕ → Bool
+runsAt R c k = marked c (stateAt R k)
+
+-- "masks are disjoint": a mask meets one of the earlier masks
+abbrev pub meets : List ℕ → ℕ → Bool
+meets [] m = false
+meets (e ∷ es) m = not (eqb (bitAnd e m) 0) || meets es m
+
+-- "Output rule: if c doesn't run in state k and k+1 exists, its own atoms are equal in k and k+1", broken by some c
+abbrev pub outputBroken : ℕ → List ℕ → ℕ → ℕ → Bool
+outputBroken C masks before s =
+    some 0 C (λ c. not (marked c before) && not (eqb (bitAnd (atomsOf before) (getD masks c 0)) (bitAnd (atomsOf s) (getD masks c 0))))
+
+-- state k against the state before it: "a run mark at C or above", "output rule broken by the state before", "run mark in the last state"
+unfoldable pub stateRefusal : ℕ → ℕ → List ℕ → ℕ → ℕ → ℕ → ℕ
+stateRefusal C N masks k before s =
+    pick (leb (2 ^ C) (marksOf s)) recordingLimits
+    (pick (ltb 0 k && outputBroken C masks before s) outputRule
+    (pick (eqb (k + 1) N && not (eqb (marksOf s) 0)) lastMark accepted))
+
+unfoldable pub recordingHeadingRefusal : ℕ → ℕ → ℕ
+recordingHeadingRefusal C N = pick (within 1 maxControllers C && within 1 maxStates N) accepted recordingLimits
+
+unfoldable pub maskRefusal : List ℕ → ℕ → ℕ
+maskRefusal earlier m = pick (meets earlier m) masksMeet accepted
+
+unfoldable pub masksRefusal : List ℕ → List ℕ → ℕ
+masksRefusal earlier [] = accepted
+masksRefusal earlier (m ∷ ms) = orElse (maskRefusal earlier m) (masksRefusal (m ∷ earlier) ms)
+
+-- the states from state k on
+unfoldable pub statesRefusal : ℕ → ℕ → List ℕ → ℕ → ℕ → List ℕ → ℕ
+statesRefusal C N masks k before [] = accepted
+statesRefusal C N masks k before (s ∷ ss) = orElse (stateRefusal C N masks k before s) (statesRefusal C N masks (k + 1) s ss)
+
+-- "masks or states, with fewer entries than its count has a line missing"
+unfoldable pub recordingLinesRefusal : Recording → ℕ
+recordingLinesRefusal R = pick (ltb (length (R .masks)) (R .controllers) || ltb (length (R .states)) (R .count)) recordingLines accepted
+
+unfoldable pub recordingRefusal : Recording → ℕ
+recordingRefusal R =
+    orElse (recordingHeadingRefusal (R .controllers) (R .count))
+    (orElse (masksRefusal [] (masksOf R))
+    (orElse (statesRefusal (R .controllers) (R .count) (masksOf R) 0 0 (statesOf R)) (recordingLinesRefusal R)))

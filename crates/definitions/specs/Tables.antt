@@ -1,0 +1,106 @@
+-- The check of a rule's table and of the judge's table: the first refusal that is met, 0 for none.
+use Prim.Native.Nat.{ℕ, zero, suc, _+_, _-_}
+use mathlib.Core.Bool.{Bool, true, false, not, _&&_, _||_}
+use mathlib.Core.List.{List, [], _∷_, map}
+use lib.ListN.{take}
+use lib.Dec.{eqb, ltb, leb}
+use Rattle.definitions.specs.Limits.{maxControllers, maxRuleNodes, maxTableNodes, atomCount, ruleLimits, ruleOperand, ruleLines, accepted}
+use Rattle.definitions.specs.Bounded.{pick, within, orElse}
+use Rattle.definitions.specs.Nodes.{Kind, True, Atom, Not, Or, Next, Until, Prev, Since, Run, End, Unknown, Node, node, operands, nodeOf}
+
+-- a rule as tables: its controller, its node count, and its nodes, one word each
+pub record Rule : Type 0 where
+  pub controller : ℕ
+  pub count : ℕ
+  pub nodes : List ℕ
+
+-- the judge's table: its node count, its nodes, and "two tops"
+pub record Table : Type 0 where
+  pub count : ℕ
+  pub nodes : List ℕ
+  pub weakTop : ℕ
+  pub strongTop : ℕ
+
+abbrev pub isUnknown : Kind → Bool
+isUnknown True = false
+isUnknown Atom = false
+isUnknown Not = false
+isUnknown Or = false
+isUnknown Next = false
+isUnknown Until = false
+isUnknown Prev = false
+isUnknown Since = false
+isUnknown Run = false
+isUnknown End = false
+isUnknown Unknown = true
+
+-- "8 and 9 only in rewritten tables"
+abbrev pub isRewritten : Kind → Bool
+isRewritten True = false
+isRewritten Atom = false
+isRewritten Not = false
+isRewritten Or = false
+isRewritten Next = false
+isRewritten Until = false
+isRewritten Prev = false
+isRewritten Since = false
+isRewritten Run = true
+isRewritten End = true
+isRewritten Unknown = false
+
+abbrev pub isAtom : Kind → Bool
+isAtom True = false
+isAtom Atom = true
+isAtom Not = false
+isAtom Or = false
+isAtom Next = false
+isAtom Until = false
+isAtom Prev = false
+isAtom Since = false
+isAtom Run = false
+isAtom End = false
+isAtom Unknown = false
+
+-- an unused operand is not 0
+abbrev pub unusedSet : Node → Bool
+unusedSet n = (eqb (operands (n .kind)) 0 && not (eqb (n .first) 0)) || (ltb (operands (n .kind)) 2 && not (eqb (n .second) 0))
+
+-- an operand of node i is not an earlier node
+abbrev pub operandLate : ℕ → Node → Bool
+operandLate i n = (ltb 0 (operands (n .kind)) && leb i (n .first)) || (ltb 1 (operands (n .kind)) && leb i (n .second))
+
+-- "a rule line or node", from 2 on: node i of a rule's table, or (rewritten) of the judge's, which "may hold run and end"
+unfoldable pub nodeRefusal : Bool → ℕ → Node → ℕ
+nodeRefusal rewritten i n =
+    pick (isUnknown (n .kind)) ruleLimits
+    (pick (isRewritten (n .kind) && not rewritten) ruleLimits
+    (pick (isAtom (n .kind) && leb atomCount (n .first)) ruleLimits
+    (pick (unusedSet n) ruleLimits
+    (pick (not (isAtom (n .kind)) && operandLate i n) ruleOperand accepted))))
+
+-- the nodes from node i on, as many as `left` says: "lines in order"; "with fewer entries than its count has a line missing"
+unfoldable pub nodesRefusal : Bool → ℕ → ℕ → List ℕ → ℕ
+nodesRefusal rewritten i zero ws = accepted
+nodesRefusal rewritten i (suc left) [] = ruleLines
+nodesRefusal rewritten i (suc left) (w ∷ ws) = orElse (nodeRefusal rewritten i (nodeOf w)) (nodesRefusal rewritten (i + 1) left ws)
+
+-- "a count, controller outside its limits"
+unfoldable pub ruleHeadingRefusal : ℕ → ℕ → ℕ
+ruleHeadingRefusal controller count = pick (ltb controller maxControllers && within 1 maxRuleNodes count) accepted ruleLimits
+
+unfoldable pub ruleRefusal : Rule → ℕ
+ruleRefusal r = orElse (ruleHeadingRefusal (r .controller) (r .count)) (nodesRefusal false 0 (r .count) (r .nodes))
+
+-- "A top not below the count is 2, tested after the nodes and 4"
+unfoldable pub topsRefusal : Table → ℕ
+topsRefusal t = pick (ltb (t .weakTop) (t .count) && ltb (t .strongTop) (t .count)) accepted ruleLimits
+
+-- "The judge's table may hold 1,024 nodes, run and end"
+unfoldable pub tableRefusal : Table → ℕ
+tableRefusal t =
+    orElse (pick (within 1 maxTableNodes (t .count)) accepted ruleLimits)
+    (orElse (nodesRefusal true 0 (t .count) (t .nodes)) (topsRefusal t))
+
+-- "entries past the count aren't read"
+abbrev pub nodesIn : ℕ → List ℕ → List Node
+nodesIn count ws = map nodeOf (take count ws)

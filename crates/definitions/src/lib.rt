@@ -1,0 +1,1 @@
+// No code: specs/ has document 01 as definitions, proofs/ its worked trials.
