@@ -2,7 +2,7 @@
 use Prim.Native.Nat.{ℕ, zero, suc, _+_, _-_}
 use mathlib.Core.Bool.{Bool, true, false, not, _&&_, _||_}
 use mathlib.Core.List.{List, [], _∷_, _++_, map}
-use lib.ListN.{length, take, drop, replicate}
+use lib.ListN.{length, take, drop, getD, replicate}
 use lib.Dec.{eqb, ltb}
 use Rattle.definitions.specs.Limits.{accepted, lentShort, noController, tooManyNodes, maxRuleNodes, maxControllers, maxStates, maxTableNodes, maxRowWords, maxRuleBytes}
 use Rattle.definitions.specs.Bounded.{pick, orElse, bit}
@@ -152,6 +152,15 @@ rewriteAnswer short r mask table =
 unfoldable pub rewriteTable : Bool → Rule → ℕ → List ℕ → List ℕ
 rewriteTable short r mask table =
     left (rewriteNumber short r mask table) maxTableNodes (map nodeWord ((rewrittenOf short r mask) .nodes)) table
+
+-- "the table, count and tops that a rewriting answered"
+abbrev pub answeredTable : Bool → Rule → ℕ → List ℕ → Table
+answeredTable short r mask table = record {
+  count = getD ((rewriteAnswer short r mask table) .values) 0 0;
+  nodes = rewriteTable short r mask table;
+  weakTop = getD ((rewriteAnswer short r mask table) .values) 1 0;
+  strongTop = getD ((rewriteAnswer short r mask table) .values) 2 0;
+}
 
 -- "judge the whole recording": the verdicts at the tops, and "a weak and a strong row for each node, the rest zero"
 unfoldable pub judgeRecordingNumber : Table → Recording → ℕ → List ℕ → ℕ

@@ -1,1 +1,16 @@
 pub mod Choice
+pub mod Recursions
+pub mod NodeWords
+pub mod RuleNodes
+pub mod TableNodes
+pub mod Counts
+pub mod RewrittenAccepted
+pub mod Walk
+pub mod Operators
+pub mod Semantics
+pub mod Terms
+pub mod Images
+pub mod Faithful
+pub mod RecordingLaws
+pub mod ProjectionLaws
+pub mod ScheduleIndependence

@@ -1,0 +1,120 @@
+-- What the acceptance of a recording says of each of its states.
+use mathlib.Core.Path.{_≡_, refl, sym, ap, _∙_}
+use Prim.Native.Nat.{ℕ, zero, suc, _+_, _-_, _*_, _/_, _%_, _^_, _≤_, _<_}
+use native.Mathlib.Omega.{arith}
+use native.Mathlib.Numerals.{add-one}
+use native.Mathlib.Nat.{zero-div}
+use mathlib.Core.Bool.{Bool, true, false, not, _&&_, _||_, true≢false}
+use mathlib.Core.List.{List, [], _∷_}
+use lib.ListN.{length, take, getD, length-take, List·getD-eq-default}
+use lib.Dec.{eqb, ltb, leb}
+use lib.Bits.{bitAnd}
+use borrow.Author.Tests.{ltb-true, ltb-false, leb-true, eqb-true, lt-ltb, eq-eqb, not-false, not-true}
+use Rattle.definitions.specs.Limits.{maxControllers, maxStates, recordingLimits, recordingLines, outputRule, lastMark, accepted}
+use Rattle.definitions.specs.Bounded.{pick, bitOf, within, orElse, someOf}
+use Rattle.definitions.specs.Recordings.{Recording, atomsOf, marksOf, marked, masksOf, statesOf, maskOf, stateAt, wordAt, runsAt, outputBroken, stateRefusal, recordingHeadingRefusal, masksRefusal, statesRefusal, recordingLinesRefusal, recordingRefusal}
+use Rattle.theorems.proofs.Choice.{by-test, and-left, and-right, or-left, or-right, refuse-no, accept-yes, or-else-none, some-no}
+
+pub bit-zero : (a : ℕ) → bitOf 0 a ≡ false
+unfolding bitOf
+bit-zero a = rw zero-div
+
+-- the parts of the check
+pub record Checked (R : Recording) : Type 0 where
+  pub someController : 0 < R .controllers
+  pub fewControllers : R .controllers ≤ maxControllers
+  pub someState : 0 < R .count
+  pub fewStates : R .count ≤ maxStates
+  pub masks : length (masksOf R) ≡ R .controllers
+  pub states : length (statesOf R) ≡ R .count
+  pub eachState : statesRefusal (R .controllers) (R .count) (masksOf R) 0 0 (statesOf R) ≡ 0
+
+taken : (n : ℕ) (l : List ℕ) → ltb (length l) n ≡ false → length (take n l) ≡ n
+taken n l h = simp length-take (omega (arith, ltb-false (length l) n h))
+
+pub checked : (R : Recording) → recordingRefusal R ≡ 0 → Checked R
+unfolding recordingRefusal recordingHeadingRefusal recordingLinesRefusal
+checked R h =
+    let C : ℕ = R .controllers in
+    let N : ℕ = R .count in
+    let (heading, more) = or-else-none (recordingHeadingRefusal C N) (orElse (masksRefusal [] (masksOf R)) (orElse (statesRefusal C N (masksOf R) 0 0 (statesOf R)) (recordingLinesRefusal R))) h in
+    let (ms, others) = or-else-none (masksRefusal [] (masksOf R)) (orElse (statesRefusal C N (masksOf R) 0 0 (statesOf R)) (recordingLinesRefusal R)) more in
+    let (ss, count) = or-else-none (statesRefusal C N (masksOf R) 0 0 (statesOf R)) (recordingLinesRefusal R) others in
+    let limits = accept-yes (within 1 maxControllers C && within 1 maxStates N) recordingLimits (omega arith) heading in
+    let c = and-left (within 1 maxControllers C) (within 1 maxStates N) limits in
+    let n = and-right (within 1 maxControllers C) (within 1 maxStates N) limits in
+    let lines = refuse-no (ltb (length (R .masks)) C || ltb (length (R .states)) N) recordingLines accepted (omega arith) count in
+    record {
+      someController = leb-true 1 C (and-left (leb 1 C) (leb C maxControllers) c);
+      fewControllers = leb-true C maxControllers (and-right (leb 1 C) (leb C maxControllers) c);
+      someState = leb-true 1 N (and-left (leb 1 N) (leb N maxStates) n);
+      fewStates = leb-true N maxStates (and-right (leb 1 N) (leb N maxStates) n);
+      masks = taken C (R .masks) (or-left (ltb (length (R .masks)) C) (ltb (length (R .states)) N) (lines .0));
+      states = taken N (R .states) (or-right (ltb (length (R .masks)) C) (ltb (length (R .states)) N) (lines .0));
+      eachState = ss;
+    }
+
+-- each state met no row, against the state before it
+state-accepted : (C N : ℕ) (masks ss : List ℕ) (k before : ℕ) → statesRefusal C N masks k before ss ≡ 0 → (j : ℕ) → j < length ss →
+    stateRefusal C N masks (k + j) (getD (before ∷ ss) j 0) (getD ss j 0) ≡ 0
+unfolding statesRefusal
+state-accepted C N masks [] k before h j l = absurd (omega arith)
+state-accepted C N masks (s ∷ ss) k before h zero l =
+    let e : k + 0 ≡ k = omega arith in
+    rw e ((or-else-none (stateRefusal C N masks k before s) (statesRefusal C N masks (k + 1) s ss) h) .0)
+state-accepted C N masks (s ∷ ss) k before h (suc j) l =
+    let e : k + suc j ≡ (k + 1) + j = omega arith in
+    rw e (state-accepted C N masks ss (k + 1) s ((or-else-none (stateRefusal C N masks k before s) (statesRefusal C N masks (k + 1) s ss) h) .1) j (omega arith))
+
+module _ (C N : ℕ) (masks : List ℕ) (k before s : ℕ) (h : stateRefusal C N masks k before s ≡ 0) where
+  -- the tests of a state, from the last one on
+  lastTest : Bool
+  lastTest = eqb (k + 1) N && not (eqb (marksOf s) 0)
+
+  outputTest : Bool
+  outputTest = ltb 0 k && outputBroken C masks before s
+
+  tests : (outputTest ≡ false) × (lastTest ≡ false)
+  unfolding stateRefusal outputTest lastTest
+  tests =
+      let more = (refuse-no (leb (2 ^ C) (marksOf s)) recordingLimits (pick (ltb 0 k && outputBroken C masks before s) outputRule (pick (eqb (k + 1) N && not (eqb (marksOf s) 0)) lastMark accepted)) (omega arith) h) .1 in
+      let two = refuse-no (ltb 0 k && outputBroken C masks before s) outputRule (pick (eqb (k + 1) N && not (eqb (marksOf s) 0)) lastMark accepted) (omega arith) more in
+      (two .0, (refuse-no (eqb (k + 1) N && not (eqb (marksOf s) 0)) lastMark accepted (omega arith) (two .1)) .0)
+
+  -- the last state has no mark
+  last-unmarked : k + 1 ≡ N → marksOf s ≡ 0
+  unfolding lastTest
+  last-unmarked e =
+      let u : not (eqb (marksOf s) 0) ≡ false = rw (eq-eqb (k + 1) N e) at (tests .1) in
+      eqb-true (marksOf s) 0 (not-false (eqb (marksOf s) 0) u)
+
+  -- the output rule holds for each controller
+  output-kept : 0 < k → (c : ℕ) → c < C → marked c before ≡ false → bitAnd (atomsOf before) (getD masks c 0) ≡ bitAnd (atomsOf s) (getD masks c 0)
+  unfolding outputTest
+  output-kept p c l m =
+      let t : outputBroken C masks before s ≡ false = rw (lt-ltb 0 k p) at (tests .0) in
+      let u = some-no (λ (c : ℕ). not (marked c before) && not (eqb (bitAnd (atomsOf before) (getD masks c 0)) (bitAnd (atomsOf s) (getD masks c 0)))) (C - 0) 0 c t (omega arith) (omega arith) in
+      let v : not (eqb (bitAnd (atomsOf before) (getD masks c 0)) (bitAnd (atomsOf s) (getD masks c 0))) ≡ false = rw m at u in
+      eqb-true (bitAnd (atomsOf before) (getD masks c 0)) (bitAnd (atomsOf s) (getD masks c 0)) (not-false (eqb (bitAnd (atomsOf before) (getD masks c 0)) (bitAnd (atomsOf s) (getD masks c 0))) v)
+
+-- an accepted recording, as its projection for a controller that runs at `run` and owns `mask` needs it
+pub record Recorded (run : ℕ → Bool) (word : ℕ → ℕ) (mask N : ℕ) : Type 0 where
+  pub some : 0 < N
+  pub off : (k : ℕ) → N ≤ k → run k ≡ false
+  pub lastIdle : (k : ℕ) → suc k ≡ N → run k ≡ false
+  pub output : (k : ℕ) → suc k < N → run k ≡ false → bitAnd (word k) mask ≡ bitAnd (word (suc k)) mask
+
+pub recorded : (R : Recording) (c : ℕ) → recordingRefusal R ≡ 0 → c < R .controllers → Recorded (runsAt R c) (wordAt R) (maskOf R c) (R .count)
+recorded R c h l =
+    let K : Checked R = checked R h in
+    let each = state-accepted (R .controllers) (R .count) (masksOf R) (statesOf R) 0 0 (K .eachState) in
+    record {
+      some = K .someState;
+      off = λ k b. let past : length (statesOf R) ≤ k = omega (arith, K .states) in
+          let z : 0 / 2 ^ 32 ≡ 0 = refl in rw (List·getD-eq-default (statesOf R) 0 past) (bit-zero c);
+      lastIdle = λ k e. let i : k < length (statesOf R) = omega (arith, K .states) in
+          let n : (0 + k) + 1 ≡ R .count = omega arith in
+          rw (last-unmarked (R .controllers) (R .count) (masksOf R) (0 + k) (getD (0 ∷ statesOf R) k 0) (getD (statesOf R) k 0) (each k i) n) (bit-zero c);
+      output = λ k b r. let i : suc k < length (statesOf R) = omega (arith, K .states) in
+          output-kept (R .controllers) (R .count) (masksOf R) (0 + suc k) (getD (0 ∷ statesOf R) (suc k) 0) (getD (statesOf R) (suc k) 0) (each (suc k) i) (omega arith) c l r;
+    }
