@@ -1,11 +1,11 @@
 -- Laws of choice by a test, of refusals in order, and of the bounded quantifiers.
-use mathlib.Core.Path.{_≡_, refl, sym, _∙_}
+use mathlib.Core.Path.{_≡_, refl, sym}
 use Prim.Native.Nat.{ℕ, zero, suc, _+_, _-_, _≤_, _<_}
 use native.Mathlib.Omega.{arith}
 use native.Mathlib.Decide.{ℕ-discrete}
 use mathlib.Core.Bool.{Bool, true, false, not, _&&_, _||_, true≢false}
 use lib.Dec.{eqb}
-use borrow.Author.Tests.{eqb-true, eq-eqb}
+use borrow.Author.Tests.{eqb-true, eqb-false, eq-eqb}
 use Rattle.definitions.specs.Bounded.{pick, orElse, someOf, everyOf, some, every}
 
 -- by cases of a test, with what it answered
@@ -13,40 +13,51 @@ pub by-test : {P : Type 0} (z : Bool) → (z ≡ true → P) → (z ≡ false �
 by-test true f g = f refl
 by-test false f g = g refl
 
-pub and-left : (a b : Bool) → (a && b) ≡ true → a ≡ true
-and-left true b h = refl
-and-left false b h = h
+pub both-true : (a b : Bool) → (a && b) ≡ true → (a ≡ true) × (b ≡ true)
+both-true true b e = (refl, e)
+both-true false b e = absurd (true≢false (sym e))
 
-pub and-right : (a b : Bool) → (a && b) ≡ true → b ≡ true
-and-right true b h = h
-and-right false b h = absurd (true≢false (sym h))
+pub both-false : (a b : Bool) → (a || b) ≡ false → (a ≡ false) × (b ≡ false)
+both-false true b e = absurd (true≢false e)
+both-false false b e = (refl, e)
 
-pub or-left : (a b : Bool) → (a || b) ≡ false → a ≡ false
-or-left true b h = h
-or-left false b h = refl
+pub other-false : (a b : Bool) → (a && b) ≡ false → a ≡ true → b ≡ false
+other-false true b e t = e
+other-false false b e t = absurd (true≢false (sym t))
 
-pub or-right : (a b : Bool) → (a || b) ≡ false → b ≡ false
-or-right true b h = absurd (true≢false h)
-or-right false b h = h
+module _ {A : Type 0} where
+  pub pick-true : (z : Bool) (a b : A) → z ≡ true → pick z a b ≡ a
+  unfolding pick
+  pick-true z a b t = rw t
+
+  pub pick-false : (z : Bool) (a b : A) → z ≡ false → pick z a b ≡ b
+  unfolding pick
+  pick-false z a b t = rw t
+
+  -- the first of two was picked, for the second is another
+  pub pick-must : (x : A) (z : Bool) (a b : A) → pick z a b ≡ x → (b ≡ x → ⊥) → (z ≡ true) × (a ≡ x)
+  unfolding pick
+  pick-must x true a b e n = (refl, e)
+  pick-must x false a b e n = absurd (n e)
+
+  -- the second of two was picked, for the first is another
+  pub pick-other : (x : A) (z : Bool) (a b : A) → pick z a b ≡ x → (a ≡ x → ⊥) → (z ≡ false) × (b ≡ x)
+  unfolding pick
+  pick-other x true a b e n = absurd (n e)
+  pick-other x false a b e n = (refl, e)
 
 -- no refusal where a test refuses: it fails, and nothing else refuses
 pub refuse-no : (z : Bool) (number other : ℕ) → 0 < number → pick z number other ≡ 0 → (z ≡ false) × (other ≡ 0)
-unfolding pick
-refuse-no true number other h e = absurd (omega arith)
-refuse-no false number other h e = (refl, e)
+refuse-no z number other h e = pick-other 0 z number other e (λ q. omega arith)
 
 -- no refusal where a test accepts
 pub accept-yes : (z : Bool) (number : ℕ) → 0 < number → pick z 0 number ≡ 0 → z ≡ true
-unfolding pick
-accept-yes true number h e = refl
-accept-yes false number h e = absurd (omega arith)
+accept-yes z number h e = (pick-must 0 z 0 number e (λ q. omega arith)) .0
 
 -- no refusal of two in order
 pub or-else-none : (a b : ℕ) → orElse a b ≡ 0 → (a ≡ 0) × (b ≡ 0)
 unfolding orElse pick
-or-else-none a b e = by-test (eqb a 0)
-    (λ t. (eqb-true a 0 t, (rw t at e)))
-    (λ t. let z : a ≡ 0 = rw t at e in absurd (true≢false (sym (eq-eqb a 0 z) ∙ t)))
+or-else-none a b e = by-test (eqb a 0) (λ z. (eqb-true a 0 z, rw z at e)) (λ z. absurd (eqb-false a 0 z (rw z at e)))
 
 pub none-or-else : (a b : ℕ) → a ≡ 0 → b ≡ 0 → orElse a b ≡ 0
 unfolding orElse pick
@@ -55,10 +66,10 @@ none-or-else a b p q = rw (eq-eqb a 0 p) q
 -- what the bounded quantifiers say of each place
 pub some-no : (f : ℕ → Bool) (n k j : ℕ) → someOf n k f ≡ false → k ≤ j → j < k + n → f j ≡ false
 some-no f zero k j h a b = absurd (omega arith)
-some-no f (suc n) k j h a b = go (ℕ-discrete k j) (λ c. some-no f n (suc k) j (or-right (f k) (someOf n (suc k) f) h) c (omega arith))
+some-no f (suc n) k j h a b = go (ℕ-discrete k j) (λ c. some-no f n (suc k) j ((both-false (f k) (someOf n (suc k) f) h) .1) c (omega arith))
   where
     go : Dec (k ≡ j) → (suc k ≤ j → f j ≡ false) → f j ≡ false
-    go (yes e) later = rw e at (or-left (f k) (someOf n (suc k) f) h)
+    go (yes e) later = rw e at ((both-false (f k) (someOf n (suc k) f) h) .0)
     go (no e) later = later (omega arith)
 
 pub every-yes : (f : ℕ → Bool) (n k : ℕ) → ((j : ℕ) → k ≤ j → j < k + n → f j ≡ true) → everyOf n k f ≡ true
@@ -67,8 +78,8 @@ every-yes f (suc n) k h = rw (h k (omega arith) (omega arith)) (every-yes f n (s
 
 pub every-at : (f : ℕ → Bool) (n k j : ℕ) → everyOf n k f ≡ true → k ≤ j → j < k + n → f j ≡ true
 every-at f zero k j h a b = absurd (omega arith)
-every-at f (suc n) k j h a b = go (ℕ-discrete k j) (λ c. every-at f n (suc k) j (and-right (f k) (everyOf n (suc k) f) h) c (omega arith))
+every-at f (suc n) k j h a b = go (ℕ-discrete k j) (λ c. every-at f n (suc k) j ((both-true (f k) (everyOf n (suc k) f) h) .1) c (omega arith))
   where
     go : Dec (k ≡ j) → (suc k ≤ j → f j ≡ true) → f j ≡ true
-    go (yes e) later = rw e at (and-left (f k) (everyOf n (suc k) f) h)
+    go (yes e) later = rw e at ((both-true (f k) (everyOf n (suc k) f) h) .0)
     go (no e) later = later (omega arith)

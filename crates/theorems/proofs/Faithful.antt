@@ -13,7 +13,7 @@ use Rattle.definitions.specs.Bounded.{bitOf}
 use Rattle.definitions.specs.Nodes.{Kind, True, Atom, Not, Or, Next, Until, Prev, Since, Run, End, Unknown, Node}
 use Rattle.definitions.specs.Readings.{Trace}
 use Rattle.definitions.specs.Rewriting.{opening, Image, noImage, imageOf, image, tolerantAt, tolerantOf, Draft, step, steps, Rewritten, closed, rewriting, lastImage, topOf}
-use Rattle.theorems.proofs.Choice.{and-left, and-right}
+use Rattle.theorems.proofs.Choice.{both-true}
 use Rattle.theorems.proofs.RuleNodes.{RuleNode, RuleNodes}
 use Rattle.theorems.proofs.Recursions.{untilN, sinceB, prevB}
 use Rattle.theorems.proofs.Counts.{opened}
@@ -319,7 +319,7 @@ module _ (run ends : ℕ → Bool) (mask : ℕ) (bit lbit : ℕ → ℕ → Bool
       next-is′ d a h k b t = go (short && tolerantAt is a) refl
         where
           go : (c : Bool) → (short && tolerantAt is a) ≡ c → den gt (cond c (shortNextX d (imageX d is a)) (one next₁ (findX d (imageX d is a)))) F d k ≡ ev lt (nth rs) Next a 0 d (count run k)
-          go true o = next-short d a h (and-right short (tolerantAt is a) o) k b t
+          go true o = next-short d a h ((both-true short (tolerantAt is a) o) .1) k b t
           go false o = next-plain d a h k b t
 
       until-is′ : (d : Bool) (a b : ℕ) → a < length rs → b < length rs → (k : ℕ) → k ≤ e →
@@ -330,8 +330,8 @@ module _ (run ends : ℕ → Bool) (mask : ℕ) (bit lbit : ℕ → ℕ → Bool
           go : (c : Bool) → (short && (tolerantAt is a && tolerantAt is b)) ≡ c →
               den gt (cond c (shortUntilX d (imageX d is a) (imageX d is b)) (untilX d (imageX d is a) (imageX d is b))) F d k ≡ ev lt (nth rs) Until a b d (count run k)
           go true o =
-              let both : (tolerantAt is a && tolerantAt is b) ≡ true = and-right short (tolerantAt is a && tolerantAt is b) o in
-              until-short d a b ha hb (and-left (tolerantAt is a) (tolerantAt is b) both) (and-right (tolerantAt is a) (tolerantAt is b) both) k l
+              let both = both-true (tolerantAt is a) (tolerantAt is b) ((both-true short (tolerantAt is a && tolerantAt is b) o) .1) in
+              until-short d a b ha hb (both .0) (both .1) k l
           go false o = until-plain d a b ha hb k l
 
       -- what the strong image of a leaf needs
@@ -512,4 +512,4 @@ module _ (run ends : ℕ → Bool) (mask : ℕ) (bit lbit : ℕ → ℕ → Bool
         let l : length (rows lt ns) ≡ length ns = length-rows lt ns in
         let q : length (D .images) ≡ length ns = omega (arith, S .sizes) in
         rw q (closed-is (D .nodes) (D .images) (rows lt ns) S (length ns - 1) (omega arith) (short && tolerantAt (D .images) (length ns - 1))
-        (and-right short (tolerantAt (D .images) (length ns - 1))) d)
+        (λ e. (both-true short (tolerantAt (D .images) (length ns - 1)) e) .1) d)

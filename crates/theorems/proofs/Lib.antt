@@ -1,6 +1,8 @@
 pub mod Choice
+pub mod Inversions
 pub mod Recursions
 pub mod NodeWords
+pub mod NodeLaws
 pub mod RuleNodes
 pub mod TableNodes
 pub mod Counts
@@ -14,3 +16,11 @@ pub mod Faithful
 pub mod RecordingLaws
 pub mod ProjectionLaws
 pub mod ScheduleIndependence
+pub mod SplitLaws
+pub mod DecimalLaws
+pub mod WordLaws
+pub mod FieldLaws
+pub mod RuleTextSteps
+pub mod RuleTextBack
+pub mod RuleTextForth
+pub mod RoundTrips

@@ -13,7 +13,7 @@ use borrow.Author.Tests.{ltb-true, ltb-false, leb-true, eqb-true, lt-ltb, eq-eqb
 use Rattle.definitions.specs.Limits.{maxControllers, maxStates, recordingLimits, recordingLines, outputRule, lastMark, accepted}
 use Rattle.definitions.specs.Bounded.{pick, bitOf, within, orElse, someOf}
 use Rattle.definitions.specs.Recordings.{Recording, atomsOf, marksOf, marked, masksOf, statesOf, maskOf, stateAt, wordAt, runsAt, outputBroken, stateRefusal, recordingHeadingRefusal, masksRefusal, statesRefusal, recordingLinesRefusal, recordingRefusal}
-use Rattle.theorems.proofs.Choice.{by-test, and-left, and-right, or-left, or-right, refuse-no, accept-yes, or-else-none, some-no}
+use Rattle.theorems.proofs.Choice.{both-true, both-false, refuse-no, accept-yes, or-else-none, some-no}
 
 pub bit-zero : (a : ℕ) → bitOf 0 a ≡ false
 unfolding bitOf
@@ -41,16 +41,18 @@ checked R h =
     let (ms, others) = or-else-none (masksRefusal [] (masksOf R)) (orElse (statesRefusal C N (masksOf R) 0 0 (statesOf R)) (recordingLinesRefusal R)) more in
     let (ss, count) = or-else-none (statesRefusal C N (masksOf R) 0 0 (statesOf R)) (recordingLinesRefusal R) others in
     let limits = accept-yes (within 1 maxControllers C && within 1 maxStates N) recordingLimits (omega arith) heading in
-    let c = and-left (within 1 maxControllers C) (within 1 maxStates N) limits in
-    let n = and-right (within 1 maxControllers C) (within 1 maxStates N) limits in
+    let (cs, ns) = both-true (within 1 maxControllers C) (within 1 maxStates N) limits in
+    let c = both-true (leb 1 C) (leb C maxControllers) cs in
+    let n = both-true (leb 1 N) (leb N maxStates) ns in
     let lines = refuse-no (ltb (length (R .masks)) C || ltb (length (R .states)) N) recordingLines accepted (omega arith) count in
+    let enough = both-false (ltb (length (R .masks)) C) (ltb (length (R .states)) N) (lines .0) in
     record {
-      someController = leb-true 1 C (and-left (leb 1 C) (leb C maxControllers) c);
-      fewControllers = leb-true C maxControllers (and-right (leb 1 C) (leb C maxControllers) c);
-      someState = leb-true 1 N (and-left (leb 1 N) (leb N maxStates) n);
-      fewStates = leb-true N maxStates (and-right (leb 1 N) (leb N maxStates) n);
-      masks = taken C (R .masks) (or-left (ltb (length (R .masks)) C) (ltb (length (R .states)) N) (lines .0));
-      states = taken N (R .states) (or-right (ltb (length (R .masks)) C) (ltb (length (R .states)) N) (lines .0));
+      someController = leb-true 1 C (c .0);
+      fewControllers = leb-true C maxControllers (c .1);
+      someState = leb-true 1 N (n .0);
+      fewStates = leb-true N maxStates (n .1);
+      masks = taken C (R .masks) (enough .0);
+      states = taken N (R .states) (enough .1);
       eachState = ss;
     }
 

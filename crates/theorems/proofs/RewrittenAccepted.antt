@@ -9,7 +9,7 @@ use mathlib.Core.List.{List, [], _∷_, _++_, map}
 use lib.ListN.{length, length-append, List·getD-append}
 use lib.Seq.{getD-at}
 use borrow.Author.Tests.{lt-ltb, le-ltb, le-leb}
-use Rattle.definitions.specs.Limits.{maxTableNodes}
+use Rattle.definitions.specs.Limits.{atomCount, maxTableNodes}
 use Rattle.definitions.specs.Bounded.{pick, orElse, bitOf}
 use Rattle.definitions.specs.Nodes.{Kind, True, Atom, Not, Or, Next, Until, Prev, Since, Run, End, Unknown, Node, nodeWord}
 use Rattle.definitions.specs.Tables.{Rule, ruleRefusal, topsRefusal, tableRefusal, nodesIn}
@@ -22,7 +22,7 @@ use Rattle.theorems.proofs.TableNodes.{TableNodes, emit-nodes, nodes-he
 
 -- what is emitted from node m on, j just before it, the operands' images below m
 module _ (j m : ℕ) (big : 11 ≤ m) (just : j < m) where
-  atom-nodes : (c weak : Bool) (x a : ℕ) → (weak ≡ false → x < m) → a < 32 →
+  atom-nodes : (c weak : Bool) (x a : ℕ) → (weak ≡ false → x < m) → a < atomCount →
       TableNodes m (emitted j m (cond c (itself weak Atom a) (foreignAtom weak x a)))
   atom-nodes true true x a f p = search arith depth 20
   atom-nodes true false x a f p = tt

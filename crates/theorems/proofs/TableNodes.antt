@@ -8,16 +8,17 @@ use mathlib.Core.Bool.{true}
 use mathlib.Core.List.{List, [], _∷_, _++_, map}
 use lib.ListN.{length}
 use borrow.Author.Tests.{lt-leb, eq-eqb}
+use Rattle.definitions.specs.Limits.{atomCount}
 use Rattle.definitions.specs.Bounded.{pick, orElse}
 use Rattle.definitions.specs.Nodes.{Kind, True, Atom, Not, Or, Next, Until, Prev, Since, Run, End, Unknown, Node, node, nodeWord, operandSpan}
 use Rattle.definitions.specs.Tables.{nodeRefusal, nodesRefusal}
 use Rattle.definitions.specs.Rewriting.{Emit, emitted, emit}
-use Rattle.theorems.proofs.NodeWords.{node-word, Held, AllHeld}
+use Rattle.theorems.proofs.NodeWords.{node-of-word, AllHeld}
 
 -- a node of the judge's table, i nodes before it
 abbrev pub TableNode : ℕ → Kind → ℕ → ℕ → Type 0
 TableNode i True a b = (a ≡ 0) × (b ≡ 0)
-TableNode i Atom a b = (a < 32) × (b ≡ 0)
+TableNode i Atom a b = (a < atomCount) × (b ≡ 0)
 TableNode i Not a b = (a < i) × (b ≡ 0)
 TableNode i Or a b = (a < i) × (b < i)
 TableNode i Next a b = (a < i) × (b ≡ 0)
@@ -46,7 +47,7 @@ emit-nodes T es t u = nodes-append 0 T (emitted (length T - 1) (length T) es) t 
 node-accepted : (i : ℕ) (k : Kind) (a b : ℕ) → TableNode i k a b → nodeRefusal true i (node k a b) ≡ 0
 unfolding nodeRefusal pick
 node-accepted i True a b t = rw (eq-eqb a 0 (t .0), eq-eqb b 0 (t .1))
-node-accepted i Atom a b t = rw (lt-leb 32 a (t .0), eq-eqb b 0 (t .1))
+node-accepted i Atom a b t = rw (lt-leb atomCount a (t .0), eq-eqb b 0 (t .1))
 node-accepted i Not a b t = rw (eq-eqb b 0 (t .1), lt-leb i a (t .0))
 node-accepted i Or a b t = rw (lt-leb i a (t .0), lt-leb i b (t .1))
 node-accepted i Next a b t = rw (eq-eqb b 0 (t .1), lt-leb i a (t .0))
@@ -57,26 +58,26 @@ node-accepted i Run a b t = rw (eq-eqb a 0 (t .0), eq-eqb b 0 (t .1))
 node-accepted i End a b t = rw (eq-eqb a 0 (t .0), eq-eqb b 0 (t .1))
 node-accepted i Unknown a b t = absurd t
 
-node-held : (i : ℕ) (k : Kind) (a b : ℕ) → i ≤ operandSpan → TableNode i k a b → Held (node k a b)
-node-held i True a b l t = record { known = refl; low = omega arith }
-node-held i Atom a b l t = record { known = refl; low = omega arith }
-node-held i Not a b l t = record { known = refl; low = omega arith }
-node-held i Or a b l t = record { known = refl; low = omega arith }
-node-held i Next a b l t = record { known = refl; low = omega arith }
-node-held i Until a b l t = record { known = refl; low = omega arith }
-node-held i Prev a b l t = record { known = refl; low = omega arith }
-node-held i Since a b l t = record { known = refl; low = omega arith }
-node-held i Run a b l t = record { known = refl; low = omega arith }
-node-held i End a b l t = record { known = refl; low = omega arith }
-node-held i Unknown a b l t = absurd t
+first-held : (i : ℕ) (k : Kind) (a b : ℕ) → i ≤ operandSpan → TableNode i k a b → a < operandSpan
+first-held i True a b l t = omega arith
+first-held i Atom a b l t = omega arith
+first-held i Not a b l t = omega arith
+first-held i Or a b l t = omega arith
+first-held i Next a b l t = omega arith
+first-held i Until a b l t = omega arith
+first-held i Prev a b l t = omega arith
+first-held i Since a b l t = omega arith
+first-held i Run a b l t = omega arith
+first-held i End a b l t = omega arith
+first-held i Unknown a b l t = absurd t
 
 pub nodes-held : (i : ℕ) (T : List Node) → i + length T ≤ operandSpan → TableNodes i T → AllHeld T
 nodes-held i [] l t = tt
-nodes-held i (n ∷ T) l t = (node-held i (n .kind) (n .first) (n .second) (omega arith) (t .0), nodes-held (suc i) T (omega arith) (t .1))
+nodes-held i (n ∷ T) l t = (first-held i (n .kind) (n .first) (n .second) (omega arith) (t .0), nodes-held (suc i) T (omega arith) (t .1))
 
 pub nodes-accepted : (i : ℕ) (T : List Node) (more : List ℕ) → AllHeld T → TableNodes i T → nodesRefusal true i (length T) (map nodeWord T ++ more) ≡ 0
 unfolding nodesRefusal orElse pick
 nodes-accepted i [] more h t = refl
 nodes-accepted i (n ∷ T) more h t =
-    rw (node-word (n .kind) (n .first) (n .second) (h .0 .known) (h .0 .low), node-accepted i (n .kind) (n .first) (n .second) (t .0), add-one i)
+    rw (node-of-word n (h .0), node-accepted i (n .kind) (n .first) (n .second) (t .0), add-one i)
     (nodes-accepted (suc i) T more (h .1) (t .1))

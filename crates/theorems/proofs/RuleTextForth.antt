@@ -1,0 +1,170 @@
+-- The text that is written of an accepted rule reads as that rule, and it is short.
+use mathlib.Core.Path.{_≡_, refl, ap, _∙_}
+use Prim.Native.Nat.{ℕ, zero, suc, _+_, _*_, _<_, _≤_}
+use mathlib.Core.Bool.{true, false}
+use mathlib.Core.List.{List, [], _∷_, _++_}
+use lib.ListN.{length, take, length-append}
+use native.Mathlib.Omega.{arith}
+use lib.Dec.{eqb, leb}
+use borrow.Author.Tests.{eq-eqb, ne-eqb, leb-true}
+use Rattle.definitions.specs.Limits.{ruleForm, ruleLines, maxRuleNodes}
+use Rattle.definitions.specs.Bounded.{pick}
+use Rattle.definitions.specs.Nodes.{Kind, Node, node, operands, nodeOf}
+use Rattle.definitions.specs.Tables.{isUnknown, unusedSet, nodeRefusal, nodesRefusal, ruleHeadingRefusal}
+use Rattle.definitions.specs.Lines.{tab, newline, lineOf, fieldOf, formed, malformed, onParsed, decimal, Heading, twoFields, digits, more}
+use Rattle.definitions.specs.RuleText.{ruleWord, kindWord, operandsForm, nodeForm, nodeLineRefusal, scanNodes, ruleHeading, ruleHeadingLineRefusal, ruleNodes, scanRule, nodeText, nodesText}
+use Rattle.theorems.proofs.Choice.{or-else-none}
+use Rattle.theorems.proofs.SplitLaws.{Without, without-cons, without-append, split-front, split-rest, split-found, all-front, without-whole}
+use Rattle.theorems.proofs.DecimalLaws.{digits-without, printed-reads, two-digits}
+use Rattle.theorems.proofs.NodeWords.{by-kind, word-of-node}
+use Rattle.theorems.proofs.WordLaws.{known-not, word-kind, kind-word-without, rule-word-without}
+use Rattle.theorems.proofs.NodeLaws.{accepted-node, first-unused, second-unused, first-below, second-below}
+use Rattle.theorems.proofs.FieldLaws.{two-fields-forth, worded-forth, next-forth}
+use Rattle.theorems.proofs.RuleTextSteps.{by-operands, nodes-step, rule-step, headingText}
+
+-- the line of a known kind, by how many operands it uses
+module _ (k : Kind) (known : isUnknown k ≡ false) where
+  of-kind : (s : List ℕ) → fieldOf s ≡ kindWord k → nodeForm s ≡ operandsForm k s
+  unfolding nodeForm pick
+  of-kind s e = rw (e, word-kind k, known-not k, known)
+
+  none-forth : operands k ≡ 0 → nodeForm (kindWord k) ≡ formed (node k 0 0)
+  unfolding operandsForm pick
+  none-forth z =
+      let w = without-whole tab (kindWord k) (kind-word-without tab k (omega arith)) in
+      of-kind (kindWord k) (all-front tab (kindWord k) w) ∙ rw (eq-eqb (operands k) 0 z, w)
+
+  module _ (z : operands k ≡ 0 → ⊥) where
+    some-forth : (t : List ℕ) → nodeForm (kindWord k ++ (tab ∷ t))
+        ≡ pick (eqb (operands k) 1) (onParsed (decimal t) malformed (λ a. formed (node k a 0))) (twoFields decimal decimal (node k) t)
+    unfolding operandsForm pick
+    some-forth t =
+        let w = kind-word-without tab k (omega arith) in
+        of-kind (kindWord k ++ (tab ∷ t)) (split-front tab t (kindWord k) w)
+        ∙ rw (ne-eqb (operands k) 0 z, split-found tab t (kindWord k) w, split-rest tab t (kindWord k) w)
+
+    one-forth : (a : ℕ) → operands k ≡ 1 → nodeForm (kindWord k ++ (tab ∷ digits a)) ≡ formed (node k a 0)
+    unfolding pick onParsed
+    one-forth a y = some-forth (digits a) ∙ rw (eq-eqb (operands k) 1 y, printed-reads a)
+
+    two-forth : (a b : ℕ) → (operands k ≡ 1 → ⊥) → nodeForm (kindWord k ++ (tab ∷ (digits a ++ (tab ∷ digits b)))) ≡ formed (node k a b)
+    unfolding pick
+    two-forth a b y = some-forth (digits a ++ (tab ∷ digits b)) ∙ rw (ne-eqb (operands k) 1 y) (two-fields-forth (node k) a b)
+
+same-node : (k : Kind) (a b c d : ℕ) → c ≡ a → d ≡ b → formed (node k a b) ≡ formed (node k c d)
+same-node k a b c d p q = rw (p, q)
+
+-- a node's text reads as that node
+node-forth : (n : Node) → isUnknown (n .kind) ≡ false → unusedSet n ≡ false → nodeForm (nodeText n) ≡ formed n
+node-forth n h u =
+    let k = n .kind in
+    by-operands (λ t. nodeForm t ≡ formed n) n
+    (λ z. none-forth k h z ∙ same-node k 0 0 (n .first) (n .second) (first-unused n u z) (second-unused n u (omega arith)))
+    (λ z y. one-forth k h z (n .first) y ∙ same-node k (n .first) 0 (n .first) (n .second) refl (second-unused n u (omega arith)))
+    (λ z y. two-forth k h z (n .first) (n .second) y)
+
+-- no line has a byte 10
+tab-without : (t : List ℕ) → Without newline t → Without newline (tab ∷ t)
+tab-without t h = without-cons newline tab t (λ q. omega arith) h
+
+fields-without : (word : List ℕ) (a b : ℕ) → Without newline word → Without newline (word ++ (tab ∷ (digits a ++ (tab ∷ digits b))))
+fields-without word a b w =
+    without-append newline word (tab ∷ (digits a ++ (tab ∷ digits b))) w
+    (tab-without (digits a ++ (tab ∷ digits b)) (without-append newline (digits a) (tab ∷ digits b) (digits-without newline a (omega arith))
+    (tab-without (digits b) (digits-without newline b (omega arith)))))
+
+node-without : (n : Node) → Without newline (nodeText n)
+node-without n =
+    let w = kind-word-without newline (n .kind) (omega arith) in
+    let a = tab-without (digits (n .first)) (digits-without newline (n .first) (omega arith)) in
+    by-operands (λ t. Without newline t) n
+    (λ z. w)
+    (λ z y. without-append newline (kindWord (n .kind)) (tab ∷ digits (n .first)) w a)
+    (λ z y. fields-without (kindWord (n .kind)) (n .first) (n .second) w)
+
+-- a line that reads as an accepted node is accepted
+line-accepted : (i : ℕ) (s : List ℕ) (n : Node) → nodeForm s ≡ formed n → nodeRefusal false i n ≡ 0 → nodeLineRefusal i s ≡ 0
+unfolding nodeLineRefusal onParsed
+line-accepted i s n e h = rw e h
+
+-- the line of an accepted node is read as its word, and then the rest
+node-read : (left i w : ℕ) (rest : List ℕ) → nodeRefusal false i (nodeOf w) ≡ 0
+    → scanNodes (suc left) i (nodeText (nodeOf w) ++ (newline ∷ rest)) ≡ more w (scanNodes left (i + 1) rest)
+node-read left i w rest e =
+    let n = nodeOf w in
+    let t = nodeText n ++ (newline ∷ rest) in
+    let g = accepted-node i n e in
+    let c = node-without n in
+    let f : nodeForm (lineOf t) ≡ formed n = ap nodeForm (split-front newline rest (nodeText n) c) ∙ node-forth n (g .known) (g .unused) in
+    let z = next-forth ruleLines ruleForm (nodeLineRefusal i (lineOf t)) (nodeText n) rest c ∙ line-accepted i (lineOf t) n f e in
+    nodes-step left i t n z f ∙ rw (word-of-node w (g .known), split-rest newline rest (nodeText n) c)
+
+-- the lines of accepted nodes read as their words, as many as the count
+pub nodes-forth : (left i : ℕ) (ws : List ℕ) → nodesRefusal false i left ws ≡ 0
+    → scanNodes left i (nodesText (take left ws)) ≡ record { number = 0; words = take left ws; rest = [] }
+unfolding nodesRefusal nodesText scanNodes pick
+nodes-forth zero i ws e = refl
+nodes-forth (suc left) i [] e = absurd (omega arith)
+nodes-forth (suc left) i (w ∷ ws) e =
+    let p = or-else-none (nodeRefusal false i (nodeOf w)) (nodesRefusal false (i + 1) left ws) e in
+    node-read left i w (nodesText (take left ws)) (p .0) ∙ ap (more w) (nodes-forth left (i + 1) ws (p .1))
+
+-- a first line reads as its controller and count
+heading-forth : (c n : ℕ) → ruleHeading (headingText c n) ≡ formed (record { first = c; second = n })
+unfolding ruleHeading headingText
+heading-forth c n =
+    worded-forth ruleWord _ (digits c ++ (tab ∷ digits n)) (rule-word-without tab (omega arith)) ∙ two-fields-forth _ c n
+
+heading-without : (c n : ℕ) → Without newline (headingText c n)
+unfolding headingText
+heading-without c n = fields-without ruleWord c n (rule-word-without newline (omega arith))
+
+-- a line that reads as an accepted heading is accepted
+heading-accepted : (s : List ℕ) (h : Heading) → ruleHeading s ≡ formed h → ruleHeadingRefusal (h .first) (h .second) ≡ 0 → ruleHeadingLineRefusal s ≡ 0
+unfolding ruleHeadingLineRefusal onParsed
+heading-accepted s h e z = rw e z
+
+-- the first line of an accepted rule is read, and then its nodes
+pub heading-read : (c n : ℕ) (rest : List ℕ) → ruleHeadingRefusal c n ≡ 0
+    → scanRule (headingText c n ++ (newline ∷ rest)) ≡ ruleNodes rest (record { first = c; second = n })
+heading-read c n rest e =
+    let line = headingText c n in
+    let h : Heading = record { first = c; second = n } in
+    let t = line ++ (newline ∷ rest) in
+    let w = heading-without c n in
+    let f : ruleHeading (lineOf t) ≡ formed h = ap ruleHeading (split-front newline rest line w) ∙ heading-forth c n in
+    let z = next-forth ruleLines ruleForm (ruleHeadingLineRefusal (lineOf t)) line rest w ∙ heading-accepted (lineOf t) h f e in
+    rule-step t h z f ∙ ap (λ (l : List ℕ). ruleNodes l h) (split-rest newline rest line w)
+
+-- a line is at most eleven bytes and byte 10
+short-word : (k : Kind) → leb (length (kindWord k)) 5 ≡ true
+short-word = by-kind (λ k. leb (length (kindWord k)) 5 ≡ true) refl refl refl refl refl refl refl refl refl refl refl
+
+fields-length : (word : List ℕ) (a b : ℕ) → a < 100 → b < 100 → length (word ++ (tab ∷ (digits a ++ (tab ∷ digits b)))) ≤ length word + 6
+fields-length word a b h k =
+    omega (arith, two-digits a h, two-digits b k, length-append word (tab ∷ (digits a ++ (tab ∷ digits b))), length-append (digits a) (tab ∷ digits b))
+
+node-length : (n : Node) → n .first < 100 → n .second < 100 → length (nodeText n) ≤ 11
+node-length n h k =
+    let w = leb-true (length (kindWord (n .kind))) 5 (short-word (n .kind)) in
+    by-operands (λ t. length t ≤ 11) n
+    (λ z. omega arith)
+    (λ z y. omega (arith, two-digits (n .first) h, length-append (kindWord (n .kind)) (tab ∷ digits (n .first))))
+    (λ z y. omega (arith, fields-length (kindWord (n .kind)) (n .first) (n .second) h k))
+
+pub nodes-length : (left i : ℕ) (ws : List ℕ) → i + left ≤ maxRuleNodes → nodesRefusal false i left ws ≡ 0 → length (nodesText (take left ws)) ≤ left * 12
+unfolding nodesRefusal nodesText
+nodes-length zero i ws h e = omega arith
+nodes-length (suc left) i [] h e = absurd (omega arith)
+nodes-length (suc left) i (w ∷ ws) h e =
+    let p = or-else-none (nodeRefusal false i (nodeOf w)) (nodesRefusal false (i + 1) left ws) e in
+    let g = accepted-node i (nodeOf w) (p .0) in
+    let a = first-below i (nodeOf w) g (omega arith) in
+    let b = second-below i (nodeOf w) g (omega arith) in
+    let s = node-length (nodeOf w) (omega arith) (omega arith) in
+    let r = nodes-length left (i + 1) ws (omega arith) (p .1) in
+    omega (arith, length-append (nodeText (nodeOf w)) (newline ∷ nodesText (take left ws)))
+
+pub heading-length : (c n : ℕ) → c < 100 → n < 100 → length (headingText c n) ≤ 10
+unfolding headingText
+heading-length c n h k = fields-length ruleWord c n h k
