@@ -14,7 +14,7 @@ use Rattle.theorems.proofs.Choice.{by-test, both-true, pick-true, pick-
 use Rattle.theorems.proofs.Inversions.{never-formed, formed-same}
 use Rattle.theorems.proofs.SplitLaws.{Without, without-one, without-append}
 
-tenth-below : (n f : ℕ) → 10 ≤ n → n ≤ suc f → n / 10 ≤ f
+pub tenth-below : (n f : ℕ) → 10 ≤ n → n ≤ suc f → n / 10 ≤ f
 tenth-below n f h l = omega (arith, div-lt-self {n = n} {k = 10} (omega arith) (omega arith))
 
 -- more room than digits changes nothing
@@ -28,12 +28,12 @@ digits-by (suc f) (suc g) n p q =
     (λ e. rw e)
     (λ e. let l = ltb-false n 10 e in rw (e, digits-by f g (n / 10) (tenth-below n f l p) (tenth-below n g l q)))
 
-digits-small : (n : ℕ) → n < 10 → digits n ≡ (48 + n) ∷ []
+pub digits-small : (n : ℕ) → n < 10 → digits n ≡ (48 + n) ∷ []
 unfolding digits digitsBy pick
 digits-small zero h = refl
 digits-small (suc m) h = rw (lt-ltb (suc m) 10 h)
 
-digits-step : (n : ℕ) → 10 ≤ n → digits n ≡ digits (n / 10) ++ ((48 + n % 10) ∷ [])
+pub digits-step : (n : ℕ) → 10 ≤ n → digits n ≡ digits (n / 10) ++ ((48 + n % 10) ∷ [])
 unfolding digits digitsBy pick
 digits-step zero h = absurd (omega arith)
 digits-step (suc m) h =

@@ -1,0 +1,6 @@
+pub mod ScanLaws
+pub mod PartLaws
+pub mod FieldLaws
+pub mod HexLaws
+pub mod PrintLaws
+pub mod Links
