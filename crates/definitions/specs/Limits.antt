@@ -29,6 +29,7 @@ wordMarks = 64
 abbrev pub pairWords : ℕ
 pairWords = 6
 
+-- "1,024 row pairs" in words
 abbrev pub maxRowWords : ℕ
 maxRowWords = maxTableNodes * pairWords
 

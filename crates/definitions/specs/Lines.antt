@@ -34,6 +34,7 @@ unfoldable pub before : ℕ → List ℕ → ℕ
 before b [] = 0
 before b (x ∷ t) = cond (eqb x b) 0 (suc (before b t))
 
+-- nothing is left of a text
 abbrev pub isEmpty : List ℕ → Bool
 isEmpty t = eqb (length t) 0
 
@@ -53,6 +54,7 @@ restOf t = drop (before newline t + 1) t
 abbrev pub hasTab : List ℕ → Bool
 hasTab s = ltb (before tab s) (length s)
 
+-- the first field: all of the line where no tab follows
 abbrev pub fieldOf : List ℕ → List ℕ
 fieldOf s = take (before tab s) s
 
@@ -65,6 +67,7 @@ pub data Parsed (A : Type 0) : Type 0 where
   formed : A → Parsed A
   malformed : Parsed A
 
+-- by the cases of what was read
 unfoldable pub onParsed : {A B : Type 0} → Parsed A → B → (A → B) → B
 onParsed (formed a) other f = f a
 onParsed malformed other f = other
@@ -83,6 +86,7 @@ decimal (x ∷ t) = pick (eqb x 48 && not (isEmpty t)) malformed (decimalOn 0 (x
 unfoldable pub hexDigit : ℕ → ℕ
 hexDigit x = pick (within 48 57 x) (x - 48) (pick (within 97 102 x) (x - 87) 16)
 
+-- hexadecimal digits, and what follows those of v
 unfoldable pub hexOn : ℕ → List ℕ → Parsed ℕ
 hexOn v [] = formed v
 hexOn v (x ∷ t) = pick (ltb (hexDigit x) 16) (hexOn (v * 16 + hexDigit x) t) malformed
@@ -124,6 +128,7 @@ unfoldable pub digitsBy : ℕ → ℕ → List ℕ
 digitsBy zero n = (48 + n) ∷ []
 digitsBy (suc more) n = pick (ltb n 10) ((48 + n) ∷ []) (digitsBy more (n / 10) ++ ((48 + n % 10) ∷ []))
 
+-- "Numbers are printed highest digit first"
 unfoldable pub digits : ℕ → List ℕ
 digits n = digitsBy n n
 
@@ -137,8 +142,10 @@ pub record Scan : Type 0 where
   pub words : List ℕ
   pub rest : List ℕ
 
+-- a reader that stops, with its refusal or with 0
 abbrev pub stop : ℕ → List ℕ → Scan
 stop number t = record { number = number; words = []; rest = t }
 
+-- one word more in front of what the rest of the lines gave
 abbrev pub more : ℕ → Scan → Scan
 more w s = record { number = s .number; words = w ∷ s .words; rest = s .rest }

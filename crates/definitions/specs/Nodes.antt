@@ -41,6 +41,7 @@ pub record Node : Type 0 where
   pub first : ℕ
   pub second : ℕ
 
+-- a node of a kind with its operands
 abbrev pub node : Kind → ℕ → ℕ → Node
 node k a b = record { kind = k; first = a; second = b }
 
@@ -62,9 +63,11 @@ operands Unknown = 0
 abbrev pub kindSpan : ℕ
 kindSpan = 256
 
+-- an operand is below 4,096, above every number in a table of 1,024 nodes
 abbrev pub operandSpan : ℕ
 operandSpan = 4096
 
+-- the word of a node
 abbrev pub nodeWord : Node → ℕ
 nodeWord n = kindNumber (n .kind) + n .first * kindSpan + n .second * (kindSpan * operandSpan)
 

@@ -39,9 +39,11 @@ left number full content entry =
 unfoldable pub readRuleNumber : List ℕ → List ℕ → ℕ
 readRuleNumber text nodes = pick (tooShort maxRuleNodes nodes) lentShort ((scanRule text) .number)
 
+-- its answer: controller and count
 unfoldable pub readRuleAnswer : List ℕ → List ℕ → Answer
 readRuleAnswer text nodes = answer (readRuleNumber text nodes) ((scanRule text) .controller ∷ (scanRule text) .count ∷ [])
 
+-- its lent nodes
 unfoldable pub readRuleNodes : List ℕ → List ℕ → List ℕ
 readRuleNodes text nodes = left (readRuleNumber text nodes) maxRuleNodes ((scanRule text) .words) nodes
 
@@ -49,12 +51,15 @@ readRuleNodes text nodes = left (readRuleNumber text nodes) maxRuleNodes ((scanR
 abbrev pub textOf : Rule → List ℕ
 textOf r = ruleText (r .controller) (r .count) (take (r .count) (r .nodes))
 
+-- its refusal: 13, then the rule
 unfoldable pub writeRuleNumber : Rule → List ℕ → ℕ
 writeRuleNumber r text = pick (tooShort maxRuleBytes text) lentShort (ruleRefusal r)
 
+-- its answer: the length
 unfoldable pub writeRuleAnswer : Rule → List ℕ → Answer
 writeRuleAnswer r text = answer (writeRuleNumber r text) (length (textOf r) ∷ [])
 
+-- its lent text
 unfoldable pub writeRuleText : Rule → List ℕ → List ℕ
 writeRuleText r text = left (writeRuleNumber r text) maxRuleBytes (textOf r) text
 
@@ -63,13 +68,16 @@ unfoldable pub readRecordingNumber : List ℕ → List ℕ → List ℕ → ℕ
 readRecordingNumber text masks states =
     pick (tooShort maxControllers masks || tooShort maxStates states) lentShort ((scanRecording text) .number)
 
+-- its answer: C and N
 unfoldable pub readRecordingAnswer : List ℕ → List ℕ → List ℕ → Answer
 readRecordingAnswer text masks states =
     answer (readRecordingNumber text masks states) ((scanRecording text) .controllers ∷ (scanRecording text) .count ∷ [])
 
+-- its lent masks
 unfoldable pub readRecordingMasks : List ℕ → List ℕ → List ℕ → List ℕ
 readRecordingMasks text masks states = left (readRecordingNumber text masks states) maxControllers ((scanRecording text) .masks) masks
 
+-- its lent states
 unfoldable pub readRecordingStates : List ℕ → List ℕ → List ℕ → List ℕ
 readRecordingStates text masks states = left (readRecordingNumber text masks states) maxStates ((scanRecording text) .states) states
 
@@ -86,18 +94,22 @@ readJointHeading rule recording nodes masks states =
     ((scanRule rule) .controller ∷ (scanRule rule) .count ∷ (scanRecording recording) .controllers ∷ (scanRecording recording) .count ∷ [])
     (0 ∷ 0 ∷ 0 ∷ 0 ∷ [])
 
+-- its lent nodes
 unfoldable pub readJointNodes : List ℕ → List ℕ → List ℕ → List ℕ → List ℕ → List ℕ
 readJointNodes rule recording nodes masks states =
     left (readJointNumber rule recording nodes masks states) maxRuleNodes ((scanRule rule) .words) nodes
 
+-- its lent masks
 unfoldable pub readJointMasks : List ℕ → List ℕ → List ℕ → List ℕ → List ℕ → List ℕ
 readJointMasks rule recording nodes masks states =
     left (readJointNumber rule recording nodes masks states) maxControllers ((scanRecording recording) .masks) masks
 
+-- its lent states
 unfoldable pub readJointStates : List ℕ → List ℕ → List ℕ → List ℕ → List ℕ → List ℕ
 readJointStates rule recording nodes masks states =
     left (readJointNumber rule recording nodes masks states) maxStates ((scanRecording recording) .states) states
 
+-- "hands back the refused line itself": "for 13 the empty start of the rule text"
 unfoldable pub readJointPart : List ℕ → List ℕ → List ℕ → List ℕ → List ℕ → Part
 readJointPart rule recording nodes masks states =
     pick (eqb (readJointNumber rule recording nodes masks states) lentShort) emptyStart (jointPart rule recording)
@@ -110,9 +122,11 @@ controllerRefusal R c = pick (ltb c (R .controllers)) accepted noController
 unfoldable pub projectNumber : Recording → ℕ → List ℕ → ℕ
 projectNumber R c places = pick (tooShort maxStates places) lentShort (orElse (recordingRefusal R) (controllerRefusal R c))
 
+-- its answer: L
 unfoldable pub projectAnswer : Recording → ℕ → List ℕ → Answer
 projectAnswer R c places = answer (projectNumber R c places) (length (localTrace R c) ∷ [])
 
+-- its lent places
 unfoldable pub projectPlaces : Recording → ℕ → List ℕ → List ℕ
 projectPlaces R c places = left (projectNumber R c places) maxStates (localTrace R c) places
 
@@ -124,9 +138,11 @@ verdicts t ns weakTop strongTop = bit (verdict t ns weakTop true) ∷ bit (verdi
 unfoldable pub judgeLocalNumber : Rule → Recording → ℕ
 judgeLocalNumber r R = orElse (ruleRefusal r) (orElse (recordingRefusal R) (controllerRefusal R (r .controller)))
 
+-- the verdicts of a rule on a local trace
 abbrev pub localVerdicts : List Node → ℕ → List ℕ → List ℕ
 localVerdicts ns mask places = verdicts (local mask places) ns (length ns - 1) (length ns - 1)
 
+-- its answer: the weak and the strong verdict
 unfoldable pub judgeLocalAnswer : Rule → Recording → Answer
 judgeLocalAnswer r R =
     answer (judgeLocalNumber r R)
@@ -140,15 +156,18 @@ rewrittenOf short r mask = rewriting short mask (nodesIn (r .count) (r .nodes))
 unfoldable pub sizeRefusal : Rewritten → ℕ
 sizeRefusal w = pick (ltb maxTableNodes (length (w .nodes))) tooManyNodes accepted
 
+-- its refusal: 13, then the rule, then 12
 unfoldable pub rewriteNumber : Bool → Rule → ℕ → List ℕ → ℕ
 rewriteNumber short r mask table =
     pick (tooShort maxTableNodes table) lentShort (orElse (ruleRefusal r) (sizeRefusal (rewrittenOf short r mask)))
 
+-- its answer: "node count and both tops"
 unfoldable pub rewriteAnswer : Bool → Rule → ℕ → List ℕ → Answer
 rewriteAnswer short r mask table =
     answer (rewriteNumber short r mask table)
     (length ((rewrittenOf short r mask) .nodes) ∷ (rewrittenOf short r mask) .weakTop ∷ (rewrittenOf short r mask) .strongTop ∷ [])
 
+-- its lent table
 unfoldable pub rewriteTable : Bool → Rule → ℕ → List ℕ → List ℕ
 rewriteTable short r mask table =
     left (rewriteNumber short r mask table) maxTableNodes (map nodeWord ((rewrittenOf short r mask) .nodes)) table
@@ -167,10 +186,12 @@ unfoldable pub judgeRecordingNumber : Table → Recording → ℕ → List ℕ �
 judgeRecordingNumber t R c rows =
     pick (tooShort maxRowWords rows) lentShort (orElse (tableRefusal t) (orElse (recordingRefusal R) (controllerRefusal R c)))
 
+-- its answer: the weak and the strong verdict
 unfoldable pub judgeRecordingAnswer : Table → Recording → ℕ → List ℕ → Answer
 judgeRecordingAnswer t R c rows =
     answer (judgeRecordingNumber t R c rows) (verdicts (whole R c) (nodesIn (t .count) (t .nodes)) (t .weakTop) (t .strongTop))
 
+-- its lent rows
 unfoldable pub judgeRecordingRows : Table → Recording → ℕ → List ℕ → List ℕ
 judgeRecordingRows t R c rows =
     left (judgeRecordingNumber t R c rows) maxRowWords (pairsWords (rowsOf (whole R c) (nodesIn (t .count) (t .nodes)))) rows

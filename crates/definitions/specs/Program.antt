@@ -17,6 +17,7 @@ use Rattle.definitions.specs.RuleText.{RuleScan, scanRule}
 use Rattle.definitions.specs.RecordingText.{RecordingScan, scanRecording, Part, jointNumber, jointPart}
 use Rattle.definitions.specs.Operations.{sizeRefusal}
 
+-- "a line `-`"
 abbrev pub splitLine : List ℕ
 splitLine = bytes "-"
 
@@ -31,12 +32,15 @@ unfoldable pub afterSplit : ℕ → List ℕ → List ℕ
 afterSplit zero t = []
 afterSplit (suc lines) t = pick (isClosed t) (pick (same (lineOf t) splitLine) (restOf t) (afterSplit lines (restOf t))) []
 
+-- the rule text of the input
 abbrev pub ruleIn : List ℕ → List ℕ
 ruleIn input = take (ruleLength (length input) input) input
 
+-- the recording text of the input
 abbrev pub recordingIn : List ℕ → List ℕ
 recordingIn input = afterSplit (length input) input
 
+-- the words that it prints
 abbrev pub refusedWord : List ℕ
 refusedWord = bytes "refused"
 
@@ -52,6 +56,7 @@ plainWord = bytes "plain"
 abbrev pub shortWord : List ℕ
 shortWord = bytes "short"
 
+-- a verdict, printed
 abbrev pub yesNo : Bool → List ℕ
 yesNo true = bytes "yes"
 yesNo false = bytes "no"
@@ -89,9 +94,11 @@ judgedText c ns R =
     ++ (rewrittenText plainWord (whole R c) (rewriting false (maskOf R c) ns) ++ rewrittenText shortWord (whole R c) (rewriting true (maskOf R c) ns))))
     (refusedText tooManyNodes [])
 
+-- the recording that was read
 abbrev pub scanned : RecordingScan → Recording
 scanned s = record { controllers = s .controllers; count = s .count; masks = s .masks; states = s .states }
 
+-- what is printed of the two texts
 unfoldable pub textsOutput : List ℕ → List ℕ → List ℕ
 textsOutput rule recording =
     pick (eqb (jointNumber rule recording) accepted)

@@ -70,9 +70,11 @@ pub record Rows : Type 0 where
   pub weak : List Bool
   pub strong : List Bool
 
+-- the rows of a node that is not there
 abbrev pub noRows : Rows
 noRows = record { weak = []; strong = [] }
 
+-- the row of one reading
 abbrev pub rowOf : Bool → Rows → List Bool
 rowOf true r = r .weak
 rowOf false r = r .strong
@@ -93,6 +95,7 @@ abbrev pub rowsAfter : Trace → List Rows → List Node → List Rows
 rowsAfter t rs [] = rs
 rowsAfter t rs (n ∷ ns) = rowsAfter t (rs ++ (nodeRows t rs n ∷ [])) ns
 
+-- the rows of a table over a trace
 unfoldable pub rowsOf : Trace → List Node → List Rows
 rowsOf t ns = rowsAfter t [] ns
 
@@ -106,6 +109,7 @@ abbrev pub marksWord : List Bool → ℕ
 marksWord [] = 0
 marksWord (m ∷ ms) = marksWord ms * 2 + bit m
 
+-- a row in lent space: its two words and its count
 abbrev pub rowWords : List Bool → List ℕ
 rowWords ms = marksWord (take wordMarks ms) ∷ marksWord (drop wordMarks ms) ∷ length ms ∷ []
 

@@ -10,6 +10,7 @@ use Rattle.definitions.specs.Recordings.{stateOf, stateRefusal, maskRefu
 use Rattle.definitions.specs.Lines.{bytes, newline, before, isEmpty, lineOf, restOf, Parsed, formed, malformed, onParsed, decimal, hexadecimal, Heading, twoFields, worded, nextRefusal, Scan, stop, more}
 use Rattle.definitions.specs.RuleText.{RuleScan, scanRule}
 
+-- the words that open its lines
 abbrev pub recordingWord : List ℕ
 recordingWord = bytes "recording"
 
@@ -27,21 +28,27 @@ wordDigits = 8
 abbrev pub markDigits : ℕ → ℕ
 markDigits C = 2
 
+-- the first line: `recording`, C, N
 unfoldable pub recordingHeading : List ℕ → Parsed Heading
 recordingHeading s = worded recordingWord (twoFields decimal decimal (λ C N. record { first = C; second = N })) s
 
+-- "`owns`, mask"
 unfoldable pub maskForm : List ℕ → Parsed ℕ
 maskForm s = worded ownsWord (hexadecimal wordDigits) s
 
+-- "`at`, run marks, word"
 unfoldable pub stateForm : ℕ → List ℕ → Parsed ℕ
 stateForm C s = worded atWord (twoFields (hexadecimal (markDigits C)) (hexadecimal wordDigits) stateOf) s
 
+-- the refusal of the first line
 unfoldable pub recordingHeadingLineRefusal : List ℕ → ℕ
 recordingHeadingLineRefusal s = onParsed (recordingHeading s) recordingForm (λ h. recordingHeadingRefusal (h .first) (h .second))
 
+-- the refusal of an `owns` line
 unfoldable pub maskLineRefusal : List ℕ → List ℕ → ℕ
 maskLineRefusal earlier s = onParsed (maskForm s) recordingForm (maskRefusal earlier)
 
+-- the refusal of the `at` line of state k
 unfoldable pub stateLineRefusal : ℕ → ℕ → List ℕ → ℕ → ℕ → List ℕ → ℕ
 stateLineRefusal C N masks k prior s = onParsed (stateForm C s) recordingForm (stateRefusal C N masks k prior)
 
@@ -74,16 +81,20 @@ pub record RecordingScan : Type 0 where
   pub states : List ℕ
   pub rest : List ℕ
 
+-- a reading that stops at a line
 abbrev pub recordingStop : ℕ → List ℕ → RecordingScan
 recordingStop number t = record { number = number; controllers = 0; count = 0; masks = []; states = []; rest = t }
 
+-- what the `at` lines gave, after the masks
 abbrev pub recordingStates : ℕ → ℕ → List ℕ → Scan → RecordingScan
 recordingStates C N masks s = record { number = s .number; controllers = C; count = N; masks = masks; states = s .words; rest = s .rest }
 
+-- what the `owns` lines gave, and then the `at` lines
 abbrev pub recordingMasks : ℕ → ℕ → Scan → RecordingScan
 recordingMasks C N m =
     pick (eqb (m .number) accepted) (recordingStates C N (m .words) (scanStates C N (m .words) N 0 0 (m .rest))) (recordingStop (m .number) (m .rest))
 
+-- reading a recording text
 unfoldable pub scanRecording : List ℕ → RecordingScan
 scanRecording t =
     pick (eqb (nextRefusal recordingLines recordingForm t (recordingHeadingLineRefusal (lineOf t))) accepted)

@@ -19,9 +19,11 @@ pub record Recording : Type 0 where
 abbrev pub stateOf : ℕ → ℕ → ℕ
 stateOf marks word = marks * 2 ^ atomCount + word
 
+-- the word of atoms of a state
 abbrev pub atomsOf : ℕ → ℕ
 atomsOf s = s % 2 ^ atomCount
 
+-- the run marks of a state
 abbrev pub marksOf : ℕ → ℕ
 marksOf s = s / 2 ^ atomCount
 
@@ -33,15 +35,19 @@ marked c s = bitOf (marksOf s) c
 abbrev pub masksOf : Recording → List ℕ
 masksOf R = take (R .controllers) (R .masks)
 
+-- "entries past the count aren't read"
 abbrev pub statesOf : Recording → List ℕ
 statesOf R = take (R .count) (R .states)
 
+-- the mask of controller c
 abbrev pub maskOf : Recording → ℕ → ℕ
 maskOf R c = getD (masksOf R) c 0
 
+-- state k
 abbrev pub stateAt : Recording → ℕ → ℕ
 stateAt R k = getD (statesOf R) k 0
 
+-- the word of state k
 abbrev pub wordAt : Recording → ℕ → ℕ
 wordAt R k = atomsOf (stateAt R k)
 
@@ -66,12 +72,15 @@ stateRefusal C N masks k before s =
     (pick (ltb 0 k && outputBroken C masks before s) outputRule
     (pick (eqb (k + 1) N && not (eqb (marksOf s) 0)) lastMark accepted))
 
+-- "6 a number outside its limits": C and N
 unfoldable pub recordingHeadingRefusal : ℕ → ℕ → ℕ
 recordingHeadingRefusal C N = pick (within 1 maxControllers C && within 1 maxStates N) accepted recordingLimits
 
+-- "7 mask meets an earlier mask"
 unfoldable pub maskRefusal : List ℕ → ℕ → ℕ
 maskRefusal earlier m = pick (meets earlier m) masksMeet accepted
 
+-- the masks in order
 unfoldable pub masksRefusal : List ℕ → List ℕ → ℕ
 masksRefusal earlier [] = accepted
 masksRefusal earlier (m ∷ ms) = orElse (maskRefusal earlier m) (masksRefusal (m ∷ earlier) ms)
@@ -85,6 +94,7 @@ statesRefusal C N masks k before (s ∷ ss) = orElse (stateRefusal C N masks k b
 unfoldable pub recordingLinesRefusal : Recording → ℕ
 recordingLinesRefusal R = pick (ltb (length (R .masks)) (R .controllers) || ltb (length (R .states)) (R .count)) recordingLines accepted
 
+-- "Operations on tables check them by the same rows"
 unfoldable pub recordingRefusal : Recording → ℕ
 recordingRefusal R =
     orElse (recordingHeadingRefusal (R .controllers) (R .count))

@@ -17,15 +17,19 @@ pub record Emit : Type 0 where
   pub first : Operand
   pub second : Operand
 
+-- true, an atom, run or end
 abbrev pub leaf : Kind → ℕ → Emit
 leaf k a = record { kind = k; first = # a; second = # 0 }
 
+-- a kind of one operand
 abbrev pub one : Kind → Operand → Emit
 one k a = record { kind = k; first = a; second = # 0 }
 
+-- a kind of two operands
 abbrev pub two : Kind → Operand → Operand → Emit
 two k a b = record { kind = k; first = a; second = b }
 
+-- the number of an operand
 abbrev pub operand : ℕ → Operand → ℕ
 operand just (# a) = a
 operand just · = just
@@ -89,9 +93,11 @@ pub record Image : Type 0 where
   pub strong : ℕ
   pub tolerant : Bool
 
+-- the image of a node that is not there
 abbrev pub noImage : Image
 noImage = record { weak = 0; strong = 0; tolerant = false }
 
+-- the image of one reading
 abbrev pub imageOf : Bool → Image → ℕ
 imageOf true i = i .weak
 imageOf false i = i .strong
@@ -100,6 +106,7 @@ imageOf false i = i .strong
 abbrev pub image : Bool → List Image → ℕ → ℕ
 image weak is a = imageOf weak (getD is a noImage)
 
+-- node a is tolerant
 abbrev pub tolerantAt : List Image → ℕ → Bool
 tolerantAt is a = (getD is a noImage) .tolerant
 
@@ -150,6 +157,7 @@ step short mask D n =
           ++ (record { weak = length T - 1; strong = length U - 1; tolerant = tolerantOf mask (D .images) (n .kind) (n .first) (n .second) } ∷ []);
     }
 
+-- the rule's nodes in turn
 abbrev pub steps : Bool → ℕ → Draft → List Node → Draft
 steps short mask D [] = D
 steps short mask D (n ∷ ns) = steps short mask (step short mask D n) ns
@@ -183,6 +191,7 @@ rewriting short mask ns =
     let D = steps short mask (record { nodes = opening; images = [] }) ns in
     closed (short && (lastImage (D .images)) .tolerant) (D .nodes) (lastImage (D .images))
 
+-- the top of one reading
 abbrev pub topOf : Bool → Rewritten → ℕ
 topOf true r = r .weakTop
 topOf false r = r .strongTop

@@ -7,9 +7,10 @@ use lib.Dec.{eqb, ltb}
 use Rattle.definitions.specs.Limits.{accepted, ruleForm, ruleLines}
 use Rattle.definitions.specs.Bounded.{pick}
 use Rattle.definitions.specs.Nodes.{Kind, True, Atom, Not, Or, Next, Until, Prev, Since, Run, End, Unknown, Node, node, operands, nodeWord, nodeOf}
-use Rattle.definitions.specs.Tables.{nodeRefusal, ruleHeadingRefusal}
+use Rattle.definitions.specs.Tables.{isUnknown, nodeRefusal, ruleHeadingRefusal}
 use Rattle.definitions.specs.Lines.{bytes, tab, newline, carriageReturn, before, isEmpty, lineOf, restOf, hasTab, fieldOf, afterTab, Parsed, formed, malformed, onParsed, decimal, same, letters, Heading, twoFields, worded, digits, nextRefusal, Scan, stop, more}
 
+-- the word that opens its first line
 abbrev pub ruleWord : List ℕ
 ruleWord = bytes "rule"
 
@@ -56,22 +57,9 @@ operandsForm k s =
     (twoFields decimal decimal (node k) (afterTab s)))
     malformed)
 
-abbrev pub isKnown : Kind → Bool
-isKnown True = true
-isKnown Atom = true
-isKnown Not = true
-isKnown Or = true
-isKnown Next = true
-isKnown Until = true
-isKnown Prev = true
-isKnown Since = true
-isKnown Run = true
-isKnown End = true
-isKnown Unknown = false
-
 -- a node line
 unfoldable pub nodeForm : List ℕ → Parsed Node
-nodeForm s = pick (isKnown (wordKind (fieldOf s))) (operandsForm (wordKind (fieldOf s)) s) (unknownForm s)
+nodeForm s = pick (isUnknown (wordKind (fieldOf s))) (unknownForm s) (operandsForm (wordKind (fieldOf s)) s)
 
 -- the refusal of the line of node i
 unfoldable pub nodeLineRefusal : ℕ → List ℕ → ℕ
@@ -93,6 +81,7 @@ scanNodes (suc left) i t =
 unfoldable pub ruleHeading : List ℕ → Parsed Heading
 ruleHeading s = worded ruleWord (twoFields decimal decimal (λ c n. record { first = c; second = n })) s
 
+-- the refusal of the first line
 unfoldable pub ruleHeadingLineRefusal : List ℕ → ℕ
 ruleHeadingLineRefusal s = onParsed (ruleHeading s) ruleForm (λ h. ruleHeadingRefusal (h .first) (h .second))
 
@@ -104,9 +93,11 @@ pub record RuleScan : Type 0 where
   pub words : List ℕ
   pub rest : List ℕ
 
+-- a reading that stops at its first line
 abbrev pub ruleStop : ℕ → List ℕ → RuleScan
 ruleStop number t = record { number = number; controller = 0; count = 0; words = []; rest = t }
 
+-- what the node lines gave, after the heading
 abbrev pub ruleNodes : List ℕ → Heading → RuleScan
 ruleNodes t h = record {
   number = (scanNodes (h .second) 0 t) .number;
@@ -116,6 +107,7 @@ ruleNodes t h = record {
   rest = (scanNodes (h .second) 0 t) .rest;
 }
 
+-- reading a rule text
 unfoldable pub scanRule : List ℕ → RuleScan
 scanRule t =
     pick (eqb (nextRefusal ruleLines ruleForm t (ruleHeadingLineRefusal (lineOf t))) accepted)
@@ -129,6 +121,7 @@ nodeText n =
     (pick (eqb (operands (n .kind)) 1) (kindWord (n .kind) ++ (tab ∷ digits (n .first)))
     (kindWord (n .kind) ++ (tab ∷ (digits (n .first) ++ (tab ∷ digits (n .second))))))
 
+-- the node lines
 unfoldable pub nodesText : List ℕ → List ℕ
 nodesText [] = []
 nodesText (w ∷ ws) = nodeText (nodeOf w) ++ (newline ∷ nodesText ws)

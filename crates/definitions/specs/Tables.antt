@@ -21,6 +21,7 @@ pub record Table : Type 0 where
   pub weakTop : ℕ
   pub strongTop : ℕ
 
+-- "an unknown kind"
 abbrev pub isUnknown : Kind → Bool
 isUnknown True = false
 isUnknown Atom = false
@@ -48,6 +49,7 @@ isRewritten Run = true
 isRewritten End = true
 isRewritten Unknown = false
 
+-- "for atom it is 0 to 31"
 abbrev pub isAtom : Kind → Bool
 isAtom True = false
 isAtom Atom = true
@@ -88,6 +90,7 @@ nodesRefusal rewritten i (suc left) (w ∷ ws) = orElse (nodeRefusal rewritten i
 unfoldable pub ruleHeadingRefusal : ℕ → ℕ → ℕ
 ruleHeadingRefusal controller count = pick (ltb controller maxControllers && within 1 maxRuleNodes count) accepted ruleLimits
 
+-- the check of a rule's table
 unfoldable pub ruleRefusal : Rule → ℕ
 ruleRefusal r = orElse (ruleHeadingRefusal (r .controller) (r .count)) (nodesRefusal false 0 (r .count) (r .nodes))
 

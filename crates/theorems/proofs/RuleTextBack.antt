@@ -6,18 +6,18 @@ use mathlib.Core.List.{List, [], _∷_}
 use lib.ListN.{length}
 use native.Mathlib.Omega.{arith}
 use lib.Dec.{eqb}
-use borrow.Author.Tests.{not-true, ne-eqb}
+use borrow.Author.Tests.{ne-eqb}
 use Rattle.definitions.specs.Limits.{ruleForm, ruleLines, maxRuleNodes}
 use Rattle.definitions.specs.Bounded.{pick}
 use Rattle.definitions.specs.Nodes.{Kind, Unknown, Node, node, operands, nodeWord, nodeOf}
 use Rattle.definitions.specs.Tables.{isUnknown, nodeRefusal, nodesRefusal, ruleHeadingRefusal}
 use Rattle.definitions.specs.Lines.{tab, newline, isClosed, lineOf, restOf, hasTab, fieldOf, afterTab, formed, malformed, decimal, Heading, nextRefusal, Scan, stop, more}
-use Rattle.definitions.specs.RuleText.{ruleWord, kindWord, wordKind, isKnown, unknownForm, operandsForm, nodeForm, nodeLineRefusal, scanNodes, ruleHeading, ruleHeadingLineRefusal, RuleScan, ruleStop, ruleNodes, scanRule, nodeText, nodesText}
+use Rattle.definitions.specs.RuleText.{ruleWord, kindWord, wordKind, unknownForm, operandsForm, nodeForm, nodeLineRefusal, scanNodes, ruleHeading, ruleHeadingLineRefusal, RuleScan, ruleStop, ruleNodes, scanRule, nodeText, nodesText}
 use Rattle.theorems.proofs.Choice.{by-test, pick-must, pick-other}
 use Rattle.theorems.proofs.Inversions.{first-picked, second-picked, must-pass, Formed, parsed-must, never-formed, formed-same, first-accepted}
 use Rattle.theorems.proofs.SplitLaws.{join, all-front}
 use Rattle.theorems.proofs.DecimalLaws.{read-prints}
-use Rattle.theorems.proofs.WordLaws.{known-not, kind-word}
+use Rattle.theorems.proofs.WordLaws.{kind-word}
 use Rattle.theorems.proofs.NodeWords.{node-of-word}
 use Rattle.theorems.proofs.NodeLaws.{accepted-node, first-below}
 use Rattle.theorems.proofs.FieldLaws.{two-fields-back, worded-back, next-back}
@@ -53,9 +53,9 @@ node-back : (s : List ℕ) (n : Node) → nodeForm s ≡ formed n → isUnknown 
 unfolding nodeForm
 node-back s n e u =
     let k = wordKind (fieldOf s) in
-    by-test (isKnown k)
-    (λ z. operands-back k s (kind-word (fieldOf s) (not-true (isUnknown k) (sym (known-not k) ∙ z))) n (first-picked (formed n) _ _ _ z e))
-    (λ z. let q : true ≡ false = ap (λ (m : Node). isUnknown (m .kind)) (unknown-back s n (second-picked (formed n) _ _ _ z e)) ∙ u in cc)
+    by-test (isUnknown k)
+    (λ z. let q : true ≡ false = ap (λ (m : Node). isUnknown (m .kind)) (unknown-back s n (first-picked (formed n) _ _ _ z e)) ∙ u in cc)
+    (λ z. operands-back k s (kind-word (fieldOf s) z) n (second-picked (formed n) _ _ _ z e))
 
 -- the first line of an accepted text: it is closed, it is the text of node i, and the other lines are read as node i + 1 and on
 record FirstNode (left i : ℕ) (t : List ℕ) : Type 0 where

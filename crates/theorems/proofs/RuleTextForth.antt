@@ -17,7 +17,7 @@ use Rattle.theorems.proofs.Choice.{or-else-none}
 use Rattle.theorems.proofs.SplitLaws.{Without, without-cons, without-append, split-front, split-rest, split-found, all-front, without-whole}
 use Rattle.theorems.proofs.DecimalLaws.{digits-without, printed-reads, two-digits}
 use Rattle.theorems.proofs.NodeWords.{by-kind, word-of-node}
-use Rattle.theorems.proofs.WordLaws.{known-not, word-kind, kind-word-without, rule-word-without}
+use Rattle.theorems.proofs.WordLaws.{word-kind, kind-word-without, rule-word-without}
 use Rattle.theorems.proofs.NodeLaws.{accepted-node, first-unused, second-unused, first-below, second-below}
 use Rattle.theorems.proofs.FieldLaws.{two-fields-forth, worded-forth, next-forth}
 use Rattle.theorems.proofs.RuleTextSteps.{by-operands, nodes-step, rule-step, headingText}
@@ -26,7 +26,7 @@ use Rattle.theorems.proofs.RuleTextSteps.{by-operands, nodes-step, rule
 module _ (k : Kind) (known : isUnknown k ≡ false) where
   of-kind : (s : List ℕ) → fieldOf s ≡ kindWord k → nodeForm s ≡ operandsForm k s
   unfolding nodeForm pick
-  of-kind s e = rw (e, word-kind k, known-not k, known)
+  of-kind s e = rw (e, word-kind k, known)
 
   none-forth : operands k ≡ 0 → nodeForm (kindWord k) ≡ formed (node k 0 0)
   unfolding operandsForm pick

@@ -2,7 +2,7 @@
 use mathlib.Core.Path.{_≡_, refl, sym}
 use Prim.Native.Nat.{ℕ, _+_, _*_, _/_, _%_, _<_, _≤_}
 use mathlib.Core.List.{List, [], _∷_}
-use mathlib.Core.Bool.{Bool, true, false, not}
+use mathlib.Core.Bool.{Bool, true, false}
 use native.Mathlib.Omega.{arith}
 use lib.Dec.{eqb, ltb, leb}
 use borrow.Author.Tests.{eqb-true, eq-eqb, leb-true, ltb-true}
@@ -10,7 +10,7 @@ use Rattle.definitions.specs.Bounded.{pick, within}
 use Rattle.definitions.specs.Nodes.{Kind, True, Atom, Not, Or, Next, Until, Prev, Since, Run, End, Unknown}
 use Rattle.definitions.specs.Tables.{isUnknown}
 use Rattle.definitions.specs.Lines.{same, letters}
-use Rattle.definitions.specs.RuleText.{kindWord, wordKind, isKnown, ruleWord}
+use Rattle.definitions.specs.RuleText.{kindWord, wordKind, ruleWord}
 use Rattle.theorems.proofs.Choice.{both-true}
 use Rattle.theorems.proofs.NodeWords.{by-kind, link, unknown-no}
 use Rattle.theorems.proofs.SplitLaws.{Without, without-none, without-cons}
@@ -32,9 +32,6 @@ same-itself (x ∷ t) = rw (eq-eqb x x refl) (same-itself t)
 pub word-kind : (k : Kind) → wordKind (kindWord k) ≡ k
 unfolding wordKind pick same
 word-kind = by-kind (λ k. wordKind (kindWord k) ≡ k) refl refl refl refl refl refl refl refl refl refl refl
-
-pub known-not : (k : Kind) → isKnown k ≡ not (isUnknown k)
-known-not = by-kind (λ k. isKnown k ≡ not (isUnknown k)) refl refl refl refl refl refl refl refl refl refl refl
 
 -- "a kind word is one or more letters a to z"
 kind-letters : (k : Kind) → letters (kindWord k) ≡ true
