@@ -1,0 +1,5 @@
+pub mod LentLaws
+pub mod OperatorLaws
+pub mod RowLaws
+pub mod StateLaws
+pub mod WordLaws

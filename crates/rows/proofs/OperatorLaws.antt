@@ -1,0 +1,359 @@
+-- The operators by recursion on the marks are the readings, which document 01 says by "some" and "every" over places.
+use mathlib.Core.Bool.{Bool, true, false, not, _&&_, _||_, cond}
+use mathlib.Core.List.{List, [], _∷_, map}
+use mathlib.Core.Logic.{_⊎_, ⊎-elim, inl, inr}
+use mathlib.Core.Path.{_≡_, refl, sym, ap, ap₂, _∙_}
+use Prim.Native.Nat.{ℕ, zero, suc, _+_, _-_, _<_, _≤_}
+use native.Mathlib.Nat.{add-zero, zero-add, not-suc-le-zero, le-of-suc-le-suc}
+use native.Mathlib.Omega.{arith}
+use lib.Dec.{ltb}
+use lib.ListN.{length, take, drop, getD, replicate, length-map, length-replicate, getD-replicate, List·getD-eq-default}
+use lib.Seq.{ext-getD}
+use borrow.Author.Tests.{ltb-true, ltb-false, lt-ltb, le-ltb}
+use Rattle.definitions.specs.Bounded.{someOf, everyOf, every, tabulateFrom, tabulate}
+use Rattle.definitions.specs.Readings.{nextAt, untilAt, prevAt, sinceAt}
+use Rattle.rows.specs.Marks.{markAt, lastAt}
+use Rattle.rows.specs.Lists.{headD, orRow, nextRow, untilRow, prevRow, sinceRow, lastRow}
+
+pub lt-or-le : (a b : ℕ) → (a < b) ⊎ (b ≤ a)
+lt-or-le a b = from (ltb a b) refl where
+  from : (t : Bool) → ltb a b ≡ t → (a < b) ⊎ (b ≤ a)
+  from true e = inl (ltb-true a b e)
+  from false e = inr (ltb-false a b e)
+
+-- ---- the values of a function at places
+
+pub tabulate-length : (n k : ℕ) (f : ℕ → Bool) → length (tabulateFrom n k f) ≡ n
+tabulate-length zero k f = refl
+tabulate-length (suc n) k f = ap suc (tabulate-length n (suc k) f)
+
+pub tabulate-at : (n k : ℕ) (f : ℕ → Bool) (i : ℕ) → i < n → getD (tabulateFrom n k f) i false ≡ f (k + i)
+tabulate-at zero k f i h = absurd (not-suc-le-zero h)
+tabulate-at (suc n) k f zero h = rw add-zero
+tabulate-at (suc n) k f (suc i) h =
+    let e : suc k + i ≡ k + suc i = omega arith in
+    tabulate-at n (suc k) f i (le-of-suc-le-suc h) ∙ ap f e
+
+-- a list is tabulated where it has the values
+pub tabulated : (l : List Bool) (n : ℕ) (f : ℕ → Bool) → length l ≡ n → ((i : ℕ) → i < n → getD l i false ≡ f i) → l ≡ tabulate n f
+tabulated l n f e h =
+    ext-getD false l (tabulate n f) (e ∙ sym (tabulate-length n 0 f))
+    (λ i hi. let less : i < n = omega arith in h i less ∙ sym (tabulate-at n 0 f i less ∙ ap f (zero-add i)))
+
+pub tabulate-same : (n : ℕ) (f g : ℕ → Bool) → ((i : ℕ) → i < n → f i ≡ g i) → tabulate n f ≡ tabulate n g
+tabulate-same n f g h =
+    tabulated (tabulate n f) n g (tabulate-length n 0 f) (λ i less. tabulate-at n 0 f i less ∙ ap f (zero-add i) ∙ h i less)
+
+pub tabulate-take : (m j k : ℕ) (f : ℕ → Bool) → take m (tabulateFrom (m + j) k f) ≡ tabulateFrom m k f
+tabulate-take zero j k f = refl
+tabulate-take (suc m) j k f =
+    let e : suc m + j ≡ suc (m + j) = omega arith in
+    rw e (ap (λ (l : List Bool). f k ∷ l) (tabulate-take m j (suc k) f))
+
+pub tabulate-drop : (m j k : ℕ) (f : ℕ → Bool) → drop m (tabulateFrom (m + j) k f) ≡ tabulateFrom j (m + k) f
+tabulate-drop zero j k f = rw (zero-add j, zero-add k)
+tabulate-drop (suc m) j k f =
+    let e : suc m + j ≡ suc (m + j) = omega arith in
+    let g : m + suc k ≡ suc m + k = omega arith in
+    rw (e, ← g) (tabulate-drop m j (suc k) f)
+
+pub same-list : (b : Bool) (n : ℕ) → replicate n b ≡ tabulate n (λ k. b)
+same-list b n = tabulated (replicate n b) n (λ k. b) (length-replicate n b) (λ i h. getD-replicate n i b false h)
+
+-- ---- some and every
+
+pub and-true : (a : Bool) → (a && true) ≡ a
+and-true true = refl
+and-true false = refl
+
+and-false : (a : Bool) → (a && false) ≡ false
+and-false true = refl
+and-false false = refl
+
+or-false : (a : Bool) → (a || false) ≡ a
+or-false true = refl
+or-false false = refl
+
+or-join : (a b c : Bool) → (a || (b || c)) ≡ ((a || b) || c)
+or-join true b c = refl
+or-join false b c = refl
+
+pub and-join : (a b c : Bool) → (a && (b && c)) ≡ ((a && b) && c)
+and-join true b c = refl
+and-join false b c = refl
+
+and-swap : (a b c : Bool) → (a && (b && c)) ≡ (b && (a && c))
+and-swap true b c = refl
+and-swap false true c = refl
+and-swap false false c = refl
+
+or-share : (a b c : Bool) → ((a && c) || (b && c)) ≡ ((a || b) && c)
+or-share true true true = refl
+or-share true true false = refl
+or-share true false true = refl
+or-share true false false = refl
+or-share false b c = refl
+
+some-same : (n k : ℕ) (f g : ℕ → Bool) → ((j : ℕ) → k ≤ j → j < k + n → f j ≡ g j) → someOf n k f ≡ someOf n k g
+some-same zero k f g h = refl
+some-same (suc n) k f g h =
+    ap₂ _||_ (h k (omega arith) (omega arith)) (some-same n (suc k) f g (λ j lo hi. h j (omega arith) (omega arith)))
+
+some-none : (n k : ℕ) → someOf n k (λ j. false) ≡ false
+some-none zero k = refl
+some-none (suc n) k = some-none n (suc k)
+
+some-and : (n k : ℕ) (b : Bool) (f : ℕ → Bool) → someOf n k (λ j. b && f j) ≡ (b && someOf n k f)
+some-and n k true f = refl
+some-and n k false f = some-none n k
+
+some-share : (n k : ℕ) (b : Bool) (f : ℕ → Bool) → someOf n k (λ j. f j && b) ≡ (someOf n k f && b)
+some-share zero k b f = refl
+some-share (suc n) k b f = ap (λ (x : Bool). (f k && b) || x) (some-share n (suc k) b f) ∙ or-share (f k) (someOf n (suc k) f) b
+
+-- the last place apart
+some-last : (n k : ℕ) (f : ℕ → Bool) → someOf (suc n) k f ≡ (someOf n k f || f (k + n))
+some-last zero k f = rw (add-zero) (or-false (f k))
+some-last (suc n) k f =
+    let e : suc k + n ≡ k + suc n = omega arith in
+    ap (λ (x : Bool). f k || x) (some-last n (suc k) f) ∙ or-join (f k) (someOf n (suc k) f) (f (suc k + n)) ∙ rw e
+
+every-last : (n k : ℕ) (f : ℕ → Bool) → everyOf (suc n) k f ≡ (everyOf n k f && f (k + n))
+every-last zero k f = rw (add-zero) (and-true (f k))
+every-last (suc n) k f =
+    let e : suc k + n ≡ k + suc n = omega arith in
+    ap (λ (x : Bool). f k && x) (every-last n (suc k) f) ∙ and-join (f k) (everyOf n (suc k) f) (f (suc k + n)) ∙ rw e
+
+-- ---- until: what it is at a place, by what it is at the next
+
+until-joined : (q p s w e : Bool) → (((q && true) || (p && s)) || (w && (p && e))) ≡ (q || (p && (s || (w && e))))
+until-joined true p s w e = refl
+until-joined false true s w e = refl
+until-joined false false s w e = and-false w
+
+module _ (w : Bool) (L : ℕ) (p q : ℕ → Bool) where
+  pub until-end : untilAt w L p q L ≡ w
+  until-end = let e : L - L ≡ 0 = omega arith in rw e (and-true w)
+
+  later : (n i : ℕ) → someOf n (suc i) (λ k. q k && every i k p) ≡ (p i && someOf n (suc i) (λ k. q k && every (suc i) k p))
+  later n i =
+      some-same n (suc i) (λ k. q k && every i k p) (λ k. p i && (q k && every (suc i) k p))
+      (λ k lo hi. let e : k - i ≡ suc (k - suc i) = omega arith in rw e (and-swap (q k) (p i) (every (suc i) k p)))
+      ∙ some-and n (suc i) (p i) (λ k. q k && every (suc i) k p)
+
+  pub until-step : (i : ℕ) → i < L → untilAt w L p q i ≡ (q i || (p i && untilAt w L p q (suc i)))
+  until-step i h =
+      let e : L - i ≡ suc (L - suc i) = omega arith in
+      let z : i - i ≡ 0 = omega arith in
+      rw (e, z, later (L - suc i) i)
+      (until-joined (q i) (p i) (someOf (L - suc i) (suc i) (λ k. q k && every (suc i) k p)) w (everyOf (L - suc i) (suc i) p))
+
+pub until-length : (w : Bool) (ps qs : List Bool) → length ps ≡ length qs → length (untilRow w ps qs) ≡ length ps
+until-length w [] qs h = refl
+until-length w (p ∷ ps) [] h = sym h
+until-length w (p ∷ ps) (q ∷ qs) h = ap suc (until-length w ps qs (omega arith))
+
+head-at : (l : List Bool) (d : Bool) → headD l d ≡ getD l 0 d
+head-at [] d = refl
+head-at (b ∷ l) d = refl
+
+-- past the last place it is w
+pub until-at : (w : Bool) (ps qs : List Bool) (k : ℕ) → length ps ≡ length qs → k < length ps
+    → getD (untilRow w ps qs) k w ≡ (markAt qs k || (markAt ps k && getD (untilRow w ps qs) (suc k) w))
+until-at w [] qs k h l = absurd (not-suc-le-zero l)
+until-at w (p ∷ ps) [] k h l = absurd (omega arith)
+until-at w (p ∷ ps) (q ∷ qs) zero h l = rw head-at
+until-at w (p ∷ ps) (q ∷ qs) (suc k) h l = until-at w ps qs k (omega arith) (le-of-suc-le-suc l)
+
+default : (l : List Bool) (k : ℕ) (a b : Bool) → k < length l → getD l k a ≡ getD l k b
+default [] k a b h = absurd (not-suc-le-zero h)
+default (x ∷ l) zero a b h = refl
+default (x ∷ l) (suc k) a b h = default l k a b (le-of-suc-le-suc h)
+
+module _ (w : Bool) (ps qs : List Bool) (h : length ps ≡ length qs) where
+  until-places : (j k : ℕ) → k + j ≡ length ps → getD (untilRow w ps qs) k w ≡ untilAt w (length ps) (markAt ps) (markAt qs) k
+  until-places zero k e =
+      let n : k ≡ length ps = omega arith in
+      List·getD-eq-default (untilRow w ps qs) w (rw (until-length w ps qs h) (omega arith))
+      ∙ sym (ap (untilAt w (length ps) (markAt ps) (markAt qs)) n ∙ until-end w (length ps) (markAt ps) (markAt qs))
+  until-places (suc j) k e =
+      until-at w ps qs k h (omega arith)
+      ∙ ap (λ (b : Bool). markAt qs k || (markAt ps k && b)) (until-places j (suc k) (omega arith))
+      ∙ sym (until-step w (length ps) (markAt ps) (markAt qs) k (omega arith))
+
+  pub until-is : untilRow w ps qs ≡ tabulate (length ps) (untilAt w (length ps) (markAt ps) (markAt qs))
+  until-is =
+      tabulated (untilRow w ps qs) (length ps) (untilAt w (length ps) (markAt ps) (markAt qs)) (until-length w ps qs h)
+      (λ i hi. default (untilRow w ps qs) i false w (rw (until-length w ps qs h) hi) ∙ until-places (length ps - i) i (omega arith))
+
+-- ---- since: what it is at a place, by what it is at the place before
+
+since-joined : (q p s : Bool) → ((s && p) || (q && true)) ≡ (q || (p && s))
+since-joined true true true = refl
+since-joined true true false = refl
+since-joined true false true = refl
+since-joined true false false = refl
+since-joined false true true = refl
+since-joined false true false = refl
+since-joined false false true = refl
+since-joined false false false = refl
+
+module _ (p q : ℕ → Bool) where
+  pub since-start : sinceAt p q 0 ≡ q 0
+  since-start = or-false (q 0 && true) ∙ and-true (q 0)
+
+  earlier : (i k : ℕ) → k < suc i → (q k && every (suc k) (suc (suc i)) p) ≡ ((q k && every (suc k) (suc i) p) && p (suc i))
+  earlier i k h =
+      let e : suc (suc i) - suc k ≡ suc (suc i - suc k) = omega arith in
+      let n : suc k + (suc i - suc k) ≡ suc i = omega arith in
+      rw (e, every-last (suc i - suc k) (suc k) p, n) (and-join (q k) (every (suc k) (suc i) p) (p (suc i)))
+
+  pub since-step : (i : ℕ) → sinceAt p q (suc i) ≡ (q (suc i) || (p (suc i) && sinceAt p q i))
+  since-step i =
+      let z : suc (suc i) - suc (suc i) ≡ 0 = omega arith in
+      let n : 0 + suc i ≡ suc i = omega arith in
+      let a : suc (suc i) - 0 ≡ suc (suc i) = omega arith in
+      let b : suc i - 0 ≡ suc i = omega arith in
+      let before : Bool = someOf (suc i) 0 (λ k. q k && every (suc k) (suc i) p) in
+      rw (a, b)
+      (some-last (suc i) 0 (λ k. q k && every (suc k) (suc (suc i)) p)
+      ∙ ap₂ _||_
+      (some-same (suc i) 0 (λ k. q k && every (suc k) (suc (suc i)) p) (λ k. (q k && every (suc k) (suc i) p) && p (suc i))
+      (λ k lo hi. earlier i k (omega arith))
+      ∙ some-share (suc i) 0 (p (suc i)) (λ k. q k && every (suc k) (suc i) p))
+      (rw (n, z))
+      ∙ since-joined (q (suc i)) (p (suc i)) before)
+
+pub since-length : (c : Bool) (ps qs : List Bool) → length ps ≡ length qs → length (sinceRow c ps qs) ≡ length ps
+since-length c [] qs h = refl
+since-length c (p ∷ ps) [] h = sym h
+since-length c (p ∷ ps) (q ∷ qs) h = ap suc (since-length (q || (p && c)) ps qs (omega arith))
+
+since-at : (c : Bool) (ps qs : List Bool) (k : ℕ) → length ps ≡ length qs → suc k < length ps
+    → markAt (sinceRow c ps qs) (suc k) ≡ (markAt qs (suc k) || (markAt ps (suc k) && markAt (sinceRow c ps qs) k))
+since-at c [] qs k h l = absurd (not-suc-le-zero l)
+since-at c (p ∷ ps) [] k h l = absurd (omega arith)
+since-at c (p ∷ []) (q ∷ qs) k h l = absurd (omega arith)
+since-at c (p ∷ x ∷ ps) (q ∷ []) k h l = absurd (omega arith)
+since-at c (p ∷ x ∷ ps) (q ∷ y ∷ qs) zero h l = refl
+since-at c (p ∷ x ∷ ps) (q ∷ y ∷ qs) (suc k) h l = since-at (q || (p && c)) (x ∷ ps) (y ∷ qs) k (omega arith) (le-of-suc-le-suc l)
+
+since-first : (ps qs : List Bool) → length ps ≡ length qs → 0 < length ps → markAt (sinceRow false ps qs) 0 ≡ markAt qs 0
+since-first [] qs h l = absurd (not-suc-le-zero l)
+since-first (p ∷ ps) [] h l = absurd (omega arith)
+since-first (p ∷ ps) (q ∷ qs) h l = ap (λ (b : Bool). q || b) (and-false p) ∙ or-false q
+
+module _ (ps qs : List Bool) (h : length ps ≡ length qs) where
+  since-places : (i : ℕ) → i < length ps → markAt (sinceRow false ps qs) i ≡ sinceAt (markAt ps) (markAt qs) i
+  since-places zero l = since-first ps qs h l ∙ sym (since-start (markAt ps) (markAt qs))
+  since-places (suc i) l =
+      since-at false ps qs i h l
+      ∙ ap (λ (b : Bool). markAt qs (suc i) || (markAt ps (suc i) && b)) (since-places i (omega arith))
+      ∙ sym (since-step (markAt ps) (markAt qs) i)
+
+  pub since-is : sinceRow false ps qs ≡ tabulate (length ps) (sinceAt (markAt ps) (markAt qs))
+  since-is = tabulated (sinceRow false ps qs) (length ps) (sinceAt (markAt ps) (markAt qs)) (since-length false ps qs h) since-places
+
+-- ---- prev and next
+
+pub prev-length : (c : Bool) (l : List Bool) → length (prevRow c l) ≡ length l
+prev-length c [] = refl
+prev-length c (p ∷ l) = ap suc (prev-length p l)
+
+prev-at : (c : Bool) (l : List Bool) (k : ℕ) → suc k < length l → markAt (prevRow c l) (suc k) ≡ markAt l k
+prev-at c [] k h = absurd (not-suc-le-zero h)
+prev-at c (p ∷ []) k h = absurd (omega arith)
+prev-at c (p ∷ x ∷ l) zero h = refl
+prev-at c (p ∷ x ∷ l) (suc k) h = prev-at p (x ∷ l) k (le-of-suc-le-suc h)
+
+prev-first : (l : List Bool) → markAt (prevRow false l) 0 ≡ false
+prev-first [] = refl
+prev-first (p ∷ l) = refl
+
+prev-places : (l : List Bool) (i : ℕ) → i < length l → markAt (prevRow false l) i ≡ prevAt (markAt l) i
+prev-places l zero h = prev-first l ∙ rw (le-ltb 0 0 (omega arith))
+prev-places l (suc i) h =
+    let e : suc i - 1 ≡ i = omega arith in
+    prev-at false l i h ∙ rw (lt-ltb 0 (suc i) (omega arith), e)
+
+pub prev-is : (l : List Bool) → prevRow false l ≡ tabulate (length l) (prevAt (markAt l))
+prev-is l = tabulated (prevRow false l) (length l) (prevAt (markAt l)) (prev-length false l) (prev-places l)
+
+pub next-length : (w : Bool) (l : List Bool) → length (nextRow w l) ≡ length l
+next-length w [] = refl
+next-length w (b ∷ l) = ap suc (next-length w l)
+
+next-on : (w : Bool) (l : List Bool) (k : ℕ) → suc k < length l → markAt (nextRow w l) k ≡ markAt l (suc k)
+next-on w [] k h = absurd (not-suc-le-zero h)
+next-on w (p ∷ []) k h = absurd (omega arith)
+next-on w (p ∷ x ∷ l) zero h = refl
+next-on w (p ∷ x ∷ l) (suc k) h = next-on w (x ∷ l) k (le-of-suc-le-suc h)
+
+next-end : (w : Bool) (l : List Bool) (k : ℕ) → suc k ≡ length l → markAt (nextRow w l) k ≡ w
+next-end w [] k h = absurd (omega arith)
+next-end w (p ∷ []) zero h = refl
+next-end w (p ∷ []) (suc k) h = absurd (omega arith)
+next-end w (p ∷ x ∷ l) zero h = absurd (omega arith)
+next-end w (p ∷ x ∷ l) (suc k) h = next-end w (x ∷ l) k (omega arith)
+
+-- what holds before the last place and what holds there, told as one test
+by-place : (r : List Bool) (L : ℕ) (f : ℕ → Bool) (w : Bool) → ((k : ℕ) → suc k < L → markAt r k ≡ f k) → ((k : ℕ) → suc k ≡ L → markAt r k ≡ w)
+    → (i : ℕ) → i < L → markAt r i ≡ cond (ltb (suc i) L) (f i) w
+by-place r L f w before last i h =
+    ⊎-elim
+    (λ (x : suc i < L). before i x ∙ rw (lt-ltb (suc i) L x))
+    (λ (x : L ≤ suc i). last i (omega arith) ∙ rw (le-ltb (suc i) L x))
+    (lt-or-le (suc i) L)
+
+pub next-is : (w : Bool) (l : List Bool) → nextRow w l ≡ tabulate (length l) (nextAt w (length l) (markAt l))
+next-is w l =
+    tabulated (nextRow w l) (length l) (nextAt w (length l) (markAt l)) (next-length w l)
+    (by-place (nextRow w l) (length l) (λ k. markAt l (suc k)) w (next-on w l) (next-end w l))
+
+pub last-length : (w : Bool) (l : List Bool) → length (lastRow w l) ≡ length l
+last-length w [] = refl
+last-length w (p ∷ []) = refl
+last-length w (p ∷ x ∷ l) = ap suc (last-length w (x ∷ l))
+
+last-on : (w : Bool) (l : List Bool) (k : ℕ) → suc k < length l → markAt (lastRow w l) k ≡ markAt l k
+last-on w [] k h = absurd (not-suc-le-zero h)
+last-on w (p ∷ []) k h = absurd (omega arith)
+last-on w (p ∷ x ∷ l) zero h = refl
+last-on w (p ∷ x ∷ l) (suc k) h = last-on w (x ∷ l) k (le-of-suc-le-suc h)
+
+last-end : (w : Bool) (l : List Bool) (k : ℕ) → suc k ≡ length l → markAt (lastRow w l) k ≡ w
+last-end w [] k h = absurd (omega arith)
+last-end w (p ∷ []) zero h = refl
+last-end w (p ∷ []) (suc k) h = absurd (omega arith)
+last-end w (p ∷ x ∷ l) zero h = absurd (omega arith)
+last-end w (p ∷ x ∷ l) (suc k) h = last-end w (x ∷ l) k (omega arith)
+
+pub last-is : (w : Bool) (l : List Bool) → lastRow w l ≡ tabulate (length l) (lastAt w (length l) (markAt l))
+last-is w l =
+    tabulated (lastRow w l) (length l) (lastAt w (length l) (markAt l)) (last-length w l)
+    (by-place (lastRow w l) (length l) (markAt l) w (last-on w l) (last-end w l))
+
+-- ---- not and or, place by place
+
+map-at : (f : Bool → Bool) (l : List Bool) (k : ℕ) → k < length l → markAt (map f l) k ≡ f (markAt l k)
+map-at f [] k h = absurd (not-suc-le-zero h)
+map-at f (x ∷ l) zero h = refl
+map-at f (x ∷ l) (suc k) h = map-at f l k (le-of-suc-le-suc h)
+
+pub not-is : (l : List Bool) → map not l ≡ tabulate (length l) (λ k. not (markAt l k))
+not-is l = tabulated (map not l) (length l) (λ k. not (markAt l k)) (length-map l not) (map-at not l)
+
+pub or-length : (ps qs : List Bool) → length ps ≡ length qs → length (orRow ps qs) ≡ length ps
+or-length [] qs h = refl
+or-length (p ∷ ps) [] h = sym h
+or-length (p ∷ ps) (q ∷ qs) h = ap suc (or-length ps qs (omega arith))
+
+or-at : (ps qs : List Bool) (k : ℕ) → length ps ≡ length qs → k < length ps → markAt (orRow ps qs) k ≡ (markAt ps k || markAt qs k)
+or-at [] qs k h l = absurd (not-suc-le-zero l)
+or-at (p ∷ ps) [] k h l = absurd (omega arith)
+or-at (p ∷ ps) (q ∷ qs) zero h l = refl
+or-at (p ∷ ps) (q ∷ qs) (suc k) h l = or-at ps qs k (omega arith) (le-of-suc-le-suc l)
+
+pub or-is : (ps qs : List Bool) → length ps ≡ length qs → orRow ps qs ≡ tabulate (length ps) (λ k. markAt ps k || markAt qs k)
+or-is ps qs h =
+    tabulated (orRow ps qs) (length ps) (λ k. markAt ps k || markAt qs k) (or-length ps qs h) (λ i l. or-at ps qs i h l)

@@ -1,0 +1,4 @@
+pub mod Lent
+pub mod Lists
+pub mod Marks
+pub mod Words

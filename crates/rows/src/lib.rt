@@ -1,0 +1,3 @@
+pub mod lent;
+pub mod row;
+pub mod word;
