@@ -1,17 +1,18 @@
 -- The operators by recursion on the marks are the readings, which document 01 says by "some" and "every" over places.
-use mathlib.Core.Bool.{Bool, true, false, not, _&&_, _||_, cond}
+use mathlib.Core.Bool.{Bool, true, false, not, _&&_, _||_, cond, and-false, or-false}
 use mathlib.Core.List.{List, [], _∷_, map}
 use mathlib.Core.Logic.{_⊎_, ⊎-elim, inl, inr}
-use mathlib.Core.Path.{_≡_, refl, sym, ap, ap₂, _∙_}
+use mathlib.Core.Path.{_≡_, refl, sym, ap, _∙_}
 use Prim.Native.Nat.{ℕ, zero, suc, _+_, _-_, _<_, _≤_}
-use native.Mathlib.Nat.{add-zero, zero-add, not-suc-le-zero, le-of-suc-le-suc}
+use native.Mathlib.Nat.{not-suc-le-zero, le-of-suc-le-suc}
 use native.Mathlib.Omega.{arith}
 use lib.Dec.{ltb}
-use lib.ListN.{length, take, drop, getD, replicate, length-map, length-replicate, getD-replicate, List·getD-eq-default}
-use lib.Seq.{ext-getD}
+use lib.ListN.{length, getD, replicate, length-map, length-replicate, getD-replicate, List·getD-eq-default}
 use borrow.Author.Tests.{ltb-true, ltb-false, lt-ltb, le-ltb}
-use Rattle.definitions.specs.Bounded.{someOf, everyOf, every, tabulateFrom, tabulate}
+use Rattle.definitions.specs.Bounded.{tabulate}
 use Rattle.definitions.specs.Readings.{nextAt, untilAt, prevAt, sinceAt}
+use Rattle.theorems.proofs.Recursions.{until-end, until-step, since-start, since-step}
+use Rattle.theorems.proofs.Tabulations.{tabulated}
 use Rattle.rows.specs.Marks.{markAt, lastAt}
 use Rattle.rows.specs.Lists.{headD, orRow, nextRow, untilRow, prevRow, sinceRow, lastRow}
 
@@ -21,132 +22,14 @@ lt-or-le a b = from (ltb a b) refl where
   from true e = inl (ltb-true a b e)
   from false e = inr (ltb-false a b e)
 
--- ---- the values of a function at places
-
-pub tabulate-length : (n k : ℕ) (f : ℕ → Bool) → length (tabulateFrom n k f) ≡ n
-tabulate-length zero k f = refl
-tabulate-length (suc n) k f = ap suc (tabulate-length n (suc k) f)
-
-pub tabulate-at : (n k : ℕ) (f : ℕ → Bool) (i : ℕ) → i < n → getD (tabulateFrom n k f) i false ≡ f (k + i)
-tabulate-at zero k f i h = absurd (not-suc-le-zero h)
-tabulate-at (suc n) k f zero h = rw add-zero
-tabulate-at (suc n) k f (suc i) h =
-    let e : suc k + i ≡ k + suc i = omega arith in
-    tabulate-at n (suc k) f i (le-of-suc-le-suc h) ∙ ap f e
-
--- a list is tabulated where it has the values
-pub tabulated : (l : List Bool) (n : ℕ) (f : ℕ → Bool) → length l ≡ n → ((i : ℕ) → i < n → getD l i false ≡ f i) → l ≡ tabulate n f
-tabulated l n f e h =
-    ext-getD false l (tabulate n f) (e ∙ sym (tabulate-length n 0 f))
-    (λ i hi. let less : i < n = omega arith in h i less ∙ sym (tabulate-at n 0 f i less ∙ ap f (zero-add i)))
-
-pub tabulate-same : (n : ℕ) (f g : ℕ → Bool) → ((i : ℕ) → i < n → f i ≡ g i) → tabulate n f ≡ tabulate n g
-tabulate-same n f g h =
-    tabulated (tabulate n f) n g (tabulate-length n 0 f) (λ i less. tabulate-at n 0 f i less ∙ ap f (zero-add i) ∙ h i less)
-
-pub tabulate-take : (m j k : ℕ) (f : ℕ → Bool) → take m (tabulateFrom (m + j) k f) ≡ tabulateFrom m k f
-tabulate-take zero j k f = refl
-tabulate-take (suc m) j k f =
-    let e : suc m + j ≡ suc (m + j) = omega arith in
-    rw e (ap (λ (l : List Bool). f k ∷ l) (tabulate-take m j (suc k) f))
-
-pub tabulate-drop : (m j k : ℕ) (f : ℕ → Bool) → drop m (tabulateFrom (m + j) k f) ≡ tabulateFrom j (m + k) f
-tabulate-drop zero j k f = rw (zero-add j, zero-add k)
-tabulate-drop (suc m) j k f =
-    let e : suc m + j ≡ suc (m + j) = omega arith in
-    let g : m + suc k ≡ suc m + k = omega arith in
-    rw (e, ← g) (tabulate-drop m j (suc k) f)
-
-pub same-list : (b : Bool) (n : ℕ) → replicate n b ≡ tabulate n (λ k. b)
-same-list b n = tabulated (replicate n b) n (λ k. b) (length-replicate n b) (λ i h. getD-replicate n i b false h)
-
--- ---- some and every
-
-pub and-true : (a : Bool) → (a && true) ≡ a
-and-true true = refl
-and-true false = refl
-
-and-false : (a : Bool) → (a && false) ≡ false
-and-false true = refl
-and-false false = refl
-
-or-false : (a : Bool) → (a || false) ≡ a
-or-false true = refl
-or-false false = refl
-
-or-join : (a b c : Bool) → (a || (b || c)) ≡ ((a || b) || c)
-or-join true b c = refl
-or-join false b c = refl
-
 pub and-join : (a b c : Bool) → (a && (b && c)) ≡ ((a && b) && c)
 and-join true b c = refl
 and-join false b c = refl
 
-and-swap : (a b c : Bool) → (a && (b && c)) ≡ (b && (a && c))
-and-swap true b c = refl
-and-swap false true c = refl
-and-swap false false c = refl
+pub same-list : (b : Bool) (n : ℕ) → replicate n b ≡ tabulate n (λ k. b)
+same-list b n = tabulated (replicate n b) n (λ k. b) (length-replicate n b) (λ i h. getD-replicate n i b false h)
 
-or-share : (a b c : Bool) → ((a && c) || (b && c)) ≡ ((a || b) && c)
-or-share true true true = refl
-or-share true true false = refl
-or-share true false true = refl
-or-share true false false = refl
-or-share false b c = refl
-
-some-same : (n k : ℕ) (f g : ℕ → Bool) → ((j : ℕ) → k ≤ j → j < k + n → f j ≡ g j) → someOf n k f ≡ someOf n k g
-some-same zero k f g h = refl
-some-same (suc n) k f g h =
-    ap₂ _||_ (h k (omega arith) (omega arith)) (some-same n (suc k) f g (λ j lo hi. h j (omega arith) (omega arith)))
-
-some-none : (n k : ℕ) → someOf n k (λ j. false) ≡ false
-some-none zero k = refl
-some-none (suc n) k = some-none n (suc k)
-
-some-and : (n k : ℕ) (b : Bool) (f : ℕ → Bool) → someOf n k (λ j. b && f j) ≡ (b && someOf n k f)
-some-and n k true f = refl
-some-and n k false f = some-none n k
-
-some-share : (n k : ℕ) (b : Bool) (f : ℕ → Bool) → someOf n k (λ j. f j && b) ≡ (someOf n k f && b)
-some-share zero k b f = refl
-some-share (suc n) k b f = ap (λ (x : Bool). (f k && b) || x) (some-share n (suc k) b f) ∙ or-share (f k) (someOf n (suc k) f) b
-
--- the last place apart
-some-last : (n k : ℕ) (f : ℕ → Bool) → someOf (suc n) k f ≡ (someOf n k f || f (k + n))
-some-last zero k f = rw (add-zero) (or-false (f k))
-some-last (suc n) k f =
-    let e : suc k + n ≡ k + suc n = omega arith in
-    ap (λ (x : Bool). f k || x) (some-last n (suc k) f) ∙ or-join (f k) (someOf n (suc k) f) (f (suc k + n)) ∙ rw e
-
-every-last : (n k : ℕ) (f : ℕ → Bool) → everyOf (suc n) k f ≡ (everyOf n k f && f (k + n))
-every-last zero k f = rw (add-zero) (and-true (f k))
-every-last (suc n) k f =
-    let e : suc k + n ≡ k + suc n = omega arith in
-    ap (λ (x : Bool). f k && x) (every-last n (suc k) f) ∙ and-join (f k) (everyOf n (suc k) f) (f (suc k + n)) ∙ rw e
-
--- ---- until: what it is at a place, by what it is at the next
-
-until-joined : (q p s w e : Bool) → (((q && true) || (p && s)) || (w && (p && e))) ≡ (q || (p && (s || (w && e))))
-until-joined true p s w e = refl
-until-joined false true s w e = refl
-until-joined false false s w e = and-false w
-
-module _ (w : Bool) (L : ℕ) (p q : ℕ → Bool) where
-  pub until-end : untilAt w L p q L ≡ w
-  until-end = let e : L - L ≡ 0 = omega arith in rw e (and-true w)
-
-  later : (n i : ℕ) → someOf n (suc i) (λ k. q k && every i k p) ≡ (p i && someOf n (suc i) (λ k. q k && every (suc i) k p))
-  later n i =
-      some-same n (suc i) (λ k. q k && every i k p) (λ k. p i && (q k && every (suc i) k p))
-      (λ k lo hi. let e : k - i ≡ suc (k - suc i) = omega arith in rw e (and-swap (q k) (p i) (every (suc i) k p)))
-      ∙ some-and n (suc i) (p i) (λ k. q k && every (suc i) k p)
-
-  pub until-step : (i : ℕ) → i < L → untilAt w L p q i ≡ (q i || (p i && untilAt w L p q (suc i)))
-  until-step i h =
-      let e : L - i ≡ suc (L - suc i) = omega arith in
-      let z : i - i ≡ 0 = omega arith in
-      rw (e, z, later (L - suc i) i)
-      (until-joined (q i) (p i) (someOf (L - suc i) (suc i) (λ k. q k && every (suc i) k p)) w (everyOf (L - suc i) (suc i) p))
+-- ---- until
 
 pub until-length : (w : Bool) (ps qs : List Bool) → length ps ≡ length qs → length (untilRow w ps qs) ≡ length ps
 until-length w [] qs h = refl
@@ -186,43 +69,7 @@ module _ (w : Bool) (ps qs : List Bool) (h : length ps ≡ length qs) where
       tabulated (untilRow w ps qs) (length ps) (untilAt w (length ps) (markAt ps) (markAt qs)) (until-length w ps qs h)
       (λ i hi. default (untilRow w ps qs) i false w (rw (until-length w ps qs h) hi) ∙ until-places (length ps - i) i (omega arith))
 
--- ---- since: what it is at a place, by what it is at the place before
-
-since-joined : (q p s : Bool) → ((s && p) || (q && true)) ≡ (q || (p && s))
-since-joined true true true = refl
-since-joined true true false = refl
-since-joined true false true = refl
-since-joined true false false = refl
-since-joined false true true = refl
-since-joined false true false = refl
-since-joined false false true = refl
-since-joined false false false = refl
-
-module _ (p q : ℕ → Bool) where
-  pub since-start : sinceAt p q 0 ≡ q 0
-  since-start = or-false (q 0 && true) ∙ and-true (q 0)
-
-  earlier : (i k : ℕ) → k < suc i → (q k && every (suc k) (suc (suc i)) p) ≡ ((q k && every (suc k) (suc i) p) && p (suc i))
-  earlier i k h =
-      let e : suc (suc i) - suc k ≡ suc (suc i - suc k) = omega arith in
-      let n : suc k + (suc i - suc k) ≡ suc i = omega arith in
-      rw (e, every-last (suc i - suc k) (suc k) p, n) (and-join (q k) (every (suc k) (suc i) p) (p (suc i)))
-
-  pub since-step : (i : ℕ) → sinceAt p q (suc i) ≡ (q (suc i) || (p (suc i) && sinceAt p q i))
-  since-step i =
-      let z : suc (suc i) - suc (suc i) ≡ 0 = omega arith in
-      let n : 0 + suc i ≡ suc i = omega arith in
-      let a : suc (suc i) - 0 ≡ suc (suc i) = omega arith in
-      let b : suc i - 0 ≡ suc i = omega arith in
-      let before : Bool = someOf (suc i) 0 (λ k. q k && every (suc k) (suc i) p) in
-      rw (a, b)
-      (some-last (suc i) 0 (λ k. q k && every (suc k) (suc (suc i)) p)
-      ∙ ap₂ _||_
-      (some-same (suc i) 0 (λ k. q k && every (suc k) (suc (suc i)) p) (λ k. (q k && every (suc k) (suc i) p) && p (suc i))
-      (λ k lo hi. earlier i k (omega arith))
-      ∙ some-share (suc i) 0 (p (suc i)) (λ k. q k && every (suc k) (suc i) p))
-      (rw (n, z))
-      ∙ since-joined (q (suc i)) (p (suc i)) before)
+-- ---- since
 
 pub since-length : (c : Bool) (ps qs : List Bool) → length ps ≡ length qs → length (sinceRow c ps qs) ≡ length ps
 since-length c [] qs h = refl

@@ -1,5 +1,5 @@
 -- Laws of rows: two words and a count hold a list of marks, and each operator on them is the operator on the list.
-use mathlib.Core.Bool.{Bool, true, false, not, _&&_, _||_}
+use mathlib.Core.Bool.{Bool, true, false, not, _&&_, _||_, and-true}
 use mathlib.Core.List.{List, [], _∷_, _++_, map}
 use mathlib.Core.Logic.{_⊎_, ⊎-elim, inl, inr}
 use mathlib.Core.Path.{_≡_, refl, sym, ap, ap₂, _∙_}
@@ -19,7 +19,8 @@ use Rattle.rows.specs.declared.row.Row.{Row}
 use Rattle.rows.specs.Marks.{markAt, bitAt, marks, packed, yesMarks, lastAt, Whole, Made}
 use Rattle.rows.specs.Lists.{headD, orRow, nextRow, untilRow, prevRow, sinceRow, lastRow}
 use Rattle.rows.specs.Words.{gathered}
-use Rattle.rows.proofs.OperatorLaws.{lt-or-le, and-true, tabulated, tabulate-length, tabulate-take, tabulate-drop, same-list, until-length, until-is, since-length, since-is, prev-length, prev-is, next-length, next-is, last-length, last-is, not-is, or-length, or-is}
+use Rattle.theorems.proofs.Tabulations.{tabulated, tabulate-length, tabulate-take, tabulate-drop}
+use Rattle.rows.proofs.OperatorLaws.{lt-or-le, same-list, until-length, until-is, since-length, since-is, prev-length, prev-is, next-length, next-is, last-length, last-is, not-is, or-length, or-is}
 use Rattle.rows.proofs.WordLaws.{half, word-digit, word-bit, word-fits, word-put, ones-word, zip, or-zip, take-zip, drop-zip, zip-length, word-and, word-or, word-not, and-cut, or-cons, and-cons}
 
 -- ---- the marks of a row

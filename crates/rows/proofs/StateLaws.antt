@@ -1,5 +1,5 @@
 -- Columns of states: the bit of an atom is the atom as recorded, the bit of a run mark is where its controller runs.
-use mathlib.Core.Bool.{true, false}
+use mathlib.Core.Bool.{true, false, and-true}
 use mathlib.Core.Path.{_≡_, sym, _∙_}
 use Prim.Native.Nat.{ℕ, _+_, _-_, _%_, _^_, _<_}
 use native.Mathlib.Omega.{arith}
@@ -10,7 +10,7 @@ use Rattle.definitions.specs.Limits.{atomCount}
 use Rattle.definitions.specs.Bounded.{bitOf, tabulate}
 use Rattle.definitions.specs.Readings.{marksWord}
 use Rattle.definitions.specs.Recordings.{Recording, wordAt, runsAt}
-use Rattle.rows.proofs.OperatorLaws.{and-true, tabulate-same}
+use Rattle.theorems.proofs.Tabulations.{tabulate-same}
 use Rattle.rows.proofs.WordLaws.{bit-and, bit-shr, word-bit, word-full}
 
 -- a bit below d is not cut off

@@ -1,5 +1,5 @@
 -- Laws of words of marks: a word's bits are its marks, and the word operations are the operators.
-use mathlib.Core.Bool.{Bool, true, false, not, _&&_, _||_}
+use mathlib.Core.Bool.{Bool, true, false, not, _&&_, _||_, and-true}
 use mathlib.Core.List.{List, [], _∷_, map}
 use mathlib.Core.Path.{_≡_, refl, sym, ap, ap₂, _∙_}
 use Prim.Native.Nat.{ℕ, zero, suc, _+_, _-_, _*_, _/_, _%_, _^_, _<_, _≤_, min, max}
@@ -20,7 +20,8 @@ use Rattle.rows.specs.declared.word.Reach.{Reach}
 use Rattle.rows.specs.Marks.{markAt, yesMarks}
 use Rattle.rows.specs.Lists.{orRow, untilRow, sinceRow}
 use Rattle.rows.specs.Words.{foundIn, heldIn, Window, gathered}
-use Rattle.rows.proofs.OperatorLaws.{and-true, and-join, until-at, until-length, tabulate-length}
+use Rattle.theorems.proofs.Tabulations.{tabulate-length}
+use Rattle.rows.proofs.OperatorLaws.{and-join, until-at, until-length}
 
 -- ---- the marks of a word
 

@@ -1,6 +1,7 @@
 pub mod Choice
 pub mod Inversions
 pub mod Recursions
+pub mod Tabulations
 pub mod NodeWords
 pub mod NodeLaws
 pub mod RuleNodes

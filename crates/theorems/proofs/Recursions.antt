@@ -121,3 +121,21 @@ since-recursion p q i = let e : suc i - 0 ≡ suc i = omega arith in rw e (since
 pub prev-recursion : (p : ℕ → Bool) (i : ℕ) → prevAt p i ≡ prevB p i
 prev-recursion p zero = refl
 prev-recursion p (suc i) = let e : suc i - 1 ≡ i = omega arith in rw (lt-ltb 0 (suc i) (omega arith), e)
+
+-- until and since at a place, by the next place and by the place before
+module _ (weak : Bool) (L : ℕ) (p q : ℕ → Bool) where
+  pub until-end : untilAt weak L p q L ≡ weak
+  until-end = let e : L - L ≡ 0 = omega arith in until-recursion weak L p q L ∙ rw e
+
+  pub until-step : (i : ℕ) → i < L → untilAt weak L p q i ≡ (q i || (p i && untilAt weak L p q (suc i)))
+  until-step i h =
+      let e : L - i ≡ suc (L - suc i) = omega arith in
+      let turn : untilN weak p q (L - i) i ≡ (q i || (p i && untilN weak p q (L - suc i) (suc i))) = rw e in
+      until-recursion weak L p q i ∙ (turn ∙ ap (λ (b : Bool). q i || (p i && b)) (sym (until-recursion weak L p q (suc i))))
+
+module _ (p q : ℕ → Bool) where
+  pub since-start : sinceAt p q 0 ≡ q 0
+  since-start = since-recursion p q 0 ∙ (ap (λ (b : Bool). q 0 || b) (and-false (p 0)) ∙ or-false (q 0))
+
+  pub since-step : (i : ℕ) → sinceAt p q (suc i) ≡ (q (suc i) || (p (suc i) && sinceAt p q i))
+  since-step i = since-recursion p q (suc i) ∙ ap (λ (b : Bool). q (suc i) || (p (suc i) && b)) (sym (since-recursion p q i))

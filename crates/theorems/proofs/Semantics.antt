@@ -9,9 +9,9 @@ use lib.Seq.{getD-at}
 use lib.Dec.{ltb}
 use native.Mathlib.Decide.{ℕ-discrete, decLt}
 use borrow.Author.Tests.{ltb-true}
-use Rattle.definitions.specs.Bounded.{tabulateFrom, tabulate}
 use Rattle.definitions.specs.Nodes.{Kind, True, Atom, Not, Or, Next, Until, Prev, Since, Run, End, Unknown, Node}
 use Rattle.definitions.specs.Readings.{Trace, reading, Rows, noRows, rowOf, readFrom, nodeRows, rowsAfter, rowsOf, verdict}
+use Rattle.theorems.proofs.Tabulations.{tabulate-at}
 use Rattle.theorems.proofs.Recursions.{untilN, sinceB, prevB, until-recursion, since-recursion, prev-recursion}
 
 -- a reading at each place, weak and strong
@@ -123,18 +123,10 @@ ev-agree t f g h Run a b d i l = refl
 ev-agree t f g h End a b d i l = refl
 ev-agree t f g h Unknown a b d i l = refl
 
-tabulated-at : (f : ℕ → Bool) (n k i : ℕ) → i < n → getD (tabulateFrom n k f) i false ≡ f (k + i)
-tabulated-at f zero k i h = absurd (omega arith)
-tabulated-at f (suc n) k zero h = let e : k + 0 ≡ k = omega arith in rw e
-tabulated-at f (suc n) k (suc i) h = let e : suc k + i ≡ k + suc i = omega arith in tabulated-at f n (suc k) i (omega arith) ∙ rw e
-
-pub tabulate-at : (f : ℕ → Bool) (n i : ℕ) → i < n → getD (tabulate n f) i false ≡ f i
-tabulate-at f n i h = let e : 0 + i ≡ i = omega arith in tabulated-at f n 0 i h ∙ rw e
-
 row-at : (t : Trace) (rs : List Rows) (n : Node) (d : Bool) (i : ℕ) → i < t .places →
     getD (rowOf d (nodeRows t rs n)) i false ≡ reading t (readFrom rs) (n .kind) (n .first) (n .second) d i
-row-at t rs n true i h = tabulate-at (reading t (readFrom rs) (n .kind) (n .first) (n .second) true) (t .places) i h
-row-at t rs n false i h = tabulate-at (reading t (readFrom rs) (n .kind) (n .first) (n .second) false) (t .places) i h
+row-at t rs n true i h = tabulate-at (t .places) (reading t (readFrom rs) (n .kind) (n .first) (n .second) true) i h
+row-at t rs n false i h = tabulate-at (t .places) (reading t (readFrom rs) (n .kind) (n .first) (n .second) false) i h
 
 -- rows of the definitions and functions say the same of the nodes so far
 record Same (t : Trace) (rs : List Rows) (fs : List Row) : Type 0 where
