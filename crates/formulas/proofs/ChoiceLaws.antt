@@ -1,9 +1,10 @@
--- Choice by a test, as the code of `choose` has it.
+-- Choice by a test, as the code of `pick` and `or_else` has it.
 use mathlib.Core.Bool.{Bool, true, false}
 use mathlib.Core.Path.{_≡_}
 use Prim.Native.Nat.{ℕ}
 use borrow.Author.Needs.{needs}
-use Rattle.definitions.specs.Bounded.{pick}
+use lib.Dec.{eqb}
+use Rattle.definitions.specs.Bounded.{pick, orElse}
 
 pub pick-yes : (z : Bool) (a b : ℕ) → z ≡ true → a ≡ pick z a b
 unfolding pick
@@ -13,4 +14,8 @@ pub pick-no : (z : Bool) (a b : ℕ) → z ≡ false → b ≡ pick z a b
 unfolding pick
 pick-no z a b e = rw e
 
-pub ruleset choices = (needs, pick-yes, pick-no)
+pub or-else-is : (r number other : ℕ) → r ≡ pick (eqb number 0) other number → r ≡ orElse number other
+unfolding orElse
+or-else-is r number other e = e
+
+pub ruleset choices = (needs, pick-yes, pick-no, or-else-is)

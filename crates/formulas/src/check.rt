@@ -1,22 +1,12 @@
 // The check of a table: the first refusal that is met, 0 for none.
 ghost use mathlib.Core.Path.{_≡_};
-ghost use Rattle.definitions.specs.Bounded.{pick};
 ghost use Rattle.definitions.specs.Nodes.{node, kindOf, operands};
 ghost use Rattle.definitions.specs.Tables.{isUnknown, isRewritten, isAtom, unusedSet, operandLate, nodeRefusal, nodesRefusal, ruleHeadingRefusal, ruleRefusal, tableRefusal};
 ghost use Rattle.formulas.specs.Meaning.{meaning};
+use super::choice::pick;
 use super::limits::Limits;
 use super::limits::Refusal;
 use super::node::Node;
-
-// A choice by a test is a call, so that a table of cases is one expression.
-pub fn choose(test: bool, yes: u8, no: u8) -> u8
-    ensures { λ r. ⌜ r ≡ pick test yes no ⌝ }
-{
-    if test {
-        return yes;
-    }
-    no
-}
 
 pub fn is_unknown(kind: u8) -> bool
     ensures { λ r. ⌜ r ≡ isUnknown (kindOf kind) ⌝ }
@@ -43,7 +33,7 @@ pub fn operand_count(kind: u8) -> u8
 {
     let two = (kind == Node::OR) | (kind == Node::UNTIL) | (kind == Node::SINCE);
     let none = (kind == Node::TRUE) | (Node::SINCE < kind);
-    choose(none, 0, choose(two, 2, 1))
+    pick(none, 0, pick(two, 2, 1))
 }
 
 // An unused operand is not 0.
@@ -74,8 +64,8 @@ pub fn node_refusal(rewritten: bool, i: usize, n: Node) -> u8
     let misplaced = is_rewritten(kind) & !rewritten;
     let outside = is_unknown(kind) | misplaced | high | unused_set(kind, first, second);
     let late = !atom & operand_late(i, kind, first, second);
-    let operand = choose(late, Refusal::RULE_OPERAND, Refusal::NONE);
-    choose(outside, Refusal::RULE_LIMITS, operand)
+    let operand = pick(late, Refusal::RULE_OPERAND, Refusal::NONE);
+    pick(outside, Refusal::RULE_LIMITS, operand)
 }
 
 // The nodes that are there, in order, then a node missing.
@@ -101,7 +91,7 @@ pub fn rule_heading_refusal(controller: usize, count: usize) -> u8
     ensures { λ r. ⌜ r ≡ ruleHeadingRefusal controller count ⌝ }
 {
     let fits = (controller < Limits::CONTROLLERS) & ((1 <= count) & (count <= Limits::RULE_NODES));
-    choose(fits, Refusal::NONE, Refusal::RULE_LIMITS)
+    pick(fits, Refusal::NONE, Refusal::RULE_LIMITS)
 }
 
 // The heading, then the nodes.
@@ -120,7 +110,7 @@ pub fn table_refusal(count: usize, nodes: &[u32], weak_top: usize, strong_top: u
     ensures { λ r. ⌜ r ≡ tableRefusal (record { count = count; nodes = now (nodes .entry); weakTop = «weak_top»; strongTop = «strong_top» }) ⌝ }
 {
     let some = (1 <= count) & (count <= Limits::TABLE_NODES);
-    let heading = choose(some, Refusal::NONE, Refusal::RULE_LIMITS);
+    let heading = pick(some, Refusal::NONE, Refusal::RULE_LIMITS);
     if heading != Refusal::NONE {
         return heading;
     }
@@ -129,5 +119,5 @@ pub fn table_refusal(count: usize, nodes: &[u32], weak_top: usize, strong_top: u
         return refusal;
     }
     let tops = (weak_top < count) & (strong_top < count);
-    choose(tops, Refusal::NONE, Refusal::RULE_LIMITS)
+    pick(tops, Refusal::NONE, Refusal::RULE_LIMITS)
 }

@@ -22,11 +22,11 @@ unused-set-requires c κs = search needs
 operand-late-requires : tie.Need-operand-late-requires
 operand-late-requires c κs = search needs
 
-choose-requires : tie.Need-choose-requires
-choose-requires c κs = search needs
+pick-requires : tie.Need-pick-requires
+pick-requires c κs = search needs
 
-choose-requires-2 : tie.Need-choose-requires-2
-choose-requires-2 c κs = search needs
+pick-requires-2 : tie.Need-pick-requires-2
+pick-requires-2 c κs = search needs
 
 returns : tie.Need-returns
 returns c = search (needs, node-tested)
@@ -41,6 +41,6 @@ node-refusal-spec =
     is-unknown-requires
     unused-set-requires
     operand-late-requires
-    choose-requires
-    choose-requires-2
+    pick-requires
+    pick-requires-2
     returns)

@@ -4,12 +4,12 @@ use Rattle.definitions.specs.Tables.{ruleHeadingRefusal}
 use Rattle.formulas.proofs.check.rule_heading_refusal.Statement.{statement}
 use Rattle.formulas.proofs.check.rule_heading_refusal.Tie as tie
 
-choose-requires : tie.Need-choose-requires
-choose-requires c κs = search needs
+pick-requires : tie.Need-pick-requires
+pick-requires c κs = search needs
 
 returns : tie.Need-returns
 unfolding ruleHeadingRefusal
 returns c = cc
 
 pub rule-heading-refusal-spec : {M : Type 1} → statement M
-rule-heading-refusal-spec = tie.close (tie.spec choose-requires returns)
+rule-heading-refusal-spec = tie.close (tie.spec pick-requires returns)

@@ -4,8 +4,8 @@ use Rattle.formulas.proofs.CheckLaws.{table-laws}
 use Rattle.formulas.proofs.check.table_refusal.Statement.{statement}
 use Rattle.formulas.proofs.check.table_refusal.Tie as tie
 
-choose-requires : tie.Need-choose-requires
-choose-requires c κs = search needs
+pick-requires : tie.Need-pick-requires
+pick-requires c κs = search needs
 
 returns : tie.Need-returns
 returns c = search table-laws
@@ -16,8 +16,8 @@ nodes-refusal-requires c κs = search needs
 returns-2 : tie.Need-returns-2
 returns-2 c = search table-laws
 
-choose-requires-2 : tie.Need-choose-requires-2
-choose-requires-2 c κs = search needs
+pick-requires-2 : tie.Need-pick-requires-2
+pick-requires-2 c κs = search needs
 
 returns-3 : tie.Need-returns-3
 returns-3 c = search table-laws
@@ -25,4 +25,4 @@ returns-3 c = search table-laws
 pub table-refusal-spec : {M : Type 1} → statement M
 table-refusal-spec =
     tie.close
-    (tie.spec choose-requires returns nodes-refusal-requires returns-2 choose-requires-2 returns-3)
+    (tie.spec pick-requires returns nodes-refusal-requires returns-2 pick-requires-2 returns-3)

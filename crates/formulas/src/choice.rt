@@ -1,0 +1,29 @@
+// Choice by a test, as the definitions have it: a table of cases is then a row of calls.
+ghost use mathlib.Core.Path.{_≡_};
+ghost use Rattle.definitions.specs.Bounded.{pick, orElse};
+use super::limits::Refusal;
+
+pub fn pick(test: bool, yes: u8, no: u8) -> u8
+    ensures { λ r. ⌜ r ≡ pick test yes no ⌝ }
+{
+    if test {
+        return yes;
+    }
+    no
+}
+
+pub fn pick_index(test: bool, yes: usize, no: usize) -> usize
+    ensures { λ r. ⌜ r ≡ pick test yes no ⌝ }
+{
+    if test {
+        return yes;
+    }
+    no
+}
+
+// The first refusal, or the other.
+pub fn or_else(number: u8, other: u8) -> u8
+    ensures { λ r. ⌜ r ≡ orElse number other ⌝ }
+{
+    pick(number == Refusal::NONE, other, number)
+}
