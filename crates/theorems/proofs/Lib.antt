@@ -7,6 +7,8 @@ pub mod NodeLaws
 pub mod RuleNodes
 pub mod TableNodes
 pub mod Counts
+pub mod RefusalBounds
+pub mod LentSpace
 pub mod RewrittenAccepted
 pub mod Walk
 pub mod Operators

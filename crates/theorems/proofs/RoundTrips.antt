@@ -15,6 +15,7 @@ use Rattle.definitions.specs.RuleText.{RuleScan, scanRule, scanNodes, nodesText
 use Rattle.definitions.specs.Operations.{answer, tooShort, left, readRuleNumber, readRuleAnswer, readRuleNodes, textOf, writeRuleNumber, writeRuleAnswer, writeRuleText}
 use Rattle.theorems.proofs.Choice.{pick-other, pick-false}
 use Rattle.theorems.proofs.Inversions.{first-accepted}
+use Rattle.theorems.proofs.LentSpace.{left-accepted}
 use Rattle.theorems.proofs.SplitLaws.{join}
 use Rattle.theorems.proofs.NodeLaws.{accepted-heading, accepted-rule}
 use Rattle.theorems.proofs.RuleTextSteps.{headingText, rule-lines}
@@ -84,11 +85,6 @@ pub record Written (r : Rule) (buffer text : List ℕ) : Type 0 where
 pub record Read (text nodes : List ℕ) (r : Rule) : Type 0 where
   pub answered : readRuleAnswer text nodes ≡ answer 0 (r .controller ∷ r .count ∷ [])
   pub holds : readRuleNodes text nodes ≡ take (r .count) (r .nodes) ++ (replicate (maxRuleNodes - r .count) 0 ++ drop maxRuleNodes nodes)
-
--- accepted, lent space holds the content, then zeros, then what it had
-left-accepted : (full : ℕ) (content entry : List ℕ) → left 0 full content entry ≡ content ++ (replicate (full - length content) 0 ++ drop full entry)
-unfolding left pick
-left-accepted full content entry = refl
 
 -- lent space is not short: the number is the reader's, or the check's
 enough : (full number : ℕ) (entry : List ℕ) → full ≤ length entry → pick (tooShort full entry) lentShort number ≡ number
