@@ -1,0 +1,4 @@
+pub mod MaskLaws
+pub mod CheckLaws
+pub mod ProjectLaws
+pub mod OperationLaws

@@ -1,0 +1,17 @@
+-- `traces::state::runs` meets its contract.
+use borrow.Author.Needs.{needs}
+use Rattle.traces.proofs.CheckLaws.{output-laws}
+use Rattle.traces.proofs.state.runs.Statement.{statement}
+use Rattle.traces.proofs.state.runs.Tie as tie
+
+marks-of-requires : tie.Need-marks-of-requires
+marks-of-requires c κs = search needs
+
+shr-result : tie.Need-shr-result
+shr-result c = search needs
+
+returns : tie.Need-returns
+returns c = search output-laws
+
+pub runs-spec : {M : Type 1} → statement M
+runs-spec = tie.close (tie.spec marks-of-requires shr-result returns)

@@ -1,0 +1,4 @@
+pub mod Unions
+pub mod Turns
+pub mod Places
+pub mod Answers
