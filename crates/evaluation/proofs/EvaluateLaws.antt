@@ -1,0 +1,179 @@
+-- One law for each need of the evaluator: a node's rows, the rows laid, and the loop.
+use mathlib.Core.Path.{_≡_, refl, sym, ap, ap₂, _∙_}
+use mathlib.Core.Bool.{Bool, true, false}
+use mathlib.Core.List.{List, [], _∷_, _++_}
+use Prim.Native.Nat.{ℕ, _+_, _*_, _<_, _≤_}
+use native.Mathlib.Omega.{arith}
+use lib.ListN.{length, take, drop, getD, length-append, length-drop, take-append-drop}
+use lib.Seq.{take-at, drop-at, drop-drop}
+use borrow.Author.Needs.{needs}
+use Rattle.definitions.specs.Limits.{pairWords}
+use Rattle.definitions.specs.Nodes.{node, nodeOf, kindOf}
+use Rattle.definitions.specs.Tables.{nodesIn}
+use Rattle.definitions.specs.Readings.{Rows, noRows, nodeRows, rowsOf, rowWords, pairsWords}
+use Rattle.formulas.specs.Meaning.{meaning, OfWord}
+use Rattle.formulas.specs.declared.node.Node as code
+use Rattle.rows.specs.Marks.{marks}
+use Rattle.rows.proofs.LentLaws.{loaded, pairs-length, weak-words, strong-words, pair-laid}
+use Rattle.evaluation.specs.declared.pair.Pair.{Pair}
+use Rattle.evaluation.specs.Traced.{traceOf}
+use Rattle.evaluation.specs.Nodes.{isLeaf, Fit, LeafReady, Evaluable, Ready, rowsTo, rowsAt}
+use Rattle.evaluation.specs.Pairs.{rowsIn, PairMade, Operable, operated, pairAt, pairOfNode, Operands, operandPlaces, operatorRows}
+use Rattle.evaluation.proofs.KindLaws.{leaf-is}
+use Rattle.evaluation.proofs.TableLaws.{rows-more, rows-length, rows-sized, nodes-more, nodes-length, operated-is, leaf-rows}
+
+-- ---- pairs
+
+pub rows-in : (p : Pair) (n : ℕ) (r : Rows) → PairMade p n r → rowsIn p ≡ r
+rows-in p n r m = ap₂ (λ w s. record { weak = w; strong = s }) (m .weak .marked) (m .strong .marked)
+
+pub pair-same : (p : Pair) (n : ℕ) (r s : Rows) → PairMade p n r → r ≡ s → PairMade p n s
+pair-same p n r s m e = rw e at m
+
+pub both-made : (p q : Pair) (n : ℕ) (r s : Rows) → PairMade p n r → PairMade q n s → Operable p q
+both-made p q n r s m o = record {
+  firstWeak = m .weak .whole;
+  firstStrong = m .strong .whole;
+  secondWeak = o .weak .whole;
+  secondStrong = o .strong .whole;
+  firstEven = m .strong .count ∙ sym (m .weak .count);
+  secondFirst = o .weak .count ∙ sym (m .weak .count);
+  secondEven = o .strong .count ∙ sym (m .weak .count);
+}
+
+-- ---- a node's turn
+
+-- the operands of an operator, as they were loaded
+module _ (kind first second : ℕ) (rows : List ℕ) (p q : Pair) (e : p ≡ pairOfNode rows first) (g : q ≡ pairOfNode rows second) where
+  pub operands-even : Operands kind first second rows → Operable p q
+  operands-even o = rw (e, g) (o .laid)
+
+  pub operator-rows : (r : Pair) → PairMade r (p .weak .count) (operated (kindOf kind) (p .weak .count) (rowsIn p) (rowsIn q))
+      → PairMade r (operandPlaces first rows) (operatorRows kind first second rows)
+  operator-rows r m = rw (e, g) at m
+
+module _ (nodes : List ℕ) (i : ℕ) (states : List ℕ) (n c own : ℕ) (rows : List ℕ) (ready : Ready nodes i states n c own rows) where
+  abbrev before : List Rows
+  before = rowsTo nodes i states n c own
+
+  before-length : length before ≡ i
+  before-length = rows-length (traceOf states n c own) (nodesIn i nodes) ∙ nodes-length nodes i (omega (arith, ready .counted))
+
+  laid-whole : rows ≡ pairsWords before ++ drop (i * pairWords) rows
+  laid-whole = sym (take-append-drop (i * pairWords) rows) ∙ ap (λ (l : List ℕ). l ++ drop (i * pairWords) rows) (ready .laid)
+
+  pair-loaded : (k : ℕ) (p : Pair) → p ≡ pairAt rows (k * pairWords) → k < i → PairMade p n (getD before k noRows)
+  unfolding pairAt
+  pair-loaded k p e h =
+      let hk : k < length before = rw before-length h in
+      let sizes = rows-sized (traceOf states n c own) (nodesIn i nodes) k hk in
+      record {
+        weak = loaded rows (k * pairWords) n ((getD before k noRows) .weak) (p .weak) (ap (λ (q : Pair). q .weak) e)
+            (ap (λ (l : List ℕ). take 3 (drop (k * pairWords) l)) laid-whole ∙ weak-words before (drop (i * pairWords) rows) k hk) (sizes .0) (ready .few);
+        strong = loaded rows (k * pairWords + 3) n ((getD before k noRows) .strong) (p .strong) (ap (λ (q : Pair). q .strong) e)
+            (ap (λ (l : List ℕ). take 3 (drop (k * pairWords + 3) l)) laid-whole ∙ strong-words before (drop (i * pairWords) rows) k hk) (sizes .1) (ready .few);
+      }
+
+  module _ (x : code.Node) (word : OfWord (getD nodes i 0) x) where
+    fit-of : Fit i (meaning x)
+    fit-of = rw (word .meant) (ready .fit)
+
+    module _ (leaf : Bool) (tested : leaf ≡ isLeaf (kindOf (x .kind))) where
+      pub leaf-ready : leaf ≡ true → LeafReady (x .kind) (x .first) states n c
+      leaf-ready t = record {
+        leaf = sym tested ∙ t;
+        known = fit-of .known;
+        atom = fit-of .atom;
+        few = ready .few;
+        there = ready .there;
+        controller = ready .controller;
+      }
+
+      pub leaf-turn : leaf ≡ true → (r : Pair) → PairMade r n (nodeRows (traceOf states n c own) [] (node (kindOf (x .kind)) (x .first) 0)) → PairMade r n (rowsAt nodes i states n c own)
+      leaf-turn t r m =
+          pair-same r n (nodeRows (traceOf states n c own) [] (node (kindOf (x .kind)) (x .first) 0)) (rowsAt nodes i states n c own) m
+          (leaf-rows states n c own before (kindOf (x .kind)) (x .first) (x .second) (sym tested ∙ t) ∙ ap (nodeRows (traceOf states n c own) before) (word .meant))
+
+      module _ (f : leaf ≡ false) where
+        first-made : PairMade (pairOfNode rows (x .first)) n (getD before (x .first) noRows)
+        first-made = pair-loaded (x .first) (pairOfNode rows (x .first)) refl (fit-of .first (sym tested ∙ f))
+
+        second-made : PairMade (pairOfNode rows (x .second)) n (getD before (x .second) noRows)
+        second-made = pair-loaded (x .second) (pairOfNode rows (x .second)) refl (fit-of .second (sym tested ∙ f))
+
+        pub operands-laid : Operands (x .kind) (x .first) (x .second) rows
+        operands-laid = record {
+          operator = sym tested ∙ f;
+          firstRoom = omega (arith, fit-of .first (sym tested ∙ f), ready .room);
+          secondRoom = omega (arith, fit-of .second (sym tested ∙ f), ready .room);
+          laid = both-made (pairOfNode rows (x .first)) (pairOfNode rows (x .second)) n (getD before (x .first) noRows) (getD before (x .second) noRows) first-made second-made;
+        }
+
+        pub operator-turn : (r : Pair) → PairMade r (operandPlaces (x .first) rows) (operatorRows (x .kind) (x .first) (x .second) rows) → PairMade r n (rowsAt nodes i states n c own)
+        operator-turn r m =
+            let ps = rows-in (pairOfNode rows (x .first)) n (getD before (x .first) noRows) first-made in
+            let qs = rows-in (pairOfNode rows (x .second)) n (getD before (x .second) noRows) second-made in
+            pair-same r n (operated (kindOf (x .kind)) n (getD before (x .first) noRows) (getD before (x .second) noRows)) (rowsAt nodes i states n c own)
+            (rw (ps, qs, first-made .weak .count) at m)
+            (operated-is states n c own before (kindOf (x .kind)) (x .first) (x .second) (sym tested ∙ f) ∙ ap (nodeRows (traceOf states n c own) before) (word .meant))
+
+  pub turn-laid : (p : Pair) (l′ l″ : List ℕ) → PairMade p n (rowsAt nodes i states n c own)
+      → l′ ≡ take (i * pairWords) rows ++ (rowWords (marks (p .weak)) ++ drop (i * pairWords + 3) rows)
+      → l″ ≡ take (i * pairWords + 3) l′ ++ (rowWords (marks (p .strong)) ++ drop (i * pairWords + 3 + 3) l′)
+      → l″ ≡ pairsWords (rowsTo nodes (i + 1) states n c own) ++ drop ((i + 1) * pairWords) rows
+  turn-laid p l′ l″ m a b =
+      let more : rowsTo nodes (i + 1) states n c own ≡ before ++ (rowsAt nodes i states n c own ∷ []) =
+      ap (rowsOf (traceOf states n c own)) (nodes-more nodes i (ready .counted)) ∙ rows-more (traceOf states n c own) (nodesIn i nodes) (nodeOf (getD nodes i 0)) in
+      rw (more, ← rows-in p n (rowsAt nodes i states n c own) m)
+      (pair-laid rows rows l′ l″ before i (rowsIn p) laid-whole before-length a b)
+
+-- ---- the loop
+
+-- before node i: the rows of the nodes before it are laid, and what is lent past them is as it was
+pub record Evaluated (nodes : List ℕ) (count : ℕ) (states : List ℕ) (n c own : ℕ) (entry : List ℕ) (i : ℕ) (l : List ℕ) : Type 0 where
+  pub within : i ≤ count
+  pub laid : l ≡ pairsWords (rowsTo nodes i states n c own) ++ drop (i * pairWords) entry
+
+pub evaluated-none : (nodes : List ℕ) (count : ℕ) (states : List ℕ) (n c own : ℕ) (entry : List ℕ) → Evaluated nodes count states n c own entry 0 entry
+unfolding rowsOf
+evaluated-none nodes count states n c own entry = record { within = omega arith; laid = refl }
+
+module _ (nodes : List ℕ) (count : ℕ) (states : List ℕ) (n c own : ℕ) (entry : List ℕ) (i : ℕ) (l : List ℕ)
+    (given : Evaluable nodes count states n c entry) (so : Evaluated nodes count states n c own entry i l) where
+  front-length : length (pairsWords (rowsTo nodes i states n c own)) ≡ i * pairWords
+  front-length =
+      let a = nodes-length nodes i (omega (arith, given .counted, so .within)) in
+      let b = rows-length (traceOf states n c own) (nodesIn i nodes) in
+      omega (arith, pairs-length (rowsTo nodes i states n c own))
+
+  pub evaluated-length : length l ≡ length entry
+  evaluated-length =
+      let room : i * pairWords ≤ length entry = omega (arith, given .room, so .within) in
+      ap length (so .laid) ∙ rw (length-append, length-drop, front-length) (omega arith)
+
+  pub evaluated-ready : i < count → Ready nodes i states n c own l
+  evaluated-ready h = record {
+    counted = omega (arith, given .counted);
+    fit = given .fit i h;
+    few = given .few;
+    there = given .there;
+    controller = given .controller;
+    room = omega (arith, given .room, evaluated-length);
+    laid = ap (take (i * pairWords)) (so .laid) ∙ take-at (pairsWords (rowsTo nodes i states n c own)) (drop (i * pairWords) entry) (i * pairWords) front-length;
+  }
+
+  pub evaluated-more : i < count → (l′ : List ℕ) → l′ ≡ pairsWords (rowsTo nodes (i + 1) states n c own) ++ drop ((i + 1) * pairWords) l
+      → Evaluated nodes count states n c own entry (i + 1) l′
+  evaluated-more h l′ e =
+      let sum : i * pairWords + 6 ≡ (i + 1) * pairWords = omega arith in
+      let rest : drop (i * pairWords) l ≡ drop (i * pairWords) entry =
+      ap (drop (i * pairWords)) (so .laid) ∙ drop-at (pairsWords (rowsTo nodes i states n c own)) (drop (i * pairWords) entry) (i * pairWords) front-length in
+      let same : drop ((i + 1) * pairWords) l ≡ drop ((i + 1) * pairWords) entry =
+      rw sum at (sym (drop-drop 6 (i * pairWords) l) ∙ ap (drop 6) rest ∙ drop-drop 6 (i * pairWords) entry) in
+      record { within = omega arith; laid = e ∙ rw same }
+
+  pub evaluated-done : count ≤ i → l ≡ pairsWords (rowsTo nodes count states n c own) ++ drop (count * pairWords) entry
+  evaluated-done h = let e : i ≡ count = omega (arith, so .within) in rw e at (so .laid)
+
+pub ruleset table-laws =
+    (needs, leaf-is, operands-even, operator-rows, leaf-ready, leaf-turn, operands-laid, operator-turn, turn-laid, evaluated-none, evaluated-length, evaluated-ready, evaluated-more, evaluated-done)

@@ -1,0 +1,48 @@
+use Rattle.evaluation.proofs.EvaluateLaws.{table-laws}
+use Rattle.evaluation.proofs.evaluate.node_rows.Statement.{statement}
+use Rattle.evaluation.proofs.evaluate.node_rows.Tie as tie
+
+mul-of-word : tie.Need-mul-of-word
+mul-of-word c = search table-laws
+
+shared-slice-read-of-word : tie.Need-shared-slice-read-of-word
+shared-slice-read-of-word c = search table-laws
+
+of-word-requires : tie.Need-of-word-requires
+of-word-requires c κs = search table-laws
+
+cast-first : tie.Need-cast-first
+cast-first c = search table-laws
+
+is-leaf-requires : tie.Need-is-leaf-requires
+is-leaf-requires c κs = search table-laws
+
+leaf-requires : tie.Need-leaf-requires
+leaf-requires c κs = search table-laws
+
+returns : tie.Need-returns
+returns c = search table-laws
+
+cast-operator : tie.Need-cast-operator
+cast-operator c = search table-laws
+
+operator-requires : tie.Need-operator-requires
+operator-requires c κs = search table-laws
+
+returns-2 : tie.Need-returns-2
+returns-2 c = search table-laws
+
+pub node-rows-spec : {M : Type 1} → statement M
+node-rows-spec =
+    tie.close
+    (tie.spec
+    mul-of-word
+    shared-slice-read-of-word
+    of-word-requires
+    cast-first
+    is-leaf-requires
+    leaf-requires
+    returns
+    cast-operator
+    operator-requires
+    returns-2)

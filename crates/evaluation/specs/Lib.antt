@@ -1,0 +1,4 @@
+pub mod Traced
+pub mod Pairs
+pub mod Nodes
+pub mod Judging

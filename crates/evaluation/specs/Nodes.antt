@@ -1,0 +1,73 @@
+-- What the evaluator asks of a node, and of the lent rows when its turn comes.
+use mathlib.Core.Bool.{Bool, true, false}
+use mathlib.Core.List.{List}
+use mathlib.Core.Path.{_≡_}
+use Prim.Native.Nat.{ℕ, _+_, _*_, _<_, _≤_}
+use lib.ListN.{length, getD, take}
+use Rattle.definitions.specs.Limits.{atomCount, maxStates, maxControllers, pairWords}
+use Rattle.definitions.specs.Nodes.{Kind, True, Atom, Not, Or, Next, Until, Prev, Since, Run, End, Unknown, Node, nodeOf, kindOf}
+use Rattle.definitions.specs.Tables.{nodesIn}
+use Rattle.definitions.specs.Readings.{Rows, nodeRows, rowsOf, pairsWords}
+use Rattle.evaluation.specs.Traced.{traceOf}
+
+-- a kind that has no operand nodes
+abbrev pub isLeaf : Kind → Bool
+isLeaf True = true
+isLeaf Atom = true
+isLeaf Not = false
+isLeaf Or = false
+isLeaf Next = false
+isLeaf Until = false
+isLeaf Prev = false
+isLeaf Since = false
+isLeaf Run = true
+isLeaf End = true
+isLeaf Unknown = true
+
+-- node i of an accepted table: its atom is an atom, its operands are earlier nodes (an unused one is 0)
+pub record Fit (i : ℕ) (n : Node) : Type 0 where
+  pub known : n .kind ≡ Unknown → ⊥
+  pub atom : n .kind ≡ Atom → n .first < atomCount
+  pub first : isLeaf (n .kind) ≡ false → n .first < i
+  pub second : isLeaf (n .kind) ≡ false → n .second < i
+
+-- what a leaf's rows are gathered from
+pub record Gathered (states : List ℕ) (n : ℕ) : Type 0 where
+  pub few : n ≤ maxStates
+  pub there : n ≤ length states
+
+-- a leaf with its states
+pub record LeafReady (kind a : ℕ) (states : List ℕ) (n c : ℕ) : Type 0 where
+  pub leaf : isLeaf (kindOf kind) ≡ true
+  pub known : kindOf kind ≡ Unknown → ⊥
+  pub atom : kindOf kind ≡ Atom → a < atomCount
+  pub few : n ≤ maxStates
+  pub there : n ≤ length states
+  pub controller : c < maxControllers
+
+-- a table that can be evaluated over states into lent rows
+pub record Evaluable (nodes : List ℕ) (count : ℕ) (states : List ℕ) (n c : ℕ) (rows : List ℕ) : Type 0 where
+  pub counted : count ≤ length nodes
+  pub fit : (j : ℕ) → j < count → Fit j (nodeOf (getD nodes j 0))
+  pub few : n ≤ maxStates
+  pub there : n ≤ length states
+  pub controller : c < maxControllers
+  pub room : count * pairWords ≤ length rows
+
+-- the rows of the first i nodes
+abbrev pub rowsTo : List ℕ → ℕ → List ℕ → ℕ → ℕ → ℕ → List Rows
+rowsTo nodes i states n c own = rowsOf (traceOf states n c own) (nodesIn i nodes)
+
+-- node i's turn: the rows of the nodes before it are laid, and there is room for its own
+pub record Ready (nodes : List ℕ) (i : ℕ) (states : List ℕ) (n c own : ℕ) (rows : List ℕ) : Type 0 where
+  pub counted : i < length nodes
+  pub fit : Fit i (nodeOf (getD nodes i 0))
+  pub few : n ≤ maxStates
+  pub there : n ≤ length states
+  pub controller : c < maxControllers
+  pub room : (i + 1) * pairWords ≤ length rows
+  pub laid : take (i * pairWords) rows ≡ pairsWords (rowsTo nodes i states n c own)
+
+-- the rows of node i
+abbrev pub rowsAt : List ℕ → ℕ → List ℕ → ℕ → ℕ → ℕ → Rows
+rowsAt nodes i states n c own = nodeRows (traceOf states n c own) (rowsTo nodes i states n c own) (nodeOf (getD nodes i 0))

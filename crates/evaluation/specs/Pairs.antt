@@ -1,0 +1,60 @@
+-- A node's two rows, as the code has them.
+use mathlib.Core.Path.{_≡_}
+use mathlib.Core.List.{List, [], _∷_}
+use mathlib.Core.Bool.{false}
+use Prim.Native.Nat.{ℕ, _+_, _*_, _≤_}
+use lib.ListN.{length}
+use Rattle.definitions.specs.Limits.{pairWords}
+use Rattle.definitions.specs.Nodes.{Kind, node, kindOf}
+use Rattle.definitions.specs.Readings.{Rows, nodeRows}
+use Rattle.rows.specs.Marks.{marks, Whole, Made}
+use Rattle.rows.specs.Lent.{rowAt}
+use Rattle.evaluation.specs.declared.pair.Pair.{Pair}
+use Rattle.evaluation.specs.Nodes.{isLeaf}
+use Rattle.evaluation.specs.Traced.{bare}
+
+-- the rows that a pair holds
+abbrev pub rowsIn : Pair → Rows
+rowsIn p = record { weak = marks (p .weak); strong = marks (p .strong) }
+
+-- p holds the rows r, of n places
+pub record PairMade (p : Pair) (n : ℕ) (r : Rows) : Type 0 where
+  pub weak : Made (p .weak) n (r .weak)
+  pub strong : Made (p .strong) n (r .strong)
+
+-- two pairs whose rows cover the same places
+pub record Operable (p q : Pair) : Type 0 where
+  pub firstWeak : Whole (p .weak)
+  pub firstStrong : Whole (p .strong)
+  pub secondWeak : Whole (q .weak)
+  pub secondStrong : Whole (q .strong)
+  pub firstEven : p .strong .count ≡ p .weak .count
+  pub secondFirst : q .weak .count ≡ p .weak .count
+  pub secondEven : q .strong .count ≡ p .weak .count
+
+-- the rows of an operator over the rows of its operands: those of a node over nodes 0 and 1
+unfoldable pub operated : Kind → ℕ → Rows → Rows → Rows
+operated k n p q = nodeRows (bare n) (p ∷ q ∷ []) (node k 0 1)
+
+-- the pair that the six words from `at` on are
+unfoldable pub pairAt : List ℕ → ℕ → Pair
+pairAt l at = record { weak = rowAt l at; strong = rowAt l (at + 3) }
+
+-- the pair of node k
+abbrev pub pairOfNode : List ℕ → ℕ → Pair
+pairOfNode rows k = pairAt rows (k * pairWords)
+
+-- an operator whose operands' rows are laid
+pub record Operands (kind first second : ℕ) (rows : List ℕ) : Type 0 where
+  pub operator : isLeaf (kindOf kind) ≡ false
+  pub firstRoom : first * pairWords + pairWords ≤ length rows
+  pub secondRoom : second * pairWords + pairWords ≤ length rows
+  pub laid : Operable (pairOfNode rows first) (pairOfNode rows second)
+
+-- how many places the first operand's rows cover
+abbrev pub operandPlaces : ℕ → List ℕ → ℕ
+operandPlaces first rows = pairOfNode rows first .weak .count
+
+-- the rows of an operator over the rows that are laid
+abbrev pub operatorRows : ℕ → ℕ → ℕ → List ℕ → Rows
+operatorRows kind first second rows = operated (kindOf kind) (operandPlaces first rows) (rowsIn (pairOfNode rows first)) (rowsIn (pairOfNode rows second))

@@ -1,0 +1,39 @@
+-- The trace that state words are: one trace serves both judges.
+use Prim.Native.Nat.{ℕ, suc, _+_, _-_, _^_}
+use mathlib.Core.Bool.{Bool, true, false, cond}
+use mathlib.Core.List.{List}
+use lib.ListN.{getD}
+use lib.Dec.{ltb}
+use Rattle.definitions.specs.Limits.{atomCount}
+use Rattle.definitions.specs.Bounded.{tabulate, bitOf}
+use Rattle.definitions.specs.Projection.{endAt}
+use Rattle.definitions.specs.Readings.{Trace, Rows}
+
+-- atom a of state i: an atom outside `own` is foreign, weak yes and strong no at the last place
+abbrev pub stateAtom : List ℕ → ℕ → ℕ → ℕ → Bool → ℕ → Bool
+stateAtom states n own a weak i = cond (bitOf own a) (bitOf (getD states i 0) a) (cond (ltb (suc i) n) (bitOf (getD states i 0) a) weak)
+
+-- c is marked in state i
+abbrev pub stateRun : List ℕ → ℕ → ℕ → Bool
+stateRun states c i = bitOf (getD states i 0) (atomCount + c)
+
+-- the trace of the first n states, for controller c that owns the atoms of `own`
+abbrev pub traceOf : List ℕ → ℕ → ℕ → ℕ → Trace
+traceOf states n c own = record {
+  places = n;
+  atom = stateAtom states n own;
+  run = stateRun states c;
+  end = endAt (stateRun states c) n;
+}
+
+-- the mask of all 32 atoms: over the whole recording none is foreign
+abbrev pub everyAtom : ℕ
+everyAtom = 2 ^ atomCount - 1
+
+-- a trace of n places in which no atom, run or end holds: operators read no more of a trace than its places
+abbrev pub bare : ℕ → Trace
+bare n = record { places = n; atom = λ a weak i. false; run = λ i. false; end = λ i. false }
+
+-- the rows of atom a
+abbrev pub atomRows : List ℕ → ℕ → ℕ → ℕ → Rows
+atomRows states n own a = record { weak = tabulate n (stateAtom states n own a true); strong = tabulate n (stateAtom states n own a false) }

@@ -1,0 +1,91 @@
+// The evaluator of a table over a trace of state words, both readings, into lent rows.
+ghost use mathlib.Core.Path.{_≡_};
+ghost use mathlib.Core.List.{_++_};
+ghost use Prim.Native.Nat.{_+_, _*_};
+ghost use lib.ListN.{drop};
+ghost use Rattle.definitions.specs.Limits.{pairWords};
+ghost use Rattle.definitions.specs.Nodes.{kindOf};
+ghost use Rattle.definitions.specs.Readings.{pairsWords};
+ghost use Rattle.evaluation.specs.Nodes.{isLeaf, Ready, Evaluable, rowsTo, rowsAt};
+ghost use Rattle.evaluation.specs.Pairs.{PairMade, Operands, operandPlaces, operatorRows};
+use super::leaf::leaf;
+use super::pair::Pair;
+use super::pair::load_pair;
+use super::pair::operate;
+use formulas::limits::Limits;
+use formulas::node::Node;
+use rows::lent::store;
+
+// Kinds without operand nodes.
+fn is_leaf(kind: u8) -> bool
+    ensures { λ r. ⌜ r ≡ isLeaf (kindOf kind) ⌝ }
+{
+    (kind < Node::NOT) | (Node::SINCE < kind)
+}
+
+// An unused operand is 0, which is a node before it too.
+fn operator(kind: u8, first: usize, second: usize, rows: &[u64]) -> Pair
+    requires { ⌜ Operands kind first second (now rows) ⌝ }
+    ensures { λ r. ⌜ PairMade r (operandPlaces first (now (rows .entry))) (operatorRows kind first second (now (rows .entry))) ⌝ }
+{
+    let p = load_pair(rows, first * Limits::PAIR_WORDS);
+    let q = load_pair(rows, second * Limits::PAIR_WORDS);
+    operate(kind, p, q)
+}
+
+// Node i's two rows, from the rows of the nodes before it.
+fn node_rows(
+    nodes: &[u32],
+    i: usize,
+    states: &[u64],
+    n: usize,
+    c: usize,
+    own: u32,
+    rows: &[u64],
+) -> Pair
+    requires { ⌜ Ready (now nodes) i (now states) n c own (now rows) ⌝ }
+    ensures { λ r. ⌜ PairMade r n (rowsAt (now (nodes .entry)) i (now (states .entry)) n c own) ⌝ }
+{
+    let node = Node::of_word(nodes[i]);
+    let kind = node.kind;
+    let first = node.first as usize;
+    if is_leaf(kind) {
+        return leaf(kind, first, states, n, c, own);
+    }
+    operator(kind, first, node.second as usize, rows)
+}
+
+fn evaluate_node(
+    nodes: &[u32],
+    i: usize,
+    states: &[u64],
+    n: usize,
+    c: usize,
+    own: u32,
+    rows: &mut [u64],
+)
+    requires { ⌜ Ready (now nodes) i (now states) n c own (now rows) ⌝ }
+    ensures { λ _. ⌜ now (rows .exit) ≡ pairsWords (rowsTo (now (nodes .entry)) (i + 1) (now (states .entry)) n c own) ++ drop ((i + 1) * pairWords) (now (rows .entry)) ⌝ }
+{
+    let p = node_rows(nodes, i, states, n, c, own, rows);
+    store(rows, i * Limits::PAIR_WORDS, p.weak);
+    store(rows, i * Limits::PAIR_WORDS + Pair::STRONG, p.strong);
+}
+
+// Each node once, in order: its operands' rows are laid when its turn comes.
+pub fn evaluate(
+    nodes: &[u32],
+    count: usize,
+    states: &[u64],
+    n: usize,
+    c: usize,
+    own: u32,
+    rows: &mut [u64],
+)
+    requires { ⌜ Evaluable (now nodes) count (now states) n c (now rows) ⌝ }
+    ensures { λ _. ⌜ now (rows .exit) ≡ pairsWords (rowsTo (now (nodes .entry)) count (now (states .entry)) n c own) ++ drop (count * pairWords) (now (rows .entry)) ⌝ }
+{
+    for i in 0..count {
+        evaluate_node(nodes, i, states, n, c, own, rows);
+    }
+}

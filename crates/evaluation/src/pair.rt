@@ -1,0 +1,73 @@
+// A node's two rows, and the operators on them.
+ghost use mathlib.Core.Path.{_≡_};
+ghost use mathlib.Core.Bool.{false};
+ghost use Prim.Native.Nat.{_+_, _≤_};
+ghost use lib.ListN.{length};
+ghost use Rattle.definitions.specs.Limits.{pairWords};
+ghost use Rattle.definitions.specs.Nodes.{kindOf};
+ghost use Rattle.evaluation.specs.Nodes.{isLeaf};
+ghost use Rattle.evaluation.specs.Pairs.{rowsIn, PairMade, Operable, operated, pairAt};
+use formulas::node::Node;
+use rows::lent::load;
+use rows::row::Row;
+
+pub struct Pair {
+    pub weak: Row,
+    pub strong: Row,
+}
+
+impl Pair {
+    // Where the strong row lies in lent space, after the three words of the weak one.
+    pub const STRONG: usize = 3;
+}
+
+pub fn load_pair(rows: &[u64], at: usize) -> Pair
+    requires { ⌜ at + pairWords ≤ length (now rows) ⌝ }
+    ensures { λ r. ⌜ r ≡ pairAt (now (rows .entry)) at ⌝ }
+{
+    Pair {
+        weak: load(rows, at),
+        strong: load(rows, at + Pair::STRONG),
+    }
+}
+
+// The rows of kinds 2 to 7, each reading by itself; not swaps the readings.
+pub fn operate(kind: u8, p: Pair, q: Pair) -> Pair
+    requires { ⌜ (isLeaf (kindOf kind) ≡ false) × (Operable p q) ⌝ }
+    ensures { λ r. ⌜ PairMade r (p .weak .count) (operated (kindOf kind) (p .weak .count) (rowsIn p) (rowsIn q)) ⌝ }
+{
+    if kind == Node::NOT {
+        return Pair {
+            weak: p.strong.not(),
+            strong: p.weak.not(),
+        };
+    }
+    if kind == Node::OR {
+        return Pair {
+            weak: p.weak.or(q.weak),
+            strong: p.strong.or(q.strong),
+        };
+    }
+    if kind == Node::NEXT {
+        return Pair {
+            weak: p.weak.next(true),
+            strong: p.strong.next(false),
+        };
+    }
+    if kind == Node::UNTIL {
+        return Pair {
+            weak: p.weak.until(q.weak, true),
+            strong: p.strong.until(q.strong, false),
+        };
+    }
+    if kind == Node::PREV {
+        return Pair {
+            weak: p.weak.prev(),
+            strong: p.strong.prev(),
+        };
+    }
+    Pair {
+        weak: p.weak.since(q.weak),
+        strong: p.strong.since(q.strong),
+    }
+}
