@@ -1,0 +1,12 @@
+pub mod WordLaws
+pub mod BuiltLaws
+pub mod LineLaws
+pub mod AnswerLaws
+pub mod HeadingLaws
+pub mod ScanLaws
+pub mod LentLaws
+pub mod RuleLaws
+pub mod PenLaws
+pub mod WriteLaws
+pub mod RoundTrips
+pub mod CallerLaws

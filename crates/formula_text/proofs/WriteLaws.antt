@@ -1,0 +1,149 @@
+-- Laws of `write_rule`: one for each call that wants room, and for each return.
+use mathlib.Core.Path.{_≡_, refl, ap, sym, _∙_}
+use mathlib.Core.Bool.{Bool, false}
+use mathlib.Core.List.{List, [], _∷_, _++_, append-assoc}
+use Prim.Native.Nat.{ℕ, zero, suc, _+_, _-_, _<_, _≤_}
+use native.Mathlib.Omega.{arith}
+use lib.ListN.{length, take, length-append}
+use lib.Seq.{length-take-le}
+use borrow.Author.Needs.{needs}
+use borrow.Author.Tests.{lt-ltb, le-ltb}
+use mir.Syntax.{w32}
+use mir.Val.{Fits}
+use Rattle.definitions.specs.Limits.{maxControllers, maxRuleNodes, maxRuleBytes, lentShort}
+use Rattle.definitions.specs.Bounded.{pick, orElse}
+use Rattle.definitions.specs.Nodes.{nodeOf}
+use Rattle.definitions.specs.Tables.{Rule, nodeRefusal, nodesRefusal, ruleRefusal}
+use Rattle.definitions.specs.Lines.{tab, newline, digits}
+use Rattle.definitions.specs.RuleText.{ruleWord, nodesText, ruleText}
+use Rattle.definitions.specs.Operations.{textOf, writeRuleNumber, writeRuleAnswer, writeRuleText}
+use Rattle.theorems.proofs.Choice.{or-else-none}
+use Rattle.theorems.proofs.NodeLaws.{accepted-heading, accepted-rule}
+use Rattle.theorems.proofs.RoundTrips.{text-fits}
+use Rattle.rows.specs.Lent.{cleared}
+use Rattle.lines.specs.Printing.{laidAt, Printed}
+use Rattle.lines.proofs.PrintLaws.{printed-seq}
+use Rattle.formula_text.specs.Reading.{laid}
+use Rattle.formula_text.specs.Writing.{headingLine, headingSize, WroteRule}
+use Rattle.formula_text.specs.declared.write.RuleWritten.the-variants.{Length, Refused}
+use Rattle.formula_text.proofs.LentLaws.{cleared-words, cleared-all, left-accepted, left-refused, left-short, refused-answer, accepted-answer}
+use Rattle.formula_text.proofs.RuleLaws.{pick-low, node-low, heading-low}
+
+-- no refusal of a rule is that of lent space
+or-low : (a b : ℕ) → a < lentShort → b < lentShort → orElse a b < lentShort
+unfolding orElse
+or-low a b h k = pick-low _ _ _ k h
+
+nodes-low : (b : Bool) (i n : ℕ) (ws : List ℕ) → nodesRefusal b i n ws < lentShort
+unfolding nodesRefusal
+nodes-low b i zero ws = omega arith
+nodes-low b i (suc n) [] = omega arith
+nodes-low b i (suc n) (w ∷ ws) = or-low (nodeRefusal b i (nodeOf w)) (nodesRefusal b (i + 1) n ws) (node-low b i (nodeOf w)) (nodes-low b (i + 1) n ws)
+
+rule-low : (r : Rule) → ruleRefusal r < lentShort
+unfolding ruleRefusal
+rule-low r = or-low _ _ (heading-low (r .controller) (r .count)) (nodes-low false 0 (r .count) (r .nodes))
+
+-- an accepted rule has as many nodes as its count says
+enough-nodes : (b : Bool) (i n : ℕ) (ws : List ℕ) → nodesRefusal b i n ws ≡ 0 → n ≤ length ws
+unfolding nodesRefusal
+enough-nodes b i zero ws e = omega arith
+enough-nodes b i (suc n) [] e = absurd (omega arith)
+enough-nodes b i (suc n) (w ∷ ws) e =
+    let p = or-else-none (nodeRefusal b i (nodeOf w)) (nodesRefusal b (i + 1) n ws) e in
+    omega (arith, enough-nodes b (i + 1) n ws (p .1))
+
+-- the text is the first line and the node lines
+text-parts : (c n : ℕ) (ws : List ℕ) → ruleText c n ws ≡ headingLine c n ++ nodesText ws
+unfolding ruleText headingLine
+text-parts c n ws = simp append-assoc
+
+heading-size : (c n : ℕ) → length (headingLine c n) ≡ headingSize c n
+unfolding headingLine
+heading-size c n =
+    omega (arith, length-append ruleWord ((tab ∷ digits c) ++ ((tab ∷ digits n) ++ (newline ∷ []))), length-append (tab ∷ digits c) ((tab ∷ digits n) ++ (newline ∷ [])), length-append (tab ∷ digits n) (newline ∷ []))
+
+module _ (c n : ℕ) (ws o : List ℕ) where
+  abbrev rule : Rule
+  rule = record { controller = c; count = n; nodes = ws }
+
+  number-short : length o < maxRuleBytes → writeRuleNumber rule o ≡ lentShort
+  unfolding writeRuleNumber pick
+  number-short h = rw (lt-ltb (length o) maxRuleBytes h)
+
+  number-checked : maxRuleBytes ≤ length o → writeRuleNumber rule o ≡ ruleRefusal rule
+  unfolding writeRuleNumber pick
+  number-checked h = rw (le-ltb (length o) maxRuleBytes h)
+
+  pub write-short : length o < maxRuleBytes → WroteRule (record { controller = c; count = n; nodes = ws }) o (Refused lentShort) o
+  unfolding writeRuleAnswer writeRuleText
+  write-short h =
+      let e = number-short h in
+      record { answered = rw e (refused-answer lentShort _ (λ q. omega arith)); text = sym (left-short (writeRuleNumber rule o) maxRuleBytes (textOf rule) o e) }
+
+  module _ (long : maxRuleBytes ≤ length o) (k : ℕ) (ks : k ≡ ruleRefusal (record { controller = c; count = n; nodes = ws })) where
+    is : writeRuleNumber rule o ≡ k
+    is = number-checked long ∙ sym ks
+
+    pub write-refused : (k ≡ 0 → ⊥) → (o′ : List ℕ) → o′ ≡ cleared o 0 maxRuleBytes → WroteRule (record { controller = c; count = n; nodes = ws }) o (Refused k) o′
+    unfolding writeRuleAnswer writeRuleText
+    write-refused z o′ e = record {
+      answered = rw is (refused-answer k _ z);
+      text = cleared-all maxRuleBytes [] o o o′ (omega arith) refl e
+          ∙ sym (left-refused (writeRuleNumber rule o) maxRuleBytes (textOf rule) o (λ q. z (sym is ∙ q)) (rw (number-checked long) (rule-low rule)));
+    }
+
+    module _ (z : k ≡ 0) where
+      fine : ruleRefusal rule ≡ 0
+      fine = sym ks ∙ z
+
+      limits : (c < maxControllers) × ((1 ≤ n) × (n ≤ maxRuleNodes))
+      limits = accepted-heading c n (accepted-rule rule fine .0)
+
+      pub controller-fits : Fits w32 c
+      controller-fits = record { fits = omega (arith, limits .0) }
+
+      pub count-fits : Fits w32 n
+      count-fits = record { fits = omega (arith, limits .1 .1) }
+
+      pub count-within : n ≤ length ws
+      count-within = enough-nodes false 0 n ws (accepted-rule rule fine .1)
+
+      pub count-counts : n ≡ length (take n ws)
+      count-counts = sym (length-take-le n ws count-within)
+
+      parts : textOf rule ≡ headingLine c n ++ nodesText (take n ws)
+      parts = text-parts c n (take n ws)
+
+      sizes : headingSize c n + length (nodesText (take n ws)) ≤ maxRuleBytes
+      sizes = omega (arith, text-fits rule fine, ap length parts, length-append (headingLine c n) (nodesText (take n ws)), heading-size c n)
+
+      pub heading-room : headingSize c n ≤ length o
+      heading-room = omega (arith, sizes)
+
+      module _ (p : ℕ) (o′ : List ℕ) (kept : length o′ ≡ length o) (head : Printed (headingLine c n) o 0 p o′) where
+        pub nodes-room : p + length (nodesText (take n ws)) ≤ length o′
+        nodes-room = omega (arith, sizes, head .next, heading-size c n)
+
+        module _ (e : ℕ) (o″ : List ℕ) (lines : Printed (nodesText (take n ws)) o′ p e o″) where
+          whole : Printed (textOf rule) o 0 e o″
+          whole = rw parts (printed-seq (headingLine c n) (nodesText (take n ws)) o o′ o″ 0 p e (omega (arith, sizes, heading-size c n)) head lines)
+
+          pub text-ends : e ≤ maxRuleBytes
+          text-ends = omega (arith, whole .next, text-fits rule fine)
+
+          over : o″ ≡ laid (textOf rule) o
+          unfolding laidAt
+          over = let m : 0 + length (textOf rule) ≡ length (textOf rule) = omega arith in whole .lies ∙ rw m
+
+          pub write-accepted : (o‴ : List ℕ) → o‴ ≡ cleared o″ e maxRuleBytes → WroteRule (record { controller = c; count = n; nodes = ws }) o (Length e) o‴
+          unfolding writeRuleAnswer writeRuleText
+          write-accepted o‴ x =
+              let l : length (textOf rule) ≡ e = omega (arith, whole .next) in
+              record {
+                answered = rw (← l) (accepted-answer (writeRuleNumber rule o) (length (textOf rule) ∷ []) (is ∙ z));
+                text = cleared-words maxRuleBytes (textOf rule) o o″ o‴ (text-fits rule fine) over e l x
+                    ∙ sym (left-accepted (writeRuleNumber rule o) maxRuleBytes (textOf rule) o (is ∙ z));
+              }
+
+pub ruleset write-laws = (needs, write-short, write-refused, controller-fits, count-fits, count-within, count-counts, heading-room, nodes-room, text-ends, write-accepted)

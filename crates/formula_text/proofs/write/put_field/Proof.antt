@@ -1,0 +1,20 @@
+-- `put_field` meets its contract: one law for each return (PenLaws).
+use Rattle.formula_text.proofs.PenLaws.{field-laws}
+use borrow.Author.Needs.{needs}
+use Rattle.formula_text.proofs.write.put_field.Statement.{statement}
+use Rattle.formula_text.proofs.write.put_field.Tie as tie
+
+put-byte-requires : tie.Need-put-byte-requires
+put-byte-requires c κs = search needs
+
+print-requires : tie.Need-print-requires
+print-requires c κs = search needs
+
+same-length : tie.Need-same-length
+same-length c = search needs
+
+returns : tie.Need-returns
+returns c = search field-laws
+
+pub put-field-spec : {M : Type 1} → statement M
+put-field-spec = tie.close (tie.spec put-byte-requires print-requires same-length returns)

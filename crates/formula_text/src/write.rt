@@ -1,0 +1,97 @@
+// The writer of a rule text.
+ghost use mathlib.Core.List.{_∷_};
+ghost use Prim.Native.Nat.{_+_, _≤_};
+ghost use lib.ListN.{length};
+ghost use Rattle.definitions.specs.Lines.{tab, digits};
+ghost use Rattle.definitions.specs.RuleText.{nodeText, nodesText};
+ghost use Rattle.lines.specs.Printing.{Printed};
+ghost use Rattle.formulas.specs.Meaning.{meaning};
+ghost use Rattle.formula_text.specs.Writing.{headingLine, headingSize, WroteRule};
+use super::word;
+use formulas::check;
+use formulas::limits::Limits;
+use formulas::limits::Refusal;
+use formulas::node::Node;
+use lines::print;
+use lines::scan;
+use rows::lent;
+
+// The length of the text, or the refusal.
+pub enum RuleWritten {
+    Length(usize),
+    Refused(u8),
+}
+
+// A tab and the digits of `n`.
+fn put_field(n: u32, at: usize, text: &mut [u8]) -> usize
+    requires { ⌜ at + length (tab ∷ digits n) ≤ length (now text) ⌝ }
+    ensures { λ r. ⌜ Printed (tab ∷ digits n) (now (text .entry)) at r (now (text .exit)) ⌝ }
+{
+    let next = print::put_byte(scan::TAB, at, text);
+    print::print(n, next, text)
+}
+
+// The line of a node, without its end.
+fn put_node(n: Node, at: usize, text: &mut [u8]) -> usize
+    requires { ⌜ at + length (nodeText (meaning n)) ≤ length (now text) ⌝ }
+    ensures { λ r. ⌜ Printed (nodeText (meaning n)) (now (text .entry)) at r (now (text .exit)) ⌝ }
+{
+    let kind = n.kind;
+    let first = n.first;
+    let second = n.second;
+    let uses = check::operand_count(kind);
+    let after_kind = word::put_kind(kind, at, text);
+    if uses == 0 {
+        return after_kind;
+    }
+    let after_first = put_field(first as u32, after_kind, text);
+    if uses == 1 {
+        return after_first;
+    }
+    put_field(second as u32, after_first, text)
+}
+
+// The lines of the nodes.
+fn put_nodes(words: &[u32], start: usize, text: &mut [u8]) -> usize
+    requires { ⌜ start + length (nodesText (now words)) ≤ length (now text) ⌝ }
+    ensures { λ r. ⌜ Printed (nodesText (now (words .entry))) (now (text .entry)) start r (now (text .exit)) ⌝ }
+{
+    let mut at = start;
+    let mut i = 0;
+    while i < words.len() {
+        let end = put_node(Node::of_word(words[i]), at, text);
+        let next = print::put_byte(scan::NEWLINE, end, text);
+        at = next;
+        i += 1;
+    }
+    at
+}
+
+// The first line.
+fn put_heading(controller: u32, count: u32, text: &mut [u8]) -> usize
+    requires { ⌜ headingSize controller count ≤ length (now text) ⌝ }
+    ensures { λ r. ⌜ Printed (headingLine controller count) (now (text .entry)) 0 r (now (text .exit)) ⌝ }
+{
+    let after_word = print::put(b"rule", 0, text);
+    let after_controller = put_field(controller, after_word, text);
+    let after_count = put_field(count, after_controller, text);
+    print::put_byte(scan::NEWLINE, after_count, text)
+}
+
+// Writes the text of a rule into `text`.
+pub fn write_rule(controller: usize, count: usize, nodes: &[u32], text: &mut [u8]) -> RuleWritten
+    ensures { λ r. ⌜ WroteRule (record { controller = controller; count = count; nodes = now (nodes .entry) }) (now (text .entry)) r (now (text .exit)) ⌝ }
+{
+    if text.len() < Limits::RULE_BYTES {
+        return RuleWritten::Refused(Refusal::LENT_SHORT);
+    }
+    let refusal = check::rule_refusal(controller, count, nodes);
+    if refusal != Refusal::NONE {
+        lent::clear_u8(text, 0, Limits::RULE_BYTES);
+        return RuleWritten::Refused(refusal);
+    }
+    let after_heading = put_heading(controller as u32, count as u32, text);
+    let end = put_nodes(&nodes[..count], after_heading, text);
+    lent::clear_u8(text, end, Limits::RULE_BYTES);
+    RuleWritten::Length(end)
+}

@@ -1,0 +1,50 @@
+-- `short_until` meets its contract: its nodes one after another, for each reading (ListLaws).
+use borrow.Author.Needs.{needs}
+use Rattle.rewriting.proofs.ListLaws.{short-until-laws}
+use Rattle.rewriting.proofs.lists.short_until.Statement.{statement}
+use Rattle.rewriting.proofs.lists.short_until.Tie as tie
+
+or-requires : tie.Need-or-requires
+or-requires c κs = search needs
+
+until-last-requires : tie.Need-until-last-requires
+until-last-requires c κs = search needs
+
+same-length : tie.Need-same-length
+same-length c = search needs
+
+returns : tie.Need-returns
+returns c = search short-until-laws depth 20
+
+not-requires : tie.Need-not-requires
+not-requires c κs = search needs
+
+or-last-requires : tie.Need-or-last-requires
+or-last-requires c κs = search needs
+
+not-last-requires : tie.Need-not-last-requires
+not-last-requires c κs = search needs
+
+until-last-requires-2 : tie.Need-until-last-requires-2
+until-last-requires-2 c κs = search needs
+
+same-length-2 : tie.Need-same-length-2
+same-length-2 c = search needs
+
+returns-2 : tie.Need-returns-2
+returns-2 c = search short-until-laws depth 20
+
+pub short-until-spec : {M : Type 1} → statement M
+short-until-spec =
+    tie.close
+    (tie.spec
+    or-requires
+    until-last-requires
+    same-length
+    returns
+    not-requires
+    or-last-requires
+    not-last-requires
+    until-last-requires-2
+    same-length-2
+    returns-2)

@@ -1,0 +1,34 @@
+-- What a rewriting answers, and what it leaves in the table.
+use mathlib.Core.Bool.{Bool}
+use mathlib.Core.List.{List, [], _∷_}
+use mathlib.Core.Path.{_≡_}
+use Prim.Native.Nat.{ℕ, _≤_}
+use Rattle.definitions.specs.Limits.{accepted, maxTableNodes}
+use Rattle.definitions.specs.Tables.{Rule, nodesIn}
+use Rattle.definitions.specs.Rewriting.{rewriting}
+use Rattle.definitions.specs.Operations.{Answer, rewriteAnswer, rewriteTable}
+use Rattle.rewriting.specs.declared.rewrite.Rewriting.{Rewriting}
+use Rattle.rewriting.specs.declared.rewrite.Rewriting.the-variants.{Rewritten, Refused}
+use Rattle.rewriting.specs.declared.rewrite.Tops.{Tops}
+use Rattle.rewriting.specs.Emission.{Holds}
+
+-- document 01's number and values for each case
+abbrev pub answerOf : Rewriting → Answer
+answerOf (Rewritten count weakTop strongTop) = record { number = accepted; values = count ∷ weakTop ∷ strongTop ∷ [] }
+answerOf (Refused number) = record { number = number; values = [] }
+
+-- the rewritten nodes are in the table, and r tells their count and tops
+pub record Tabled (short : Bool) (mask count : ℕ) (ws o : List ℕ) (r : Tops) (o′ : List ℕ) : Type 0 where
+  pub holds : Holds ((rewriting short mask (nodesIn count ws)) .nodes) o (r .count) o′
+  pub weak : r .weak ≡ (rewriting short mask (nodesIn count ws)) .weakTop
+  pub strong : r .strong ≡ (rewriting short mask (nodesIn count ws)) .strongTop
+  pub low : r .count ≤ maxTableNodes
+
+-- the rule as tables
+abbrev pub ruleOf : ℕ → ℕ → List ℕ → Rule
+ruleOf controller count nodes = record { controller = controller; count = count; nodes = nodes }
+
+-- the whole answer and the whole lent table, on every input: "rewrite plain or short (rule and own mask, any 32 bits)"
+pub record Rewrote (short : Bool) (controller count : ℕ) (nodes : List ℕ) (mask : ℕ) (entry : List ℕ) (r : Rewriting) (exit : List ℕ) : Type 0 where
+  pub answered : answerOf r ≡ rewriteAnswer short (ruleOf controller count nodes) mask entry
+  pub table : exit ≡ rewriteTable short (ruleOf controller count nodes) mask entry

@@ -1,0 +1,4 @@
+pub mod Emission
+pub mod Parts
+pub mod Drafts
+pub mod Answers

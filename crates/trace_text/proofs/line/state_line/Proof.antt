@@ -1,0 +1,50 @@
+-- `trace_text::line::state_line` meets its contract.
+use Rattle.trace_text.proofs.FormLaws.{line-laws}
+use borrow.Author.Needs.{needs}
+use Rattle.trace_text.proofs.line.state_line.Statement.{statement}
+use Rattle.trace_text.proofs.line.state_line.Tie as tie
+
+until-byte-requires : tie.Need-until-byte-requires
+until-byte-requires c κs = search needs
+
+slice-aggregate-same : tie.Need-slice-aggregate-same
+slice-aggregate-same c = search line-laws
+
+slice-aggregate-same-2 : tie.Need-slice-aggregate-same-2
+slice-aggregate-same-2 c = search line-laws
+
+same-requires : tie.Need-same-requires
+same-requires c κs = search needs
+
+mark-digits-requires : tie.Need-mark-digits-requires
+mark-digits-requires c κs = search needs
+
+after-requires : tie.Need-after-requires
+after-requires c κs = search needs
+
+state-fields-requires : tie.Need-state-fields-requires
+state-fields-requires c κs = search needs
+
+returns : tie.Need-returns
+returns c = search line-laws
+
+returns-2 : tie.Need-returns-2
+returns-2 c = search line-laws
+
+returns-3 : tie.Need-returns-3
+returns-3 c = search line-laws
+
+pub state-line-spec : {M : Type 1} → statement M
+state-line-spec =
+    tie.close
+    (tie.spec
+    until-byte-requires
+    slice-aggregate-same
+    slice-aggregate-same-2
+    same-requires
+    mark-digits-requires
+    after-requires
+    state-fields-requires
+    returns
+    returns-2
+    returns-3)
