@@ -49,7 +49,7 @@ fn tabled(table: &mut [u32], short: bool, mask: u32, count: usize, nodes: &[u32]
 }
 
 // 13, then the rule. An accepted rule's table has at most 723 nodes (theorems: Counts), so 12 is never met.
-fn rewrite(
+pub fn rewrite(
     short: bool,
     controller: usize,
     count: usize,

@@ -5,18 +5,18 @@ use Prim.Native.Nat.{ℕ, suc, _+_, _-_, _^_, _<_, _≤_}
 use native.Mathlib.Omega.{arith}
 use native.Mathlib.Numerals.{add-one}
 use lib.Bits.{bitOr}
-use lib.Dec.{eqb}
+use lib.Dec.{eqb, ltb}
 use lib.ListN.{length, take, drop, set, take-append-drop, length-set, length-drop}
 use lib.Seq.{take-suc-set, drop-set-lt, drop-drop, length-take-le}
 use borrow.Author.Needs.{needs}
-use borrow.Author.Tests.{eqb-true, eqb-false}
+use borrow.Author.Tests.{eqb-true, eqb-false, ltb-true, ltb-false}
 use mir.Syntax.{w64}
 use mir.Val.{Fits}
-use Rattle.definitions.specs.Limits.{maxControllers, maxStates}
+use Rattle.definitions.specs.Limits.{accepted, recordingLines, maxControllers, maxStates}
 use Rattle.definitions.specs.Bounded.{pick}
 use Rattle.definitions.specs.Lines.{newline, before, lineOf, restOf, Scan, stop, more}
 use Rattle.definitions.specs.RecordingText.{maskForm, stateForm, stateLineRefusal, numberOf, scanMasks, scanStates}
-use Rattle.theorems.proofs.Choice.{by-test}
+use Rattle.theorems.proofs.Choice.{by-test, pick-true, pick-false}
 use Rattle.lines.proofs.PartLaws.{part-to-end, empty-yes, empty-no}
 use Rattle.traces.specs.Unions.{unionOf}
 use Rattle.trace_text.specs.Next.{refusalAt, seenRefusal, maskAnswer, stateAnswer, nextMask, nextState}
@@ -190,16 +190,22 @@ states-start C N masks start text o h =
     }
 
 module _ (C N : ℕ) (masks : List ℕ) (start : ℕ) (text o o′ : List ℕ) (at prior k : ℕ) (inv : StatesLeft C N masks start text o o′ at prior k) (short : N ≤ maxStates) (room : maxStates ≤ length o) where
-  pub states-done : N ≤ k → length text ≤ at → LinesScanned (scanStates C N masks N 0 0 (drop start text)) text o (record { number = 0; at = at }) o′
-  states-done h l =
+  states-whole : N ≤ k → length text ≤ at → LinesScanned (scanStates C N masks N 0 0 (drop start text)) text o (record { number = 0; at = at }) o′
+  states-whole h l =
       let z : N - k ≡ 0 = omega arith in
       let y : length (drop at text) ≡ 0 = omega (arith, length-drop at text) in
       lines-stop _ text o o′ at k _ (inv .lines) 0 (rw z (states-end C N masks k prior (drop at text) (empty-yes (drop at text) y))) (omega (arith, inv .within))
 
-  pub states-extra : N ≤ k → at < length text → LinesScanned (scanStates C N masks N 0 0 (drop start text)) text o (record { number = 8; at = at }) o′
+  states-extra : N ≤ k → at < length text → LinesScanned (scanStates C N masks N 0 0 (drop start text)) text o (record { number = 8; at = at }) o′
   states-extra h l =
       let z : N - k ≡ 0 = omega arith in
       lines-stop _ text o o′ at k _ (inv .lines) 8 (rw z (states-many C N masks k prior (drop at text) (empty-no (drop at text) (λ q. omega (arith, length-drop at text))))) (omega (arith, inv .within))
+
+  pub states-done : (n : ℕ) → n ≡ pick (ltb at (length text)) recordingLines accepted → N ≤ k → LinesScanned (scanStates C N masks N 0 0 (drop start text)) text o (record { number = n; at = at }) o′
+  states-done n e h =
+      by-test (ltb at (length text))
+      (λ y. let q : n ≡ 8 = e ∙ pick-true _ _ _ y in rw q (states-extra h (ltb-true at (length text) y)))
+      (λ y. let q : n ≡ 0 = e ∙ pick-false _ _ _ y in rw q (states-whole h (ltb-false at (length text) y)))
 
   module _ (h : k < N) (end : ℕ) (is : end ≡ before newline (take (length text - at) (drop at text))) (r : StateRead) (rs : r ≡ nextState C N masks k prior (take (length text - at) (drop at text))) where
     one-fewer : N - k ≡ suc (N - (k + 1))
@@ -236,4 +242,4 @@ module _ (C N : ℕ) (masks : List ℕ) (start : ℕ) (text o o′ : List ℕ) (
           = rw (one-fewer, ← rest-at text at end line-ends) (state-step C N masks k prior (drop at text) (N - (k + 1)) s (state-is .0) (state-is .1)) in
           record { within = omega arith; lines = lines-next _ text o o′ at k _ (inv .lines) s (at + end + 1) _ p (omega arith) state-inside }
 
-pub ruleset scan-state-laws = (needs, states-start, states-done, states-extra, states-refused, state-place-fits, state-next-fits, states-next)
+pub ruleset scan-state-laws = (needs, states-start, states-done, states-refused, state-place-fits, state-next-fits, states-next)

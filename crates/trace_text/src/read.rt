@@ -8,6 +8,7 @@ use super::next;
 use super::next::HeadingRead;
 use super::next::MaskRead;
 use super::next::StateRead;
+use formulas::choice::pick;
 use formulas::limits::Limits;
 use formulas::limits::Refusal;
 use lines::scan;
@@ -52,10 +53,7 @@ fn scan_masks(text: &[u8], start: usize, controllers: usize, masks: &mut [u32]) 
                 c += 1;
             }
             MaskRead::Refused(number) => {
-                return Stopped {
-                    number: number,
-                    at: at,
-                };
+                return Stopped { number, at };
             }
         }
     }
@@ -91,23 +89,12 @@ fn scan_states(
                 k += 1;
             }
             StateRead::Refused(number) => {
-                return Stopped {
-                    number: number,
-                    at: at,
-                };
+                return Stopped { number, at };
             }
         }
     }
-    if at < text.len() {
-        return Stopped {
-            number: Refusal::RECORDING_LINES,
-            at: at,
-        };
-    }
-    Stopped {
-        number: Refusal::NONE,
-        at: at,
-    }
+    let number = pick(at < text.len(), Refusal::RECORDING_LINES, Refusal::NONE);
+    Stopped { number, at }
 }
 
 // A reading that ends before the states.

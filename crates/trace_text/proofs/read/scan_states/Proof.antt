@@ -61,17 +61,14 @@ same-length c = search scan-state-laws
 returns : tie.Need-returns Inv-loop μ-loop
 returns c = search scan-state-laws
 
+pick-requires : tie.Need-pick-requires Inv-loop μ-loop
+pick-requires c κs = search scan-state-laws
+
 same-length-2 : tie.Need-same-length-2 Inv-loop μ-loop
 same-length-2 c = search scan-state-laws
 
 returns-2 : tie.Need-returns-2 Inv-loop μ-loop
 returns-2 c = search scan-state-laws
-
-same-length-3 : tie.Need-same-length-3 Inv-loop μ-loop
-same-length-3 c = search scan-state-laws
-
-returns-3 : tie.Need-returns-3 Inv-loop μ-loop
-returns-3 c = search scan-state-laws
 
 pub scan-states-spec : {M : Type 1} → statement M
 scan-states-spec =
@@ -96,7 +93,6 @@ scan-states-spec =
     enum-known-number
     same-length
     returns
+    pick-requires
     same-length-2
-    returns-2
-    same-length-3
-    returns-3)
+    returns-2)
