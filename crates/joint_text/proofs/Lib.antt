@@ -1,0 +1,2 @@
+pub mod RecordingNumbers
+pub mod JoinLaws

@@ -1,0 +1,2 @@
+// The joint reading of a rule text and a recording text.
+pub mod joint;
