@@ -16,6 +16,7 @@ use Rattle.definitions.specs.Lines.{newline, before, lineOf, restOf, Parsed, fo
 use Rattle.definitions.specs.RuleText.{nodeLineRefusal, nodeLineWord, scanNodes, ruleHeading, ruleHeadingLineRefusal, ruleStop, ruleNodes, scanRule}
 use Rattle.definitions.specs.Operations.{readRuleNumber, readRuleAnswer, readRuleNodes}
 use Rattle.theorems.proofs.Choice.{by-test}
+use Rattle.theorems.proofs.RefusalBounds.{pick-low}
 use Rattle.theorems.proofs.NodeLaws.{accepted-heading}
 use Rattle.theorems.proofs.RuleTextSteps.{rule-step}
 use Rattle.theorems.proofs.FieldLaws.{next-back}
@@ -117,11 +118,6 @@ module _ (t o : List ℕ) where
 pub ruleset rule-laws = (part-laws, rule-missing, rule-open, rule-unheaded, rule-count, rule-left, rule-nodes)
 
 -- ---- no refusal of a rule text is that of lent space
-pub pick-low : (z : Bool) (a b : ℕ) → a < lentShort → b < lentShort → pick z a b < lentShort
-unfolding pick
-pick-low true a b h k = h
-pick-low false a b h k = k
-
 parsed-low : {A : Type 0} (p : Parsed A) (a : ℕ) (f : A → ℕ) → a < lentShort → ((x : A) → f x < lentShort) → onParsed p a f < lentShort
 unfolding onParsed
 parsed-low (formed x) a f h k = k x
@@ -130,15 +126,15 @@ parsed-low malformed a f h k = h
 pub node-low : (b : Bool) (i : ℕ) (n : table.Node) → nodeRefusal b i n < lentShort
 unfolding nodeRefusal
 node-low b i n =
-    pick-low _ _ _ (omega arith) (pick-low _ _ _ (omega arith) (pick-low _ _ _ (omega arith) (pick-low _ _ _ (omega arith) (pick-low _ _ _ (omega arith) (omega arith)))))
+    pick-low _ _ _ lentShort (omega arith) (pick-low _ _ _ lentShort (omega arith) (pick-low _ _ _ lentShort (omega arith) (pick-low _ _ _ lentShort (omega arith) (pick-low _ _ _ lentShort (omega arith) (omega arith)))))
 
 pub heading-low : (c n : ℕ) → ruleHeadingRefusal c n < lentShort
 unfolding ruleHeadingRefusal
-heading-low c n = pick-low _ _ _ (omega arith) (omega arith)
+heading-low c n = pick-low _ _ _ lentShort (omega arith) (omega arith)
 
 next-low : (t : List ℕ) (k : ℕ) → k < lentShort → nextRefusal ruleLines ruleForm t k < lentShort
 unfolding nextRefusal
-next-low t k h = pick-low _ _ _ (omega arith) (pick-low _ _ _ h (omega arith))
+next-low t k h = pick-low _ _ _ lentShort (omega arith) (pick-low _ _ _ lentShort h (omega arith))
 
 node-line-low : (i : ℕ) (s : List ℕ) → nodeLineRefusal i s < lentShort
 unfolding nodeLineRefusal
@@ -156,7 +152,7 @@ heading-line-low s = parsed-low _ _ _ (omega arith) (λ h. heading-low (h .first
 nodes-low : (m i : ℕ) (t : List ℕ) → (scanNodes m i t) .number < lentShort
 unfolding scanNodes
 nodes-low =
-    by-steps (λ m i t s. s .number < lentShort) (λ i t. pick-low _ _ _ (omega arith) (omega arith))
+    by-steps (λ m i t s. s .number < lentShort) (λ i t. pick-low _ _ _ lentShort (omega arith) (omega arith))
     (λ m i t. next-low t _ (node-line-low i (lineOf t))) (λ m i t h. h)
 
 -- what a rule text gives: its first line is refused, or it is accepted and the node lines are read

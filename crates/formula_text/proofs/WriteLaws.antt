@@ -18,6 +18,7 @@ use Rattle.definitions.specs.Lines.{tab, newline, digits}
 use Rattle.definitions.specs.RuleText.{ruleWord, nodesText, ruleText}
 use Rattle.definitions.specs.Operations.{textOf, writeRuleNumber, writeRuleAnswer, writeRuleText}
 use Rattle.theorems.proofs.Choice.{or-else-none}
+use Rattle.theorems.proofs.RefusalBounds.{rule-low}
 use Rattle.theorems.proofs.NodeLaws.{accepted-heading, accepted-rule}
 use Rattle.theorems.proofs.RoundTrips.{text-fits}
 use Rattle.rows.specs.Lent.{cleared}
@@ -27,22 +28,6 @@ use Rattle.formula_text.specs.Reading.{laid}
 use Rattle.formula_text.specs.Writing.{headingLine, headingSize, WroteRule}
 use Rattle.formula_text.specs.declared.write.RuleWritten.the-variants.{Length, Refused}
 use Rattle.formula_text.proofs.LentLaws.{cleared-words, cleared-all, left-accepted, left-refused, left-short, refused-answer, accepted-answer}
-use Rattle.formula_text.proofs.RuleLaws.{pick-low, node-low, heading-low}
-
--- no refusal of a rule is that of lent space
-or-low : (a b : ℕ) → a < lentShort → b < lentShort → orElse a b < lentShort
-unfolding orElse
-or-low a b h k = pick-low _ _ _ k h
-
-nodes-low : (b : Bool) (i n : ℕ) (ws : List ℕ) → nodesRefusal b i n ws < lentShort
-unfolding nodesRefusal
-nodes-low b i zero ws = omega arith
-nodes-low b i (suc n) [] = omega arith
-nodes-low b i (suc n) (w ∷ ws) = or-low (nodeRefusal b i (nodeOf w)) (nodesRefusal b (i + 1) n ws) (node-low b i (nodeOf w)) (nodes-low b (i + 1) n ws)
-
-rule-low : (r : Rule) → ruleRefusal r < lentShort
-unfolding ruleRefusal
-rule-low r = or-low _ _ (heading-low (r .controller) (r .count)) (nodes-low false 0 (r .count) (r .nodes))
 
 -- an accepted rule has as many nodes as its count says
 enough-nodes : (b : Bool) (i n : ℕ) (ws : List ℕ) → nodesRefusal b i n ws ≡ 0 → n ≤ length ws
@@ -90,7 +75,7 @@ module _ (c n : ℕ) (ws o : List ℕ) where
     write-refused z o′ e = record {
       answered = rw is (refused-answer k _ z);
       text = cleared-all maxRuleBytes [] o o o′ (omega arith) refl e
-          ∙ sym (left-refused (writeRuleNumber rule o) maxRuleBytes (textOf rule) o (λ q. z (sym is ∙ q)) (rw (number-checked long) (rule-low rule)));
+          ∙ sym (left-refused (writeRuleNumber rule o) maxRuleBytes (textOf rule) o (λ q. z (sym is ∙ q)) (rw (number-checked long) (omega (arith, rule-low rule))));
     }
 
     module _ (z : k ≡ 0) where

@@ -30,7 +30,7 @@ use Rattle.trace_text.specs.Reading.{RecordingScanned}
 use Rattle.trace_text.specs.declared.read.Scanned as recorded
 use Rattle.joint_text.specs.Joining.{IsPart, Room, isShort, Clearable, Cleared, refusedAt, headingOf, partOf, jointValues, Held, JointScanned, Joined, ReadJoint}
 use Rattle.joint_text.specs.declared.joint.Found.{Found}
-use Rattle.joint_text.proofs.RecordingNumbers.{recording-low, recording-end}
+use Rattle.trace_text.proofs.RecordingNumbers.{recording-low, recording-end}
 
 -- ---- `part` and `refused_at`
 pub part-reads : (s : List ℕ) (from count : ℕ) → take (from + count - from) (drop from s) ≡ take count (drop from s)

@@ -1,2 +1,1 @@
-pub mod RecordingNumbers
 pub mod JoinLaws

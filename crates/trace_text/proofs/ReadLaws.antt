@@ -25,7 +25,8 @@ use Rattle.trace_text.specs.declared.read.Stopped.{Stopped}
 use Rattle.trace_text.specs.declared.read.Scanned.{Scanned}
 use Rattle.trace_text.specs.declared.read.RecordingRead.the-variants.{Recording, Refused}
 use Rattle.trace_text.proofs.NextLaws.{HeadingWithin, heading-within, heading-line-refusal}
-use Rattle.trace_text.proofs.ScanLaws.{NextAccepted, next-accepted, Counted, masks-counted, states-counted, scan-own, scan-low}
+use Rattle.trace_text.proofs.ScanLaws.{NextAccepted, next-accepted, Counted, masks-counted, states-counted, scan-own}
+use Rattle.trace_text.proofs.RecordingNumbers.{scan-low}
 
 -- ---- lent space that words were laid over
 laid-past : (full : ℕ) (words entry : List ℕ) → length words ≤ full → drop full (laid words entry) ≡ drop full entry

@@ -106,7 +106,7 @@ scan-own C N masks (suc left) k prior t =
 
 -- ---- how many words
 -- by the cases of one step
-step : (P : Scan → Type 0) (n : ℕ) (a b : Scan) → (n ≡ 0 → P a) → ((n ≡ 0 → ⊥) → P b) → P (pick (eqb n 0) a b)
+pub step : {A : Type 0} (P : A → Type 0) (n : ℕ) (a b : A) → (n ≡ 0 → P a) → ((n ≡ 0 → ⊥) → P b) → P (pick (eqb n 0) a b)
 unfolding pick
 step P n a b f g = by-test (eqb n 0) (λ z. rw z (f (eqb-true n 0 z))) (λ z. rw z (g (eqb-false n 0 z)))
 
@@ -135,69 +135,3 @@ states-counted C N masks (suc left) k prior t =
     step (Counted (suc left)) (nextRefusal recordingLines recordingForm t (stateLineRefusal C N masks k prior (lineOf t))) _ _
     (λ e. counted-more left _ _ (states-counted C N masks left (k + 1) (numberOf (stateForm C (lineOf t))) (restOf t)))
     (λ z. counted-stop (suc left) _ t z)
-
--- ---- a recording text meets no refusal of lent space
-pick-low : (z : Bool) (a b : ℕ) → a < lentShort → b < lentShort → pick z a b < lentShort
-unfolding pick
-pick-low true a b p q = p
-pick-low false a b p q = q
-
-parsed-low : {A : Type 0} (p : Parsed A) (f : A → ℕ) → ((a : A) → f a < lentShort) → onParsed p recordingForm f < lentShort
-unfolding onParsed
-parsed-low (formed a) f h = h a
-parsed-low malformed f h = omega arith
-
-next-low : (t : List ℕ) (refusal : ℕ) → refusal < lentShort → nextRefusal recordingLines recordingForm t refusal < lentShort
-unfolding nextRefusal
-next-low t refusal h = pick-low (isEmpty t) _ _ (omega arith) (pick-low (isClosed t) _ _ h (omega arith))
-
-mask-low : (earlier s : List ℕ) → maskLineRefusal earlier s < lentShort
-unfolding maskLineRefusal maskRefusal
-mask-low earlier s = parsed-low (maskForm s) (maskRefusal earlier) (λ m. pick-low _ _ _ (omega arith) (omega arith))
-
-state-low : (C N : ℕ) (masks : List ℕ) (k prior : ℕ) (s : List ℕ) → stateLineRefusal C N masks k prior s < lentShort
-unfolding stateLineRefusal stateRefusal
-state-low C N masks k prior s =
-    parsed-low (stateForm C s) (stateRefusal C N masks k prior)
-    (λ x. pick-low _ _ _ (omega arith) (pick-low _ _ _ (omega arith) (pick-low _ _ _ (omega arith) (omega arith))))
-
-heading-low : (s : List ℕ) → recordingHeadingLineRefusal s < lentShort
-unfolding recordingHeadingLineRefusal recordingHeadingRefusal
-heading-low s = parsed-low (recordingHeading s) _ (λ h. pick-low _ _ _ (omega arith) (omega arith))
-
-abbrev Low : Scan → Type 0
-Low s = s .number < lentShort
-
-masks-low : (left : ℕ) (earlier t : List ℕ) → scanMasks left earlier t .number < lentShort
-unfolding scanMasks
-masks-low zero earlier t = omega arith
-masks-low (suc left) earlier t =
-    step Low (nextRefusal recordingLines recordingForm t (maskLineRefusal earlier (lineOf t))) _ _
-    (λ e. masks-low left (numberOf (maskForm (lineOf t)) ∷ earlier) (restOf t))
-    (λ z. next-low t _ (mask-low earlier (lineOf t)))
-
-states-low : (C N : ℕ) (masks : List ℕ) (left k prior : ℕ) (t : List ℕ) → scanStates C N masks left k prior t .number < lentShort
-unfolding scanStates
-states-low C N masks zero k prior t = pick-low (isEmpty t) _ _ (omega arith) (omega arith)
-states-low C N masks (suc left) k prior t =
-    step Low (nextRefusal recordingLines recordingForm t (stateLineRefusal C N masks k prior (lineOf t))) _ _
-    (λ e. states-low C N masks left (k + 1) (numberOf (stateForm C (lineOf t))) (restOf t))
-    (λ z. next-low t _ (state-low C N masks k prior (lineOf t)))
-
-pick-scan-low : (z : Bool) (a b : RecordingScan) → a .number < lentShort → b .number < lentShort → (pick z a b) .number < lentShort
-unfolding pick
-pick-scan-low true a b p q = p
-pick-scan-low false a b p q = q
-
-parsed-scan-low : (p : Parsed Heading) (other : RecordingScan) (f : Heading → RecordingScan) → other .number < lentShort → ((h : Heading) → (f h) .number < lentShort) → (onParsed p other f) .number < lentShort
-unfolding onParsed
-parsed-scan-low (formed a) other f l h = h a
-parsed-scan-low malformed other f l h = l
-
-pub scan-low : (t : List ℕ) → (scanRecording t) .number < lentShort
-unfolding scanRecording
-scan-low t =
-    pick-scan-low _ _ _
-    (parsed-scan-low (recordingHeading (lineOf t)) _ _ (omega arith)
-    (λ h. pick-scan-low _ _ _ (states-low (h .first) (h .second) _ (h .second) 0 0 _) (masks-low (h .first) [] (restOf t))))
-    (next-low t _ (heading-low (lineOf t)))

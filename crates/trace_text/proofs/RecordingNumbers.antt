@@ -3,16 +3,15 @@ use mathlib.Core.Path.{_≡_}
 use mathlib.Core.List.{List, [], _∷_}
 use Prim.Native.Nat.{ℕ, zero, suc, _+_, _<_}
 use native.Mathlib.Omega.{arith}
-use lib.Dec.{eqb}
 use lib.ListN.{length}
-use borrow.Author.Tests.{eqb-true, eqb-false}
-use Rattle.definitions.specs.Limits.{recordingForm, recordingLines, noController}
-use Rattle.definitions.specs.Bounded.{pick}
+use borrow.Author.Tests.{eqb-true}
+use Rattle.definitions.specs.Limits.{recordingForm, recordingLines, noController, lentShort}
 use Rattle.definitions.specs.Recordings.{maskRefusal, stateRefusal, recordingHeadingRefusal}
 use Rattle.definitions.specs.Lines.{isEmpty, isClosed, lineOf, restOf, Parsed, formed, malformed, onParsed, Heading, nextRefusal, Scan}
 use Rattle.definitions.specs.RecordingText.{recordingHeading, maskForm, stateForm, recordingHeadingLineRefusal, maskLineRefusal, stateLineRefusal, numberOf, scanMasks, scanStates, RecordingScan, recordingMasks, recordingStop, scanRecording}
-use Rattle.theorems.proofs.Choice.{by-test, accept-yes}
+use Rattle.theorems.proofs.Choice.{accept-yes}
 use Rattle.theorems.proofs.RefusalBounds.{pick-low}
+use Rattle.trace_text.proofs.ScanLaws.{step}
 
 -- a refusal below 11, and, accepted, nothing is left
 record Ended (number : ℕ) (rest : List ℕ) : Type 0 where
@@ -21,11 +20,6 @@ record Ended (number : ℕ) (rest : List ℕ) : Type 0 where
 
 ended-refused : (n : ℕ) (t : List ℕ) → n < noController → (n ≡ 0 → ⊥) → Ended n t
 ended-refused n t l z = record { low = l; all = λ e. absurd (z e) }
-
--- by the cases of one step
-step : {A : Type 0} (P : A → Type 0) (n : ℕ) (a b : A) → (n ≡ 0 → P a) → ((n ≡ 0 → ⊥) → P b) → P (pick (eqb n 0) a b)
-unfolding pick
-step P n a b f g = by-test (eqb n 0) (λ z. rw z (f (eqb-true n 0 z))) (λ z. rw z (g (eqb-false n 0 z)))
 
 parsed-low : {A : Type 0} (p : Parsed A) (f : A → ℕ) → ((a : A) → f a < noController) → onParsed p recordingForm f < noController
 unfolding onParsed
@@ -99,3 +93,7 @@ recording-low t = recording-ended t .low
 
 pub recording-end : (t : List ℕ) → (scanRecording t) .number ≡ 0 → length ((scanRecording t) .rest) ≡ 0
 recording-end t e = recording-ended t .all e
+
+-- nor is it that of lent space
+pub scan-low : (t : List ℕ) → (scanRecording t) .number < lentShort
+scan-low t = omega (arith, recording-low t)
