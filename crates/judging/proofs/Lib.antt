@@ -1,1 +1,2 @@
 pub mod RewrittenLaws
+pub mod FourJudgements
