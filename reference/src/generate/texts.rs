@@ -1,0 +1,450 @@
+//! Rule texts, recording texts and program inputs, and damage of every kind.
+
+use super::formulas::{self, RuleTable};
+use super::random::Random;
+use super::traces::{self, RecordingTable};
+use crate::model::formula::{operand_count, Node, KIND_WORDS};
+use crate::model::limits;
+use crate::model::trace::State;
+
+/// The text of a rule table, accepted or not: a kind that has no word gets an
+/// unknown one.
+pub fn rule_text(rule: &RuleTable) -> Vec<u8> {
+    let mut text = format!("rule\t{}\t{}\n", rule.controller, rule.count).into_bytes();
+    for word in &rule.nodes {
+        let node = Node::of_word(*word);
+        let kind = KIND_WORDS.get(node.kind as usize).copied();
+        text.extend(kind.unwrap_or(b"sometimes"));
+        for operand in &[node.first, node.second][..operand_count(node.kind)] {
+            text.extend(format!("\t{operand}").into_bytes());
+        }
+        text.push(b'\n');
+    }
+    text
+}
+
+/// The text of a recording table, accepted or not. Run marks above the eighth
+/// make the field longer than it may be.
+pub fn recording_text(recording: &RecordingTable) -> Vec<u8> {
+    let mut text = format!("recording\t{}\t{}\n", recording.controllers, recording.length);
+    for mask in &recording.masks {
+        text.push_str(&format!("owns\t{mask:08x}\n"));
+    }
+    for word in &recording.states {
+        let state = State::of_word(*word);
+        text.push_str(&format!("at\t{:02x}\t{:08x}\n", state.scheduled, state.atoms));
+    }
+    text.into_bytes()
+}
+
+/// The input of the program: both texts around the line `-`.
+pub fn program_input(rule: &[u8], recording: &[u8]) -> Vec<u8> {
+    [rule, b"-\n", recording].concat()
+}
+
+/// The kinds of damage that a text is done.
+#[derive(Clone, Copy, PartialEq, Eq, Debug)]
+pub enum Damage {
+    /// A byte becomes any byte.
+    ByteChanged,
+    /// A byte becomes, or is preceded by, byte 0, 9, 10, 13, 32 or 255.
+    OddByte,
+    /// A byte is dropped.
+    ByteDropped,
+    /// The text ends early.
+    Cut,
+    /// The text starts late.
+    FrontCut,
+    /// A part of the text, or all of it, comes twice.
+    Doubled,
+    /// Two lines change places.
+    LinesSwapped,
+    /// A line is dropped.
+    LineDropped,
+    /// A line comes twice.
+    LineDoubled,
+    /// A line too many, closed or not.
+    LineAdded,
+    /// A number at or beyond a limit.
+    NumberChanged,
+    /// A count of 99999999999999999999 in the first line.
+    HugeCount,
+    /// A hexadecimal or decimal digit becomes another.
+    DigitChanged,
+    /// A letter, or a hexadecimal digit, in upper case.
+    UpperCase,
+    /// A zero before a field.
+    LeadingZero,
+    /// A tab too many.
+    TabAdded,
+    /// A tab too few.
+    TabDropped,
+    /// A space for a tab.
+    TabReplaced,
+    /// The last byte 10 is missing.
+    LastNewlineDropped,
+    /// A byte 13 before a byte 10.
+    ReturnAdded,
+    /// The first word of a line becomes another word.
+    WordChanged,
+    /// More fields after a line's own.
+    FieldsAdded,
+    /// An unknown kind word with any fields.
+    UnknownWord,
+    /// The last field of a line is dropped.
+    FieldDropped,
+}
+
+/// Every kind of damage.
+pub const DAMAGES: [Damage; 24] = [
+    Damage::ByteChanged,
+    Damage::OddByte,
+    Damage::ByteDropped,
+    Damage::Cut,
+    Damage::FrontCut,
+    Damage::Doubled,
+    Damage::LinesSwapped,
+    Damage::LineDropped,
+    Damage::LineDoubled,
+    Damage::LineAdded,
+    Damage::NumberChanged,
+    Damage::HugeCount,
+    Damage::DigitChanged,
+    Damage::UpperCase,
+    Damage::LeadingZero,
+    Damage::TabAdded,
+    Damage::TabDropped,
+    Damage::TabReplaced,
+    Damage::LastNewlineDropped,
+    Damage::ReturnAdded,
+    Damage::WordChanged,
+    Damage::FieldsAdded,
+    Damage::UnknownWord,
+    Damage::FieldDropped,
+];
+
+/// Numbers at and beyond each limit, and beyond what a machine word holds;
+/// some would be small ones if they were cut to a word.
+pub const NUMBERS: [&str; 37] = [
+    "0",
+    "1",
+    "2",
+    "6",
+    "7",
+    "8",
+    "9",
+    "10",
+    "30",
+    "31",
+    "32",
+    "33",
+    "62",
+    "63",
+    "64",
+    "65",
+    "127",
+    "128",
+    "129",
+    "255",
+    "256",
+    "257",
+    "1023",
+    "1024",
+    "1025",
+    "4095",
+    "4096",
+    "65536",
+    "2147483648",
+    "4294967295",
+    "4294967296",
+    "4294967297",
+    "9223372036854775808",
+    "18446744073709551615",
+    "18446744073709551617",
+    "99999999999999999999",
+    "340282366920938463463374607431768211457",
+];
+
+/// Words that may or may not be first words of lines.
+const WORDS: [&str; 21] = [
+    "true",
+    "atom",
+    "not",
+    "or",
+    "next",
+    "until",
+    "prev",
+    "since",
+    "run",
+    "end",
+    "rule",
+    "recording",
+    "owns",
+    "at",
+    "unti",
+    "untill",
+    "a",
+    "True",
+    "or2",
+    "",
+    "-",
+];
+
+/// The lines of a text, each with its byte 10 if it has one.
+fn lines(text: &[u8]) -> Vec<Vec<u8>> {
+    text.split_inclusive(|byte| *byte == 10).map(<[u8]>::to_vec).collect()
+}
+
+/// The places of the bytes that a condition picks.
+fn places(text: &[u8], condition: impl Fn(u8) -> bool) -> Vec<usize> {
+    (0..text.len()).filter(|at| condition(text[*at])).collect()
+}
+
+/// The starts and ends of the fields that are all digits.
+fn numbers(text: &[u8]) -> Vec<(usize, usize)> {
+    let mut found = Vec::new();
+    let mut start = 0;
+    for end in 0..=text.len() {
+        if end == text.len() || text[end] == 9 || text[end] == 10 {
+            if start < end && text[start..end].iter().all(u8::is_ascii_digit) {
+                found.push((start, end));
+            }
+            start = end + 1;
+        }
+    }
+    found
+}
+
+/// Puts bytes in place of a part of a text.
+fn replace(text: &mut Vec<u8>, start: usize, end: usize, bytes: &[u8]) {
+    text.splice(start..end, bytes.iter().copied());
+}
+
+/// Damage to single bytes.
+fn damage_byte(random: &mut Random, text: &mut Vec<u8>, damage: Damage) {
+    let at = random.below(text.len());
+    let odd = random.pick(&[0, 9, 10, 13, 32, 255]);
+    match damage {
+        Damage::ByteChanged => text[at] = random.byte(),
+        Damage::OddByte if random.once_in(2) => text[at] = odd,
+        Damage::OddByte => text.insert(at, odd),
+        Damage::ByteDropped => drop(text.remove(at)),
+        Damage::Cut => text.truncate(at),
+        Damage::FrontCut => drop(text.drain(..at)),
+        _ => {
+            let end = random.between(at, text.len());
+            let (at, end) = if random.once_in(2) { (0, text.len()) } else { (at, end) };
+            let part = text[at..end].to_vec();
+            replace(text, end, end, &part);
+        }
+    }
+}
+
+/// Damage to whole lines.
+fn damage_lines(random: &mut Random, text: &mut Vec<u8>, damage: Damage) {
+    let mut lines = lines(text);
+    let (one, other) = (random.below(lines.len()), random.below(lines.len()));
+    match damage {
+        Damage::LinesSwapped => lines.swap(one, other),
+        Damage::LineDropped => drop(lines.remove(one)),
+        Damage::LineDoubled => lines.insert(one, lines[one].clone()),
+        _ => {
+            let extra: [&[u8]; 6] =
+                [b"\n", b"true\n", b"x", b"at\t00\t00000000\n", b"-\n", b"\t\r"];
+            lines.push(random.pick(&extra).to_vec());
+        }
+    }
+    *text = lines.concat();
+}
+
+/// Damage to a field of digits.
+fn damage_number(random: &mut Random, text: &mut Vec<u8>, damage: Damage) {
+    let numbers = numbers(text);
+    if numbers.is_empty() {
+        return;
+    }
+    let (start, end) = random.pick(&numbers);
+    match damage {
+        Damage::NumberChanged => {
+            let heading = random.once_in(3);
+            let (start, end) =
+                if heading { numbers[random.below(numbers.len().min(2))] } else { (start, end) };
+            replace(text, start, end, random.pick(&NUMBERS).as_bytes());
+        }
+        Damage::HugeCount => {
+            let (start, end) = numbers[numbers.len().min(2) - 1];
+            replace(text, start, end, b"99999999999999999999");
+        }
+        _ => replace(text, start, start, b"0"),
+    }
+}
+
+/// Damage to one of the bytes that a condition picks.
+fn damage_picked(random: &mut Random, text: &mut Vec<u8>, damage: Damage) {
+    let picked = match damage {
+        Damage::DigitChanged => places(text, |byte| byte.is_ascii_hexdigit()),
+        Damage::UpperCase => places(text, |byte| byte.is_ascii_lowercase()),
+        Damage::ReturnAdded => places(text, |byte| byte == 10),
+        _ => places(text, |byte| byte == 9),
+    };
+    if picked.is_empty() {
+        return;
+    }
+    let at = random.pick(&picked);
+    match damage {
+        Damage::DigitChanged => text[at] = random.pick(b"0123456789abcdef"),
+        Damage::UpperCase => text[at] = text[at].to_ascii_uppercase(),
+        Damage::ReturnAdded => text.insert(at, 13),
+        Damage::TabAdded => text.insert(at, 9),
+        Damage::TabDropped => drop(text.remove(at)),
+        _ => text[at] = 32,
+    }
+}
+
+/// An unknown kind word with fields that may hold anything but byte 10, and
+/// now and then byte 13.
+fn unknown_line(random: &mut Random) -> Vec<u8> {
+    let mut line = random.pick(&["foo", "unti", "z", "rule", "sincee"]).as_bytes().to_vec();
+    for _ in 0..random.below(3) {
+        let bytes = [0, 9, 32, 48, 97, 127, 255, if random.once_in(3) { 13 } else { 90 }];
+        let field = (0..random.below(4)).map(|_| random.pick(&bytes));
+        line.extend([9].into_iter().chain(field));
+    }
+    line
+}
+
+/// Damage to the fields of a line.
+fn damage_fields(random: &mut Random, text: &mut Vec<u8>, damage: Damage) {
+    let mut lines = lines(text);
+    let one = random.below(lines.len());
+    let closed = lines[one].last() == Some(&10);
+    let mut line = lines[one].clone();
+    line.truncate(line.len() - usize::from(closed));
+    let word = line.iter().position(|byte| *byte == 9).unwrap_or(line.len());
+    match damage {
+        Damage::WordChanged => replace(&mut line, 0, word, random.pick(&WORDS).as_bytes()),
+        Damage::FieldsAdded => {
+            line.extend(random.pick(&["\t", "\t0", "\t1\t2", "\tx", " 0"]).bytes())
+        }
+        Damage::UnknownWord => line = unknown_line(random),
+        _ => line.truncate(line.iter().rposition(|byte| *byte == 9).unwrap_or(0)),
+    }
+    line.extend(closed.then_some(10));
+    lines[one] = line;
+    *text = lines.concat();
+}
+
+/// A text with one damage of a kind.
+pub fn damage(random: &mut Random, text: &[u8], damage: Damage) -> Vec<u8> {
+    let mut text = text.to_vec();
+    if text.is_empty() {
+        return text;
+    }
+    match damage {
+        Damage::ByteChanged
+        | Damage::OddByte
+        | Damage::ByteDropped
+        | Damage::Cut
+        | Damage::FrontCut
+        | Damage::Doubled => damage_byte(random, &mut text, damage),
+        Damage::LinesSwapped | Damage::LineDropped | Damage::LineDoubled | Damage::LineAdded => {
+            damage_lines(random, &mut text, damage);
+        }
+        Damage::NumberChanged | Damage::HugeCount | Damage::LeadingZero => {
+            damage_number(random, &mut text, damage);
+        }
+        Damage::LastNewlineDropped => drop(text.pop()),
+        Damage::WordChanged | Damage::FieldsAdded | Damage::UnknownWord | Damage::FieldDropped => {
+            damage_fields(random, &mut text, damage)
+        }
+        _ => damage_picked(random, &mut text, damage),
+    }
+    text
+}
+
+/// A text with one damage or a few, of any kinds.
+pub fn damaged(random: &mut Random, text: &[u8]) -> Vec<u8> {
+    let mut text = text.to_vec();
+    for _ in 0..random.pick(&[1, 1, 1, 1, 2, 3]) {
+        let kind = random.pick(&DAMAGES);
+        text = damage(random, &text, kind);
+    }
+    text
+}
+
+/// A rule text: of an accepted table, of a damaged one, damaged itself, or
+/// any bytes at all.
+pub fn any_rule_text(random: &mut Random, most: usize) -> Vec<u8> {
+    let valid = rule_text(&formulas::rule(random, most));
+    match random.below(12) {
+        0..=2 => valid,
+        3 | 4 => rule_text(&formulas::damaged_rule(random, most)),
+        5 => any_bytes(random),
+        _ => damaged(random, &valid),
+    }
+}
+
+/// A recording text, likewise.
+pub fn any_recording_text(
+    random: &mut Random,
+    most_controllers: usize,
+    most_states: usize,
+) -> Vec<u8> {
+    let valid = recording_text(&traces::recording(random, most_controllers, most_states));
+    match random.below(12) {
+        0..=2 => valid,
+        3 | 4 => recording_text(&traces::damaged_recording(random, most_controllers, most_states)),
+        5 => any_bytes(random),
+        _ => damaged(random, &valid),
+    }
+}
+
+/// A few bytes: any at all, or those that texts are made of.
+pub fn any_bytes(random: &mut Random) -> Vec<u8> {
+    let common = b"\t\t\n\n01289afrutlenaotwx-\r\0\xff";
+    let any = random.once_in(2);
+    (0..random.below(60)).map(|_| if any { random.byte() } else { random.pick(common) }).collect()
+}
+
+/// Both texts for a joint reading; the rule's controller is below C most of
+/// the time.
+pub fn any_pair(random: &mut Random) -> (Vec<u8>, Vec<u8>) {
+    let recording = traces::recording(random, limits::CONTROLLERS, limits::STATES);
+    let controller = random.below(recording.controllers);
+    let rule = formulas::rule_for(random, controller, limits::RULE_NODES);
+    let (rule, recording) = (rule_text(&rule), recording_text(&recording));
+    match random.below(8) {
+        0 | 1 => (rule, recording),
+        2 => (rule_text(&formulas::rule(random, 8)), recording),
+        3 | 4 => (any_rule_text(random, limits::RULE_NODES), recording),
+        5 | 6 => (rule, any_recording_text(random, limits::CONTROLLERS, limits::STATES)),
+        _ => {
+            let rule = any_rule_text(random, limits::RULE_NODES);
+            (rule, any_recording_text(random, limits::CONTROLLERS, limits::STATES))
+        }
+    }
+}
+
+/// An input of the program: two texts, the parting line damaged now and then,
+/// and now and then grown to its limit or beyond.
+pub fn any_program_input(random: &mut Random) -> Vec<u8> {
+    let (rule, recording) = any_pair(random);
+    let mut input = match random.below(10) {
+        0 => [&rule[..], &recording[..]].concat(),
+        1 => [&rule[..], b"-", &recording[..]].concat(),
+        2 => [&rule[..], b"-\n-\n", &recording[..]].concat(),
+        3 => [&rule[..], b"-\r\n", &recording[..]].concat(),
+        4 => [&b"-\n"[..], &rule[..], b"-\n", &recording[..]].concat(),
+        5 => [&rule[..], b"-"].concat(),
+        _ => program_input(&rule, &recording),
+    };
+    if random.once_in(6) {
+        input = damaged(random, &input);
+    }
+    if random.once_in(12) {
+        let grown = random.between(limits::PROGRAM_INPUT - 1, limits::PROGRAM_INPUT + 2);
+        let with = random.pick(&[0, 9, 10, 13, 48, 97]);
+        input.resize(grown, with);
+    }
+    input
+}

@@ -1,0 +1,276 @@
+//! Recordings, valid and damaged, as words of lent space, and other
+//! schedules of the same local trace.
+
+use super::random::Random;
+use crate::model::limits;
+use crate::model::trace::State;
+
+/// A recording as an operation on tables takes it.
+#[derive(Clone, PartialEq, Eq, Debug)]
+pub struct RecordingTable {
+    /// C.
+    pub controllers: usize,
+    /// N.
+    pub length: usize,
+    /// The masks; there may be fewer or more than C.
+    pub masks: Vec<u32>,
+    /// The states; there may be fewer or more than N.
+    pub states: Vec<u64>,
+}
+
+/// Gives each free atom to one of the controllers or to nobody.
+fn share_atoms(random: &mut Random, masks: &mut [u32], free: u32, receivers: &[usize]) {
+    for atom in 0..limits::ATOMS {
+        if free >> atom & 1 == 1 && !receivers.is_empty() && !random.once_in(4) {
+            masks[random.pick(receivers)] |= 1 << atom;
+        }
+    }
+}
+
+/// Some of the bits of a word: few, half or all.
+fn some_bits(random: &mut Random) -> u32 {
+    match random.below(4) {
+        0 => random.word() & random.word() & random.word(),
+        1 => u32::MAX,
+        _ => random.word(),
+    }
+}
+
+/// How often a controller runs: never, seldom, evenly or always.
+fn runs(random: &mut Random, habit: usize) -> bool {
+    match habit {
+        0 => false,
+        1 => random.once_in(8),
+        2 => random.once_in(2),
+        _ => true,
+    }
+}
+
+/// The atoms that may change after a state: those of nobody and those of the
+/// controllers that run in it.
+fn may_change(masks: &[u32], scheduled: u32) -> u32 {
+    let held = masks.iter().enumerate().filter(|(c, _)| scheduled >> c & 1 == 0);
+    !held.fold(0, |atoms, (_, own)| atoms | own)
+}
+
+/// States that obey the output rule, the last without a run mark.
+fn states(random: &mut Random, masks: &[u32], length: usize) -> Vec<u64> {
+    let habits: Vec<usize> = masks.iter().map(|_| random.below(4)).collect();
+    let mut atoms = random.word();
+    let mut words = Vec::new();
+    for k in 0..length {
+        let mut scheduled = 0;
+        for (c, habit) in habits.iter().enumerate() {
+            if k + 1 < length && runs(random, *habit) {
+                scheduled |= 1 << c;
+            }
+        }
+        words.push(State { atoms, scheduled }.word());
+        atoms ^= some_bits(random) & may_change(masks, scheduled);
+    }
+    words
+}
+
+/// An accepted recording of at most so many controllers and states.
+pub fn recording(
+    random: &mut Random,
+    most_controllers: usize,
+    most_states: usize,
+) -> RecordingTable {
+    let controllers = random.size(1, most_controllers);
+    let length = random.size(1, most_states);
+    let everybody: Vec<usize> = (0..controllers).collect();
+    let mut masks = vec![0; controllers];
+    share_atoms(random, &mut masks, u32::MAX, &everybody);
+    let states = states(random, &masks, length);
+    RecordingTable { controllers, length, masks, states }
+}
+
+/// The number of controllers or of states made wrong, or not matching.
+fn damage_heading(random: &mut Random, recording: &mut RecordingTable) {
+    match random.below(5) {
+        0 => recording.controllers = 0,
+        1 => recording.length = 0,
+        2 => recording.controllers = random.beyond(limits::CONTROLLERS + 1),
+        3 => recording.length = random.beyond(limits::STATES + 1),
+        _ => {
+            recording.controllers = random.between(1, limits::CONTROLLERS);
+            recording.length = random.between(1, limits::STATES);
+        }
+    }
+}
+
+/// Masks or states taken away: a line missing.
+fn shorten(random: &mut Random, recording: &mut RecordingTable) {
+    if random.once_in(2) {
+        recording.masks.truncate(random.below(recording.masks.len()));
+    } else {
+        recording.states.truncate(random.below(recording.states.len()));
+    }
+}
+
+/// A bit of a state turned over: an atom, a run mark, or one at C or above.
+fn damage_state(random: &mut Random, recording: &mut RecordingTable) {
+    let k = random.below(recording.states.len());
+    let k = if random.once_in(4) { recording.states.len() - 1 } else { k };
+    let turned = match random.below(4) {
+        0 => random.below(limits::ATOMS),
+        1 => 32 + random.below(recording.controllers),
+        2 => 32 + random.between(recording.controllers, 31),
+        _ => random.below(64),
+    };
+    recording.states[k] ^= 1 << turned;
+}
+
+/// A recording that is most of the time refused.
+pub fn damaged_recording(
+    random: &mut Random,
+    most_controllers: usize,
+    most_states: usize,
+) -> RecordingTable {
+    let mut recording = recording(random, most_controllers, most_states);
+    for _ in 0..random.pick(&[1, 1, 2]) {
+        if recording.masks.is_empty() || recording.states.is_empty() {
+            break;
+        }
+        let (mask, state) = (recording.masks.len(), recording.states.len());
+        match random.below(8) {
+            0 => shorten(random, &mut recording),
+            1 => recording.masks[random.below(mask)] |= 1 << random.below(limits::ATOMS),
+            2 => recording.states[random.below(state)] = random.bits(),
+            3 => recording.masks.extend([random.word(), random.word()]),
+            4 => recording.states.extend([random.bits(), random.bits()]),
+            5 | 6 => damage_state(random, &mut recording),
+            _ => {}
+        }
+    }
+    if random.once_in(4) {
+        damage_heading(random, &mut recording);
+    }
+    recording
+}
+
+/// An accepted recording or a damaged one.
+pub fn any_recording(
+    random: &mut Random,
+    most_controllers: usize,
+    most_states: usize,
+) -> RecordingTable {
+    if random.once_in(2) {
+        recording(random, most_controllers, most_states)
+    } else {
+        damaged_recording(random, most_controllers, most_states)
+    }
+}
+
+/// The words of the states in which a controller runs, and its own atoms
+/// after the last of them.
+fn local_words(recording: &RecordingTable, controller: usize) -> (Vec<u32>, u32) {
+    let own = recording.masks[controller];
+    let states = recording.states.iter().map(|word| State::of_word(*word));
+    let mut steps = Vec::new();
+    let mut last = State::of_word(recording.states[0]).atoms & own;
+    let mut after_step = false;
+    for state in states {
+        if after_step {
+            last = state.atoms & own;
+        }
+        after_step = state.scheduled >> controller & 1 == 1;
+        if after_step {
+            steps.push(state.atoms);
+        }
+    }
+    (steps, last)
+}
+
+/// In which of `length` states the `steps` steps come; never in the last.
+fn schedule(random: &mut Random, steps: usize, length: usize) -> Vec<bool> {
+    let mut picked = vec![false; length];
+    let mut left = steps;
+    for (k, step) in picked.iter_mut().enumerate() {
+        let free = length - 1 - k;
+        *step = left > 0 && random.below(free) < left;
+        left -= usize::from(*step);
+    }
+    picked
+}
+
+/// The words of a recording with these steps at the picked states: between
+/// them own atoms are those of the place that follows, the others are free.
+fn scheduled_atoms(
+    random: &mut Random,
+    own: u32,
+    picked: &[bool],
+    steps: &[u32],
+    last: u32,
+) -> Vec<u32> {
+    let mut place = 0;
+    let mut words = Vec::new();
+    for step in picked {
+        let next = steps.get(place).copied().unwrap_or(last);
+        if *step {
+            words.push(next);
+            place += 1;
+        } else {
+            let before = words.last().copied().unwrap_or(next);
+            let foreign = before ^ (some_bits(random) & some_bits(random));
+            words.push((next & own) | (foreign & !own));
+        }
+    }
+    words
+}
+
+/// The run marks of a state for all but one controller: those whose atoms
+/// change have to run, the others may.
+fn others_scheduled(
+    random: &mut Random,
+    masks: &[u32],
+    controller: usize,
+    changed: u32,
+    habits: &[usize],
+) -> u32 {
+    let mut scheduled = 0;
+    for (c, own) in masks.iter().enumerate() {
+        if c != controller && (changed & own != 0 || runs(random, habits[c])) {
+            scheduled |= 1 << c;
+        }
+    }
+    scheduled
+}
+
+/// Masks for a number of controllers, one of which keeps its own atoms.
+fn other_masks(random: &mut Random, controllers: usize, controller: usize, own: u32) -> Vec<u32> {
+    let others: Vec<usize> = (0..controllers).filter(|c| *c != controller).collect();
+    let mut masks = vec![0; controllers];
+    masks[controller] = own;
+    share_atoms(random, &mut masks, !own, &others);
+    masks
+}
+
+/// Another recording that has this controller, with the same local trace and
+/// the same mask of own atoms for it: other length, other controllers, other
+/// states between its steps.
+pub fn rescheduled(
+    random: &mut Random,
+    recording: &RecordingTable,
+    controller: usize,
+) -> RecordingTable {
+    let own = recording.masks[controller];
+    let (steps, last) = local_words(recording, controller);
+    let length = random.size(steps.len() + 1, limits::STATES);
+    let controllers = random.between(controller + 1, limits::CONTROLLERS);
+    let masks = other_masks(random, controllers, controller, own);
+    let habits: Vec<usize> = masks.iter().map(|_| random.below(4)).collect();
+    let picked = schedule(random, steps.len(), length);
+    let atoms = scheduled_atoms(random, own, &picked, &steps, last);
+    let mut states = Vec::new();
+    for k in 0..length {
+        let mut scheduled = u32::from(picked[k]) << controller;
+        if k + 1 < length {
+            let changed = atoms[k] ^ atoms[k + 1];
+            scheduled |= others_scheduled(random, &masks, controller, changed, &habits);
+        }
+        states.push(State { atoms: atoms[k], scheduled }.word());
+    }
+    RecordingTable { controllers, length, masks, states }
+}

@@ -1,0 +1,23 @@
+//! A second program that reads the definitions of document 01 directly.
+//!
+//! [`model`] has the nine operations and the program, naive and quantifier by
+//! quantifier; [`generate`] makes the inputs on which it is compared.
+//!
+//! Public names are those of document 01. Inside, names are the field's:
+//!
+//! | document 01        | here                     |
+//! |--------------------|--------------------------|
+//! | rule               | formula (a DAG in a table) |
+//! | controller         | component                |
+//! | recording          | trace                    |
+//! | run mark           | scheduled                |
+//! | own, foreign atom  | output, input atom       |
+//! | place              | position                 |
+//! | tolerant           | stutter tolerant         |
+//! | lent space         | the caller's buffer      |
+
+#![forbid(unsafe_code)]
+#![warn(missing_docs)]
+
+pub mod generate;
+pub mod model;

@@ -1,0 +1,451 @@
+//! The nine operations and the program of document 01, over lent slices.
+//!
+//! Every operation says first what it answers as a pure function of what it
+//! reads, then leaves that in lent space: untouched after 13, the full size
+//! zero after another refusal, and the content followed by zeros when
+//! accepted. What is lent past the full size is never touched.
+
+pub mod formula;
+pub mod limits;
+pub mod refusal;
+pub mod rewriting;
+pub mod semantics;
+pub mod text;
+pub mod trace;
+
+use formula::{check_formula, check_nodes, Formula, Language, Node};
+use semantics::{local_readings, trace_readings, Reading, Readings};
+use text::RefusedLine;
+use trace::{check_trace, Trace};
+
+/// What reading a rule answers.
+#[derive(Clone, Copy, PartialEq, Eq, Debug)]
+pub struct RuleHeading {
+    /// The rule's controller.
+    pub controller: usize,
+    /// Its node count.
+    pub count: usize,
+}
+
+/// What reading a recording answers.
+#[derive(Clone, Copy, PartialEq, Eq, Debug)]
+pub struct RecordingHeading {
+    /// C, the number of controllers.
+    pub controllers: usize,
+    /// N, the number of states.
+    pub states: usize,
+}
+
+/// A weak and a strong verdict.
+#[derive(Clone, Copy, PartialEq, Eq, Debug)]
+pub struct Verdict {
+    /// The weak verdict.
+    pub weak: bool,
+    /// The strong verdict.
+    pub strong: bool,
+}
+
+/// What a rewriting answers.
+#[derive(Clone, Copy, PartialEq, Eq, Debug)]
+pub struct Rewriting {
+    /// The node count of the rewritten table.
+    pub count: usize,
+    /// The number of its top weak node.
+    pub weak_top: usize,
+    /// The number of its top strong node.
+    pub strong_top: usize,
+}
+
+/// One of the two texts of the joint reading.
+#[derive(Clone, Copy, PartialEq, Eq, Debug)]
+pub enum Source {
+    /// The rule text.
+    Rule,
+    /// The recording text.
+    Recording,
+}
+
+/// A part of one of the two texts of the joint reading.
+#[derive(Clone, Copy, PartialEq, Eq, Debug)]
+pub struct Part {
+    /// The text it is a part of.
+    pub source: Source,
+    /// Where it starts in that text.
+    pub start: usize,
+    /// How many bytes it has.
+    pub length: usize,
+}
+
+/// The condition of 13: lent for output and shorter than its full size.
+fn too_short<T>(lent: &[T], full: usize) -> bool {
+    lent.len() < full
+}
+
+/// Leaves a content and zeros after it, up to the full size.
+fn leave<T: Copy + Default>(lent: &mut [T], full: usize, content: &[T]) {
+    lent[..full].fill(T::default());
+    lent[..content.len()].copy_from_slice(content);
+}
+
+/// The words of nodes in lent space.
+fn node_words(nodes: &[Node]) -> Vec<u32> {
+    nodes.iter().map(|node| node.word()).collect()
+}
+
+/// The words of states in lent space.
+fn state_words(trace: &Trace) -> Vec<u64> {
+    trace.states.iter().map(|state| state.word()).collect()
+}
+
+/// Leaves a rule that was read, or zeros.
+fn leave_rule(nodes: &mut [u32], formula: Option<&Formula>) {
+    let content = formula.map_or(Vec::new(), |formula| node_words(&formula.nodes));
+    leave(nodes, limits::RULE_NODES, &content);
+}
+
+/// Leaves a recording that was read, or zeros.
+fn leave_recording(masks: &mut [u32], states: &mut [u64], trace: Option<&Trace>) {
+    let content = trace.map_or(&[][..], |trace| &trace.masks);
+    leave(masks, limits::CONTROLLERS, content);
+    leave(states, limits::STATES, &trace.map_or(Vec::new(), state_words));
+}
+
+/// "read a rule (controller, count, nodes)".
+pub fn read_rule(text: &[u8], nodes: &mut [u32]) -> Result<RuleHeading, u8> {
+    if too_short(nodes, limits::RULE_NODES) {
+        return Err(refusal::LENT_SPACE);
+    }
+    let answer = text::read_rule(text);
+    leave_rule(nodes, answer.as_ref().ok());
+    let formula = answer.map_err(|refused| refused.number)?;
+    Ok(RuleHeading { controller: formula.component, count: formula.nodes.len() })
+}
+
+/// "write one (length, text)".
+pub fn write_rule(
+    controller: usize,
+    count: usize,
+    nodes: &[u32],
+    text: &mut [u8],
+) -> Result<usize, u8> {
+    if too_short(text, limits::RULE_TEXT) {
+        return Err(refusal::LENT_SPACE);
+    }
+    let answer = check_formula(controller, count, nodes).map(|formula| text::write_rule(&formula));
+    let content = answer.as_ref().map_or(&[][..], |written| written);
+    leave(text, limits::RULE_TEXT, content);
+    answer.map(|written| written.len())
+}
+
+/// "read a recording (C, N, masks, states)".
+pub fn read_recording(
+    text: &[u8],
+    masks: &mut [u32],
+    states: &mut [u64],
+) -> Result<RecordingHeading, u8> {
+    if too_short(masks, limits::CONTROLLERS) || too_short(states, limits::STATES) {
+        return Err(refusal::LENT_SPACE);
+    }
+    let answer = text::read_recording(text);
+    leave_recording(masks, states, answer.as_ref().ok());
+    let trace = answer.map_err(|refused| refused.number)?;
+    Ok(RecordingHeading { controllers: trace.masks.len(), states: trace.states.len() })
+}
+
+/// The refused line of a text, as a number and a part.
+fn refused_part(source: Source, refused: RefusedLine) -> (u8, Part) {
+    let part = Part { source, start: refused.line.start, length: refused.line.len() };
+    (refused.number, part)
+}
+
+/// Both texts: the whole rule text, the whole recording text, then 11.
+fn joint(rule_text: &[u8], recording_text: &[u8]) -> Result<(Formula, Trace), (u8, Part)> {
+    let formula =
+        text::read_rule(rule_text).map_err(|refused| refused_part(Source::Rule, refused))?;
+    let trace = text::read_recording(recording_text)
+        .map_err(|refused| refused_part(Source::Recording, refused))?;
+    trace.check_component(formula.component).map_err(|number| {
+        let first_line = rule_text.iter().take_while(|byte| **byte != 10).count();
+        refused_part(Source::Rule, RefusedLine { number, line: 0..first_line })
+    })?;
+    Ok((formula, trace))
+}
+
+/// The heading of an accepted joint reading: number 0, controller, node count,
+/// C and N.
+fn joint_heading(formula: &Formula, trace: &Trace) -> [u32; 5] {
+    let sizes = [formula.nodes.len(), trace.masks.len(), trace.states.len()];
+    let [count, controllers, length] = sizes.map(|size| size as u32);
+    [0, formula.component as u32, count, controllers, length]
+}
+
+/// "The joint reading takes the rule text, then the recording text, and hands
+/// back the refused line itself". `heading` gets the number (0 when accepted),
+/// controller, node count, C and N, all zero but the number on a refusal.
+pub fn read_joint(
+    rule_text: &[u8],
+    recording_text: &[u8],
+    nodes: &mut [u32],
+    masks: &mut [u32],
+    states: &mut [u64],
+    heading: &mut [u32; 5],
+) -> Part {
+    let short_masks_or_states =
+        too_short(masks, limits::CONTROLLERS) || too_short(states, limits::STATES);
+    if too_short(nodes, limits::RULE_NODES) || short_masks_or_states {
+        *heading = [u32::from(refusal::LENT_SPACE), 0, 0, 0, 0];
+        return Part { source: Source::Rule, start: 0, length: 0 };
+    }
+    let answer = joint(rule_text, recording_text);
+    leave_rule(nodes, answer.as_ref().ok().map(|(formula, _)| formula));
+    leave_recording(masks, states, answer.as_ref().ok().map(|(_, trace)| trace));
+    match answer {
+        Err((number, part)) => {
+            *heading = [u32::from(number), 0, 0, 0, 0];
+            part
+        }
+        Ok((formula, trace)) => {
+            *heading = joint_heading(&formula, &trace);
+            Part { source: Source::Recording, start: recording_text.len(), length: 0 }
+        }
+    }
+}
+
+/// "project (recording and c)": answers the local length L.
+pub fn project(
+    controllers: usize,
+    length: usize,
+    masks: &[u32],
+    states: &[u64],
+    controller: usize,
+    places: &mut [u32],
+) -> Result<usize, u8> {
+    if too_short(places, limits::PLACES) {
+        return Err(refusal::LENT_SPACE);
+    }
+    let answer = check_trace(controllers, length, masks, states).and_then(|trace| {
+        trace.check_component(controller)?;
+        Ok(trace::project(&trace, controller).positions)
+    });
+    let content = answer.as_ref().map_or(&[][..], |positions| positions);
+    leave(places, limits::PLACES, content);
+    answer.map(|positions| positions.len())
+}
+
+/// The weak reading of one node and the strong reading of another at place 0.
+fn verdict(readings: &Readings, weak_top: usize, strong_top: usize) -> Verdict {
+    Verdict {
+        weak: readings.at(weak_top, Reading::Weak, 0),
+        strong: readings.at(strong_top, Reading::Strong, 0),
+    }
+}
+
+/// "judge a rule on its local trace (rule and recording, for the rule's
+/// controller)".
+pub fn judge_local(
+    controller: usize,
+    count: usize,
+    nodes: &[u32],
+    controllers: usize,
+    length: usize,
+    masks: &[u32],
+    states: &[u64],
+) -> Result<Verdict, u8> {
+    let formula = check_formula(controller, count, nodes)?;
+    let trace = check_trace(controllers, length, masks, states)?;
+    trace.check_component(controller)?;
+    let local = trace::project(&trace, controller);
+    let readings = local_readings(&formula.nodes, &local);
+    let rule = formula.nodes.len() - 1;
+    Ok(verdict(&readings, rule, rule))
+}
+
+/// "rewrite plain or short (rule and own mask, any 32 bits)".
+pub fn rewrite(
+    short: bool,
+    controller: usize,
+    count: usize,
+    nodes: &[u32],
+    mask: u32,
+    table: &mut [u32],
+) -> Result<Rewriting, u8> {
+    if too_short(table, limits::TABLE_NODES) {
+        return Err(refusal::LENT_SPACE);
+    }
+    let answer = check_formula(controller, count, nodes).and_then(|formula| {
+        let rewritten = rewriting::rewrite(short, &formula, mask);
+        if rewritten.nodes.len() > limits::TABLE_NODES {
+            return Err(refusal::TABLE_SIZE);
+        }
+        Ok(rewritten)
+    });
+    let content = answer.as_ref().map_or(Vec::new(), |rewritten| node_words(&rewritten.nodes));
+    leave(table, limits::TABLE_NODES, &content);
+    answer.map(|rewritten| Rewriting {
+        count: rewritten.nodes.len(),
+        weak_top: rewritten.weak_top,
+        strong_top: rewritten.strong_top,
+    })
+}
+
+/// "A row is 128 yes-or-no marks with the count of states it covers": low
+/// word, high word and count; mark k is bit k.
+fn row(readings: &Readings, node: usize, reading: Reading, length: usize) -> [u64; 3] {
+    let mut words = [0, 0, length as u64];
+    for k in 0..length {
+        if readings.at(node, reading, k) {
+            words[k / 64] |= 1 << (k % 64);
+        }
+    }
+    words
+}
+
+/// "a weak and a strong row for each node".
+fn row_pairs(readings: &Readings, count: usize, length: usize) -> Vec<u64> {
+    let mut words = Vec::with_capacity(count * limits::PAIR_WORDS);
+    for node in 0..count {
+        words.extend(row(readings, node, Reading::Weak, length));
+        words.extend(row(readings, node, Reading::Strong, length));
+    }
+    words
+}
+
+/// The judge's table: its nodes (2, 3, 4), then its tops (2).
+fn check_table(count: usize, nodes: &[u32], tops: [usize; 2]) -> Result<Vec<Node>, u8> {
+    let table = check_nodes(count, nodes, Language::Rewritten)?;
+    if tops.iter().any(|top| *top >= count) {
+        return Err(refusal::RULE_LIMIT);
+    }
+    Ok(table)
+}
+
+/// "judge the whole recording".
+#[allow(clippy::too_many_arguments)]
+pub fn judge_recording(
+    count: usize,
+    nodes: &[u32],
+    weak_top: usize,
+    strong_top: usize,
+    controllers: usize,
+    length: usize,
+    masks: &[u32],
+    states: &[u64],
+    controller: usize,
+    rows: &mut [u64],
+) -> Result<Verdict, u8> {
+    if too_short(rows, limits::ROW_WORDS) {
+        return Err(refusal::LENT_SPACE);
+    }
+    let answer = check_table(count, nodes, [weak_top, strong_top]).and_then(|table| {
+        let trace = check_trace(controllers, length, masks, states)?;
+        trace.check_component(controller)?;
+        Ok(trace_readings(&table, &trace, controller))
+    });
+    let content = answer.as_ref().map_or(Vec::new(), |readings| row_pairs(readings, count, length));
+    leave(rows, limits::ROW_WORDS, &content);
+    answer.map(|readings| verdict(&readings, weak_top, strong_top))
+}
+
+/// "Refused, it prints only `refused`, number, line, tab-parted".
+fn refused_output(number: u8, line: &[u8]) -> Vec<u8> {
+    text::printed(&[b"refused", number.to_string().as_bytes(), line])
+}
+
+/// A verdict's two words.
+fn yes_or_no(verdict: bool) -> &'static [u8] {
+    if verdict {
+        b"yes"
+    } else {
+        b"no"
+    }
+}
+
+/// The tables that the joint reading left in the program's own space.
+struct Tables {
+    controller: usize,
+    count: usize,
+    controllers: usize,
+    length: usize,
+    nodes: [u32; limits::RULE_NODES],
+    masks: [u32; limits::CONTROLLERS],
+    states: [u64; limits::STATES],
+}
+
+/// The program's input as tables, or the refusal number and the refused line.
+fn program_tables(input: &[u8]) -> Result<Tables, (u8, &[u8])> {
+    if input.len() > limits::PROGRAM_INPUT {
+        return Err((refusal::PROGRAM_INPUT, &[]));
+    }
+    let (rule_text, recording_text) = text::split_input(input);
+    let mut nodes = [0; limits::RULE_NODES];
+    let mut masks = [0; limits::CONTROLLERS];
+    let mut states = [0; limits::STATES];
+    let mut heading = [0; 5];
+    let part =
+        read_joint(rule_text, recording_text, &mut nodes, &mut masks, &mut states, &mut heading);
+    let [number, controller, count, controllers, length] = heading.map(|value| value as usize);
+    if number != 0 {
+        let text = match part.source {
+            Source::Rule => rule_text,
+            Source::Recording => recording_text,
+        };
+        return Err((number as u8, &text[part.start..part.start + part.length]));
+    }
+    Ok(Tables { controller, count, controllers, length, nodes, masks, states })
+}
+
+/// The line `local`, places.
+fn local_line(tables: &Tables) -> Result<Vec<u8>, u8> {
+    let Tables { controllers, length, masks, states, .. } = tables;
+    let mut places = [0; limits::PLACES];
+    let local = project(*controllers, *length, masks, states, tables.controller, &mut places)?;
+    Ok(text::printed(&[b"local", local.to_string().as_bytes()]))
+}
+
+/// The line `own`, weak, strong on the local trace.
+fn own_line(tables: &Tables) -> Result<Vec<u8>, u8> {
+    let Tables { controller, count, nodes, controllers, length, masks, states } = tables;
+    let own = judge_local(*controller, *count, nodes, *controllers, *length, masks, states)?;
+    Ok(text::printed(&[b"own", yes_or_no(own.weak), yes_or_no(own.strong)]))
+}
+
+/// The line `plain` or `short`, nodes, weak, strong.
+fn rewritten_line(tables: &Tables, short: bool) -> Result<Vec<u8>, u8> {
+    let Tables { controller, count, nodes, controllers, length, masks, states } = tables;
+    let mut table = [0; limits::TABLE_NODES];
+    let mut rows = vec![0; limits::ROW_WORDS];
+    let own = masks[*controller];
+    let answer = rewrite(short, *controller, *count, nodes, own, &mut table)?;
+    let verdict = judge_recording(
+        answer.count,
+        &table,
+        answer.weak_top,
+        answer.strong_top,
+        *controllers,
+        *length,
+        masks,
+        states,
+        *controller,
+        &mut rows,
+    )?;
+    let word: &[u8] = if short { b"short" } else { b"plain" };
+    let (weak, strong) = (yes_or_no(verdict.weak), yes_or_no(verdict.strong));
+    Ok(text::printed(&[word, answer.count.to_string().as_bytes(), weak, strong]))
+}
+
+/// The four lines of the output.
+fn report(tables: &Tables) -> Result<Vec<u8>, u8> {
+    let mut output = local_line(tables)?;
+    output.extend(own_line(tables)?);
+    output.extend(rewritten_line(tables, false)?);
+    output.extend(rewritten_line(tables, true)?);
+    Ok(output)
+}
+
+/// "The program": its whole standard input to its whole standard output.
+pub fn program(input: &[u8]) -> Vec<u8> {
+    match program_tables(input) {
+        Err((number, line)) => refused_output(number, line),
+        Ok(tables) => report(&tables).unwrap_or_else(|number| refused_output(number, &[])),
+    }
+}

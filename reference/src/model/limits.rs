@@ -1,0 +1,22 @@
+//! The limits of document 01, each said once.
+
+/// "C controllers (1 to 8, numbered from 0)"; also the 8 masks of lent space.
+pub const CONTROLLERS: usize = 8;
+/// "N states (1 to 128)"; also the 128 states of lent space.
+pub const STATES: usize = 128;
+/// The 128 places of lent space.
+pub const PLACES: usize = 128;
+/// "A state is a word of 32 atoms".
+pub const ATOMS: usize = 32;
+/// "1 to 64 nodes; the last is the rule".
+pub const RULE_NODES: usize = 64;
+/// "a table of 1 to 1,024 nodes of all ten kinds".
+pub const TABLE_NODES: usize = 1024;
+/// "1,024 bytes of rule text".
+pub const RULE_TEXT: usize = 1024;
+/// Words of one row pair: low, high and count, for weak and for strong.
+pub const PAIR_WORDS: usize = 6;
+/// Words of the 1,024 row pairs of lent space.
+pub const ROW_WORDS: usize = TABLE_NODES * PAIR_WORDS;
+/// "14 over 16,384 bytes".
+pub const PROGRAM_INPUT: usize = 16384;

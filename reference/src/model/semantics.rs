@@ -1,0 +1,129 @@
+//! "Weak and strong": the two readings of every node at every place, by the
+//! quantified definitions. They are kept per node and place, nothing more.
+
+use super::formula::{Node, ATOM, END, NEXT, NOT, OR, PREV, RUN, SINCE, TRUE, UNTIL};
+use super::trace::{bit, LocalTrace, Trace};
+
+/// One of the two readings.
+#[derive(Clone, Copy, PartialEq, Eq, Debug)]
+pub enum Reading {
+    /// For recordings that stop early.
+    Weak,
+    /// For what has happened already.
+    Strong,
+}
+
+impl Reading {
+    /// The reading that a not hands to its operand.
+    fn opposite(self) -> Reading {
+        match self {
+            Reading::Weak => Reading::Strong,
+            Reading::Strong => Reading::Weak,
+        }
+    }
+}
+
+/// The readings of the first nodes of a table at each of `length` places.
+pub struct Readings {
+    length: usize,
+    marks: Vec<bool>,
+}
+
+impl Readings {
+    /// The reading of a node at a place.
+    pub fn at(&self, node: usize, reading: Reading, i: usize) -> bool {
+        assert!(i < self.length);
+        let row = match reading {
+            Reading::Weak => 2 * node,
+            Reading::Strong => 2 * node + 1,
+        };
+        self.marks[row * self.length + i]
+    }
+
+    /// "p until q: q at some k ≥ i below L and p at i to k-1; weak also if p
+    /// holds at i to L-1."
+    fn until(&self, p: usize, q: usize, reading: Reading, i: usize) -> bool {
+        let fulfilled = (i..self.length)
+            .any(|k| self.at(q, reading, k) && (i..k).all(|j| self.at(p, reading, j)));
+        let kept = (i..self.length).all(|j| self.at(p, reading, j));
+        fulfilled || (reading == Reading::Weak && kept)
+    }
+
+    /// "p since q: q at some k ≤ i and p at k+1 to i."
+    fn since(&self, p: usize, q: usize, reading: Reading, i: usize) -> bool {
+        (0..=i).any(|k| self.at(q, reading, k) && (k + 1..=i).all(|j| self.at(p, reading, j)))
+    }
+
+    /// "next p: p at i+1 if i < L-1; else weak yes, strong no."
+    fn next(&self, p: usize, reading: Reading, i: usize) -> bool {
+        if i < self.length - 1 {
+            self.at(p, reading, i + 1)
+        } else {
+            reading == Reading::Weak
+        }
+    }
+
+    /// "prev p: i > 0 and p at i-1."
+    fn prev(&self, p: usize, reading: Reading, i: usize) -> bool {
+        i > 0 && self.at(p, reading, i - 1)
+    }
+
+    /// The clause of "Weak and strong" for this node; `literal` reads atom,
+    /// run and end.
+    fn clause(&self, node: Node, literal: &impl Literal, reading: Reading, i: usize) -> bool {
+        match node.kind {
+            TRUE => true,
+            ATOM | RUN | END => literal(node, reading, i),
+            NOT => !self.at(node.first, reading.opposite(), i),
+            OR => self.at(node.first, reading, i) || self.at(node.second, reading, i),
+            NEXT => self.next(node.first, reading, i),
+            UNTIL => self.until(node.first, node.second, reading, i),
+            PREV => self.prev(node.first, reading, i),
+            SINCE => self.since(node.first, node.second, reading, i),
+            _ => unreachable!("a checked table has the ten kinds only"),
+        }
+    }
+}
+
+/// How atom, run and end are read at a place.
+trait Literal: Fn(Node, Reading, usize) -> bool {}
+
+impl<F: Fn(Node, Reading, usize) -> bool> Literal for F {}
+
+/// The readings of all nodes of a checked table over `length` places.
+fn readings(nodes: &[Node], length: usize, literal: &impl Literal) -> Readings {
+    let marks = Vec::with_capacity(2 * nodes.len() * length);
+    let mut known = Readings { length, marks };
+    for node in nodes {
+        for reading in [Reading::Weak, Reading::Strong] {
+            for i in 0..length {
+                let mark = known.clause(*node, literal, reading, i);
+                known.marks.push(mark);
+            }
+        }
+    }
+    known
+}
+
+/// The readings of a rule on a local trace. "Own atom: its bit. Foreign atom:
+/// its bit if i < L-1, else weak yes, strong no."
+pub fn local_readings(nodes: &[Node], local: &LocalTrace) -> Readings {
+    let length = local.positions.len();
+    readings(nodes, length, &|node, reading, i| {
+        if bit(local.own, node.first) || i < length - 1 {
+            bit(local.positions[i], node.first)
+        } else {
+            reading == Reading::Weak
+        }
+    })
+}
+
+/// The readings over the whole recording: "every atom, run and end (of c) is
+/// read as recorded, in both readings and in the last state too."
+pub fn trace_readings(nodes: &[Node], trace: &Trace, component: usize) -> Readings {
+    readings(nodes, trace.states.len(), &|node, _, k| match node.kind {
+        RUN => trace.runs(component, k),
+        END => trace.ended(component, k),
+        _ => bit(trace.states[k].atoms, node.first),
+    })
+}

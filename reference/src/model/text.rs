@@ -1,0 +1,254 @@
+//! "Texts": one record a line, fields parted by one tab.
+
+use std::ops::Range;
+
+use super::formula::{self, Formula, Language, Node, KIND_WORDS};
+use super::refusal;
+use super::trace::{self, State, Trace};
+
+/// The byte that closes a line.
+const NEWLINE: u8 = 10;
+/// The byte between two fields.
+const TAB: u8 = 9;
+/// The byte that no field after an unknown kind word may hold.
+const RETURN: u8 = 13;
+
+/// A refusal number and the refused line's place in its text.
+#[derive(Clone, PartialEq, Eq, Debug)]
+pub struct RefusedLine {
+    /// The refusal number.
+    pub number: u8,
+    /// The line without its byte 10.
+    pub line: Range<usize>,
+}
+
+/// The lines of a text, in order.
+struct Lines<'a> {
+    text: &'a [u8],
+    start: usize,
+    /// The number for a line that isn't closed.
+    form: u8,
+    /// The number for a line missing or one too many.
+    lines: u8,
+}
+
+impl<'a> Lines<'a> {
+    /// Where the line that starts here ends: its byte 10, if it has one.
+    fn closing(&self) -> Option<usize> {
+        (self.start..self.text.len()).find(|at| self.text[*at] == NEWLINE)
+    }
+
+    /// Reads one line and hands it to `read`. "for an unclosed line all that
+    /// is left, for a missing line the empty end of that text".
+    fn read<T>(&mut self, read: impl FnOnce(&[u8]) -> Result<T, u8>) -> Result<T, RefusedLine> {
+        let end = self.text.len();
+        if self.start == end {
+            return Err(RefusedLine { number: self.lines, line: end..end });
+        }
+        match self.closing() {
+            None => Err(RefusedLine { number: self.form, line: self.start..end }),
+            Some(closing) => {
+                let line = self.start..closing;
+                self.start = closing + 1;
+                read(&self.text[line.clone()]).map_err(|number| RefusedLine { number, line })
+            }
+        }
+    }
+
+    /// "for a line too many the first extra one (up to its byte 10 or the end)".
+    fn finish(&self) -> Result<(), RefusedLine> {
+        let end = self.text.len();
+        if self.start == end {
+            return Ok(());
+        }
+        let line = self.start..self.closing().unwrap_or(end);
+        Err(RefusedLine { number: self.lines, line })
+    }
+}
+
+/// The fields of a line.
+fn fields(line: &[u8]) -> Vec<&[u8]> {
+    line.split(|byte| *byte == TAB).collect()
+}
+
+/// The value of a decimal field: digits without leading zeros. A value too
+/// large for a number here is outside every limit, as is the largest number.
+fn decimal(field: &[u8]) -> Option<usize> {
+    if field.is_empty() || !field.iter().all(u8::is_ascii_digit) {
+        return None;
+    }
+    if field.len() > 1 && field[0] == b'0' {
+        return None;
+    }
+    let digits = field.iter().map(|digit| usize::from(digit - b'0'));
+    Some(digits.fold(0, |value: usize, digit| value.saturating_mul(10).saturating_add(digit)))
+}
+
+/// The value of a field of exactly so many lower-case hexadecimal digits.
+fn hexadecimal(field: &[u8], digits: usize) -> Option<u32> {
+    if field.len() != digits {
+        return None;
+    }
+    let mut value = 0;
+    for byte in field {
+        let digit = match byte {
+            b'0'..=b'9' => byte - b'0',
+            b'a'..=b'f' => byte - b'a' + 10,
+            _ => return None,
+        };
+        value = value * 16 + u32::from(digit);
+    }
+    Some(value)
+}
+
+/// "a kind word is one or more letters a to z".
+fn is_kind_word(field: &[u8]) -> bool {
+    !field.is_empty() && field.iter().all(u8::is_ascii_lowercase)
+}
+
+/// A heading: its word and two decimal fields; anything else isn't of its form.
+fn heading(line: &[u8], word: &[u8]) -> Option<(usize, usize)> {
+    let fields = fields(line);
+    if fields.len() != 3 || fields[0] != word {
+        return None;
+    }
+    Some((decimal(fields[1])?, decimal(fields[2])?))
+}
+
+/// The line `rule`, controller, node count.
+fn rule_heading(line: &[u8]) -> Result<(usize, usize), u8> {
+    let (component, count) = heading(line, b"rule").ok_or(refusal::RULE_FORM)?;
+    formula::check_component(component)?;
+    formula::check_count(count, Language::Rule)?;
+    Ok((component, count))
+}
+
+/// A node line: "the kind word, spelt as above, and its operands, decimal".
+/// After an unknown kind word any fields without byte 13 do.
+fn node_of_line(line: &[u8]) -> Result<Node, u8> {
+    let fields = fields(line);
+    if !is_kind_word(fields[0]) {
+        return Err(refusal::RULE_FORM);
+    }
+    let Some(kind) = KIND_WORDS.iter().position(|word| *word == fields[0]) else {
+        let of_form = !line.contains(&RETURN);
+        return Err(if of_form { refusal::RULE_LIMIT } else { refusal::RULE_FORM });
+    };
+    let kind = kind as u32;
+    if fields.len() != 1 + formula::operand_count(kind) {
+        return Err(refusal::RULE_FORM);
+    }
+    let mut operands = [0, 0];
+    for (operand, field) in operands.iter_mut().zip(&fields[1..]) {
+        *operand = decimal(field).ok_or(refusal::RULE_FORM)?;
+    }
+    Ok(Node { kind, first: operands[0], second: operands[1] })
+}
+
+/// A rule text: its lines (1, 2, 3 of each), then the line count (4).
+pub fn read_rule(text: &[u8]) -> Result<Formula, RefusedLine> {
+    let mut lines = Lines { text, start: 0, form: refusal::RULE_FORM, lines: refusal::RULE_LINES };
+    let (component, count) = lines.read(rule_heading)?;
+    let mut nodes = Vec::new();
+    for number in 0..count {
+        nodes.push(lines.read(|line| {
+            let node = node_of_line(line)?;
+            formula::check_node(node, number, Language::Rule)?;
+            Ok(node)
+        })?);
+    }
+    lines.finish()?;
+    Ok(Formula { component, nodes })
+}
+
+/// The line `recording`, C, N.
+fn recording_heading(line: &[u8]) -> Result<(usize, usize), u8> {
+    let (components, length) = heading(line, b"recording").ok_or(refusal::RECORDING_FORM)?;
+    trace::check_heading(components, length)?;
+    Ok((components, length))
+}
+
+/// The line `owns`, mask.
+fn mask_of_line(line: &[u8]) -> Result<u32, u8> {
+    let fields = fields(line);
+    if fields.len() != 2 || fields[0] != b"owns" {
+        return Err(refusal::RECORDING_FORM);
+    }
+    hexadecimal(fields[1], 8).ok_or(refusal::RECORDING_FORM)
+}
+
+/// The line `at`, run marks, word.
+fn state_of_line(line: &[u8]) -> Result<State, u8> {
+    let fields = fields(line);
+    if fields.len() != 3 || fields[0] != b"at" {
+        return Err(refusal::RECORDING_FORM);
+    }
+    let scheduled = hexadecimal(fields[1], 2).ok_or(refusal::RECORDING_FORM)?;
+    let atoms = hexadecimal(fields[2], 8).ok_or(refusal::RECORDING_FORM)?;
+    Ok(State { atoms, scheduled })
+}
+
+/// A recording text: its lines (5, 6, 7, 10, 9 of each), then the line count (8).
+pub fn read_recording(text: &[u8]) -> Result<Trace, RefusedLine> {
+    let mut lines =
+        Lines { text, start: 0, form: refusal::RECORDING_FORM, lines: refusal::RECORDING_LINES };
+    let (components, length) = lines.read(recording_heading)?;
+    let mut masks = Vec::new();
+    for _ in 0..components {
+        masks.push(lines.read(|line| {
+            let mask = mask_of_line(line)?;
+            trace::check_mask(&masks, mask)?;
+            Ok(mask)
+        })?);
+    }
+    let mut states = Vec::new();
+    for _ in 0..length {
+        states.push(lines.read(|line| {
+            let state = state_of_line(line)?;
+            trace::check_state(components, length, &masks, &states, state)?;
+            Ok(state)
+        })?);
+    }
+    lines.finish()?;
+    Ok(Trace { masks, states })
+}
+
+/// Adds one record to a text.
+fn put_line(text: &mut Vec<u8>, fields: &[&[u8]]) {
+    text.extend(fields.join(&TAB));
+    text.push(NEWLINE);
+}
+
+/// "A writer gives this text from an accepted table".
+pub fn write_rule(formula: &Formula) -> Vec<u8> {
+    let mut text = Vec::new();
+    let component = formula.component.to_string();
+    let count = formula.nodes.len().to_string();
+    put_line(&mut text, &[b"rule", component.as_bytes(), count.as_bytes()]);
+    for node in &formula.nodes {
+        let word = KIND_WORDS[node.kind as usize];
+        let first = node.first.to_string();
+        let second = node.second.to_string();
+        let fields = [word, first.as_bytes(), second.as_bytes()];
+        put_line(&mut text, &fields[..1 + formula::operand_count(node.kind)]);
+    }
+    text
+}
+
+/// "split at the first such line; with none, the recording text is empty":
+/// the rule text and the recording text around the first line `-`.
+pub fn split_input(input: &[u8]) -> (&[u8], &[u8]) {
+    let starts = |at: usize| at == 0 || input[at - 1] == NEWLINE;
+    let parting = (0..input.len()).find(|at| starts(*at) && input[*at..].starts_with(b"-\n"));
+    match parting {
+        None => (input, &[]),
+        Some(at) => (&input[..at], &input[at + 2..]),
+    }
+}
+
+/// A line of the program's output.
+pub fn printed(fields: &[&[u8]]) -> Vec<u8> {
+    let mut line = Vec::new();
+    put_line(&mut line, fields);
+    line
+}
