@@ -5,8 +5,7 @@ use mathlib.Core.List.{List, _++_}
 use Prim.Native.Nat.{ℕ, _+_, _*_, _-_, _<_, _≤_}
 use native.Mathlib.Omega.{arith}
 use lib.Dec.{ltb, leb}
-use lib.ListN.{length, take, drop, length-take}
-use lib.Seq.{take-at, drop-at, drop-drop}
+use lib.ListN.{length, drop, length-take}
 use borrow.Author.Needs.{needs}
 use borrow.Author.Tests.{ltb-true, leb-true, lt-ltb, le-ltb, ne-eqb}
 use Rattle.definitions.specs.Limits.{accepted, lentShort, noController, ruleLimits, maxRowWords, maxTableNodes, pairWords}
@@ -20,6 +19,7 @@ use Rattle.theorems.proofs.Choice.{both-true, accept-yes, or-else-none, pick-tr
 use Rattle.theorems.proofs.RecordingLaws.{Checked, checked}
 use Rattle.rows.specs.Lent.{cleared}
 use Rattle.rows.proofs.LentLaws.{pairs-length}
+use Rattle.rows.proofs.LeftLaws.{laid-past, laid-begins, left-untouched, left-zeroed, left-filled}
 use Rattle.evaluation.specs.declared.verdicts.Verdicts.{Verdicts}
 use Rattle.evaluation.specs.declared.verdicts.Verdicts.the-variants.{Refused}
 use Rattle.evaluation.specs.Traced.{traceOf, everyAtom}
@@ -30,29 +30,6 @@ use Rattle.evaluation.proofs.CheckedNodes.{nodes-fit, nodes-there}
 use Rattle.evaluation.proofs.TraceLaws.{whole-rows}
 use Rattle.evaluation.proofs.RefusalLaws.{judge-low}
 use Rattle.evaluation.proofs.TopLaws.{topped, tops-answer, same-verdicts}
-
--- ---- what is left in lent space, of any full size
-
-pub left-laid : (full k : ℕ) (content entry l exit : List ℕ) → length content ≡ k → k ≤ full → l ≡ content ++ drop k entry → exit ≡ cleared l k full
-    → exit ≡ operations.left accepted full content entry
-unfolding cleared operations.left pick
-left-laid full k content entry l exit len le e v =
-    let sum : k + (full - k) ≡ full = omega arith in
-    let front : take k l ≡ content = ap (take k) e ∙ take-at content (drop k entry) k len in
-    let back : drop k l ≡ drop k entry = ap (drop k) e ∙ drop-at content (drop k entry) k len in
-    let past : drop full l ≡ drop full entry = rw sum at (sym (drop-drop (full - k) k l) ∙ ap (drop (full - k)) back ∙ drop-drop (full - k) k entry) in
-    v ∙ rw (front, past, len)
-
-left-refused : (number full : ℕ) (content entry exit : List ℕ) → (number ≡ lentShort → ⊥) → (number ≡ accepted → ⊥) → exit ≡ cleared entry 0 full
-    → exit ≡ operations.left number full content entry
-unfolding cleared operations.left pick
-left-refused number full content entry exit short some v =
-    let e : full - 0 ≡ full = omega arith in
-    v ∙ rw (ne-eqb number lentShort short, ne-eqb number accepted some, e)
-
-left-short : (full : ℕ) (content entry : List ℕ) → entry ≡ operations.left lentShort full content entry
-unfolding operations.left pick
-left-short full content entry = refl
 
 pub answer-refused : (number : ℕ) (values : List ℕ) → (number ≡ accepted → ⊥) → answerOf (Refused number) ≡ answer number values
 unfolding answerOf answer pick
@@ -73,9 +50,10 @@ module _ (nodes : List ℕ) (count weakTop strongTop : ℕ) (states : List ℕ) 
       let rs = rows-length (traceOf states n c everyAtom) (nodesIn count nodes) in
       let ns = nodes-length nodes count (ready .evaluable .counted) in
       let len : length (pairsWords (rowsTo nodes count states n c everyAtom)) ≡ count * pairWords = omega (arith, pairs-length (rowsTo nodes count states n c everyAtom)) in
+      let over : l ≡ pairsWords (rowsTo nodes count states n c everyAtom) ++ drop (length (pairsWords (rowsTo nodes count states n c everyAtom))) entry = rw len laid in
       record {
         answered = tops-answer nodes count states n c everyAtom entry l (drop (count * pairWords) entry) weakTop strongTop (ready .evaluable) laid (ready .weakBelow) (ready .strongBelow) r e;
-        laid = left-laid maxRowWords (count * pairWords) (pairsWords (rowsTo nodes count states n c everyAtom)) entry l exit len (omega (arith, ready .few)) laid v;
+        laid = left-filled accepted maxRowWords (pairsWords (rowsTo nodes count states n c everyAtom)) entry l exit (laid-past maxRowWords (pairsWords (rowsTo nodes count states n c everyAtom)) entry l (omega (arith, ready .few, len)) over) (count * pairWords) refl len (laid-begins (count * pairWords) (pairsWords (rowsTo nodes count states n c everyAtom)) entry l len over) v;
       }
 
 -- ---- the check
@@ -144,7 +122,7 @@ module _ (t : Table) (R : Recording) (c : ℕ) (entry : List ℕ) where
       let number : judgeRecordingNumber t R c entry ≡ lentShort = pick-true (tooShort maxRowWords entry) lentShort (orElse (tableRefusal t) (traceRefusal R c)) (lt-ltb (length entry) maxRowWords h) in
       record {
         answered = rw number (answer-refused lentShort (verdicts (whole R c) (nodesIn (t .count) (t .nodes)) (t .weakTop) (t .strongTop)) (λ z. omega arith));
-        rows = rw number (left-short maxRowWords (pairsWords (rowsOf (whole R c) (nodesIn (t .count) (t .nodes)))) entry);
+        rows = rw number (left-untouched lentShort maxRowWords (pairsWords (rowsOf (whole R c) (nodesIn (t .count) (t .nodes)))) entry refl);
       }
 
   module _ (room : maxRowWords ≤ length entry) (e : ℕ) (v : e ≡ orElse (tableRefusal t) (traceRefusal R c)) where
@@ -156,7 +134,7 @@ module _ (t : Table) (R : Recording) (c : ℕ) (entry : List ℕ) where
     unfolding judgeRecordingAnswer judgeRecordingRows
     whole-refused some exit x = record {
       answered = rw number-is (answer-refused e (verdicts (whole R c) (nodesIn (t .count) (t .nodes)) (t .weakTop) (t .strongTop)) some);
-      rows = rw number-is (left-refused e maxRowWords (pairsWords (rowsOf (whole R c) (nodesIn (t .count) (t .nodes)))) entry exit (λ z. omega (arith, judge-low t R c)) some x);
+      rows = rw number-is (left-zeroed e maxRowWords (pairsWords (rowsOf (whole R c) (nodesIn (t .count) (t .nodes)))) entry entry exit refl (omega (arith, judge-low t R c)) some x);
     }
 
     pub whole-judged : e ≡ 0 → (r : Verdicts) (exit : List ℕ) → WholeDone (t .nodes) (t .count) (t .weakTop) (t .strongTop) (R .states) (R .count) c entry r exit

@@ -4,7 +4,6 @@ pub mod LineLaws
 pub mod AnswerLaws
 pub mod HeadingLaws
 pub mod ScanLaws
-pub mod LentLaws
 pub mod RuleLaws
 pub mod PenLaws
 pub mod WriteLaws

@@ -11,6 +11,7 @@ use Rattle.definitions.specs.Bounded.{pick}
 use Rattle.definitions.specs.Tables.{Rule}
 use Rattle.definitions.specs.RuleText.{scanRule}
 use Rattle.definitions.specs.Operations.{Answer, answer, textOf, readRuleNumber, readRuleAnswer, readRuleNodes, writeRuleNumber, writeRuleAnswer, writeRuleText}
+use Rattle.theorems.proofs.LentSpace.{left-accepted}
 use Rattle.theorems.proofs.RoundTrips as theorem
 use Rattle.formula_text.specs.Reading.{readAnswer, ReadRule}
 use Rattle.formula_text.specs.Writing.{writeAnswer, WroteRule}
@@ -18,7 +19,6 @@ use Rattle.formula_text.specs.declared.read.RuleRead.{RuleRead}
 use Rattle.formula_text.specs.declared.read.RuleRead.the-variants as read
 use Rattle.formula_text.specs.declared.write.RuleWritten.{RuleWritten}
 use Rattle.formula_text.specs.declared.write.RuleWritten.the-variants as written
-use Rattle.formula_text.proofs.LentLaws.{left-accepted}
 
 -- what an accepted answer holds
 number-of : (number : ℕ) (values : List ℕ) (a : Answer) → a ≡ answer number values → a .number ≡ number
@@ -105,7 +105,9 @@ module _ (rule : Rule) (buffer buffer′ : List ℕ) (l : ℕ) (w : WroteRule ru
   -- the part that was written
   the-text : take l buffer′ ≡ textOf rule
   unfolding writeRuleText
-  the-text = ap (take l) (w .text ∙ left-accepted (writeRuleNumber rule buffer) maxRuleBytes (textOf rule) buffer fine) ∙ take-at (textOf rule) _ l long
+  the-text =
+      ap (take l) (w .text ∙ rw fine (left-accepted maxRuleBytes (textOf rule) buffer))
+      ∙ take-at (textOf rule) (replicate (maxRuleBytes - length (textOf rule)) 0 ++ drop maxRuleBytes buffer) l long
 
 -- "read again it is that table"
 pub table-back : (c n : ℕ) (ws buffer buffer′ nodes nodes′ : List ℕ) (l : ℕ) (r : RuleRead) → WroteRule (record { controller = c; count = n; nodes = ws }) buffer (written.Length l) buffer′

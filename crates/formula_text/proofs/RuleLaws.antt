@@ -22,7 +22,9 @@ use Rattle.theorems.proofs.RuleTextSteps.{rule-step}
 use Rattle.theorems.proofs.FieldLaws.{next-back}
 use Rattle.theorems.proofs.Inversions.{Formed, parsed-must}
 use Rattle.theorems.proofs.RoundTrips.{read-count}
+use Rattle.theorems.proofs.LentSpace.{refused-answer, accepted-answer}
 use Rattle.rows.specs.Lent.{cleared}
+use Rattle.rows.proofs.LeftLaws.{laid-past, laid-begins, left-untouched, left-zeroed, left-filled}
 use Rattle.lines.proofs.PartLaws.{part-laws, line-closed, line-open, line-part, rest-after}
 use Rattle.formula_text.specs.Reading.{heading, headingAnswer, NodesScanned, RuleScanned, ReadRule}
 use Rattle.formula_text.specs.declared.read.HeadingRead as head
@@ -32,7 +34,6 @@ use Rattle.formula_text.specs.declared.read.Scanned.{Scanned}
 use Rattle.formula_text.specs.declared.read.RuleRead.the-variants.{Rule, Refused}
 use Rattle.formula_text.proofs.HeadingLaws.{headed, unheaded}
 use Rattle.formula_text.proofs.ScanLaws.{next-missing, next-open, next-line}
-use Rattle.formula_text.proofs.LentLaws.{cleared-words, cleared-all, left-accepted, left-refused, left-short, refused-answer, accepted-answer}
 
 abbrev firstOf : List ℕ → ℕ
 firstOf t = nextRefusal ruleLines ruleForm t (ruleHeadingLineRefusal (lineOf t))
@@ -190,20 +191,22 @@ module _ (t o : List ℕ) where
       let e = number-short h in
       record {
         answered = rw e (refused-answer lentShort _ (λ q. omega arith));
-        nodes = sym (left-short (readRuleNumber t o) maxRuleNodes ((scanRule t) .words) o e);
+        nodes = left-untouched (readRuleNumber t o) maxRuleNodes ((scanRule t) .words) o e;
       }
 
   module _ (long : maxRuleNodes ≤ length o) (r : Scanned) (o′ : List ℕ) (s : RuleScanned t o r o′) where
     is : readRuleNumber t o ≡ r .number
     is = number-scanned long ∙ sym (s .number)
 
+    past : drop maxRuleNodes o′ ≡ drop maxRuleNodes o
+    past = laid-past maxRuleNodes ((scanRule t) .words) o o′ (scan-most t (first t)) (s .nodes)
+
     pub read-refused : (r .number ≡ 0 → ⊥) → (o″ : List ℕ) → o″ ≡ cleared o′ 0 maxRuleNodes → ReadRule t o (Refused (r .number)) o″
     unfolding readRuleAnswer readRuleNodes
     read-refused z o″ c =
         record {
           answered = rw is (refused-answer (r .number) _ z);
-          nodes = cleared-all maxRuleNodes ((scanRule t) .words) o o′ o″ (scan-most t (first t)) (s .nodes) c
-              ∙ sym (left-refused (readRuleNumber t o) maxRuleNodes ((scanRule t) .words) o (λ q. z (sym is ∙ q)) (rw (number-scanned long) (scan-low t (first t))));
+          nodes = left-zeroed (readRuleNumber t o) maxRuleNodes ((scanRule t) .words) o o′ o″ past (rw (number-scanned long) (scan-low t (first t))) (λ q. z (sym is ∙ q)) c;
         }
 
     module _ (z : r .number ≡ 0) where
@@ -218,8 +221,8 @@ module _ (t o : List ℕ) where
       read-accepted o″ c =
           record {
             answered = rw (s .controller, s .count) (accepted-answer (readRuleNumber t o) _ (is ∙ z));
-            nodes = cleared-words maxRuleNodes ((scanRule t) .words) o o′ o″ (scan-most t (first t)) (s .nodes) (r .count) counted c
-                ∙ sym (left-accepted (readRuleNumber t o) maxRuleNodes ((scanRule t) .words) o (is ∙ z));
+            nodes = left-filled (readRuleNumber t o) maxRuleNodes ((scanRule t) .words) o o′ o″ past (r .count) (is ∙ z) counted
+                (laid-begins (r .count) ((scanRule t) .words) o o′ counted (s .nodes)) c;
           }
 
 pub ruleset read-laws = (needs, read-short, read-refused, read-fits, read-accepted)

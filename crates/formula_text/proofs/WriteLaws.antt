@@ -11,7 +11,7 @@ use borrow.Author.Tests.{lt-ltb, le-ltb}
 use mir.Syntax.{w32}
 use mir.Val.{Fits}
 use Rattle.definitions.specs.Limits.{maxControllers, maxRuleNodes, maxRuleBytes, lentShort}
-use Rattle.definitions.specs.Bounded.{pick, orElse}
+use Rattle.definitions.specs.Bounded.{pick}
 use Rattle.definitions.specs.Nodes.{nodeOf}
 use Rattle.definitions.specs.Tables.{Rule, nodeRefusal, nodesRefusal, ruleRefusal}
 use Rattle.definitions.specs.Lines.{tab, newline, digits}
@@ -21,13 +21,13 @@ use Rattle.theorems.proofs.Choice.{or-else-none}
 use Rattle.theorems.proofs.RefusalBounds.{rule-low}
 use Rattle.theorems.proofs.NodeLaws.{accepted-heading, accepted-rule}
 use Rattle.theorems.proofs.RoundTrips.{text-fits}
-use Rattle.rows.specs.Lent.{cleared}
+use Rattle.theorems.proofs.LentSpace.{refused-answer, accepted-answer}
+use Rattle.rows.specs.Lent.{laid, cleared}
+use Rattle.rows.proofs.LeftLaws.{laid-past, laid-begins, left-untouched, left-zeroed, left-filled}
 use Rattle.lines.specs.Printing.{laidAt, Printed}
 use Rattle.lines.proofs.PrintLaws.{printed-seq}
-use Rattle.formula_text.specs.Reading.{laid}
 use Rattle.formula_text.specs.Writing.{headingLine, headingSize, WroteRule}
 use Rattle.formula_text.specs.declared.write.RuleWritten.the-variants.{Length, Refused}
-use Rattle.formula_text.proofs.LentLaws.{cleared-words, cleared-all, left-accepted, left-refused, left-short, refused-answer, accepted-answer}
 
 -- an accepted rule has as many nodes as its count says
 enough-nodes : (b : Bool) (i n : ℕ) (ws : List ℕ) → nodesRefusal b i n ws ≡ 0 → n ≤ length ws
@@ -64,7 +64,7 @@ module _ (c n : ℕ) (ws o : List ℕ) where
   unfolding writeRuleAnswer writeRuleText
   write-short h =
       let e = number-short h in
-      record { answered = rw e (refused-answer lentShort _ (λ q. omega arith)); text = sym (left-short (writeRuleNumber rule o) maxRuleBytes (textOf rule) o e) }
+      record { answered = rw e (refused-answer lentShort _ (λ q. omega arith)); text = left-untouched (writeRuleNumber rule o) maxRuleBytes (textOf rule) o e }
 
   module _ (long : maxRuleBytes ≤ length o) (k : ℕ) (ks : k ≡ ruleRefusal (record { controller = c; count = n; nodes = ws })) where
     is : writeRuleNumber rule o ≡ k
@@ -74,8 +74,7 @@ module _ (c n : ℕ) (ws o : List ℕ) where
     unfolding writeRuleAnswer writeRuleText
     write-refused z o′ e = record {
       answered = rw is (refused-answer k _ z);
-      text = cleared-all maxRuleBytes [] o o o′ (omega arith) refl e
-          ∙ sym (left-refused (writeRuleNumber rule o) maxRuleBytes (textOf rule) o (λ q. z (sym is ∙ q)) (rw (number-checked long) (omega (arith, rule-low rule))));
+      text = left-zeroed (writeRuleNumber rule o) maxRuleBytes (textOf rule) o o o′ refl (rw (number-checked long) (omega (arith, rule-low rule))) (λ q. z (sym is ∙ q)) e;
     }
 
     module _ (z : k ≡ 0) where
@@ -127,8 +126,8 @@ module _ (c n : ℕ) (ws o : List ℕ) where
               let l : length (textOf rule) ≡ e = omega (arith, whole .next) in
               record {
                 answered = rw (← l) (accepted-answer (writeRuleNumber rule o) (length (textOf rule) ∷ []) (is ∙ z));
-                text = cleared-words maxRuleBytes (textOf rule) o o″ o‴ (text-fits rule fine) over e l x
-                    ∙ sym (left-accepted (writeRuleNumber rule o) maxRuleBytes (textOf rule) o (is ∙ z));
+                text = left-filled (writeRuleNumber rule o) maxRuleBytes (textOf rule) o o″ o‴ (laid-past maxRuleBytes (textOf rule) o o″ (text-fits rule fine) over) e (is ∙ z) l
+                    (laid-begins e (textOf rule) o o″ l over) x;
               }
 
 pub ruleset write-laws = (needs, write-short, write-refused, controller-fits, count-fits, count-within, count-counts, heading-room, nodes-room, text-ends, write-accepted)

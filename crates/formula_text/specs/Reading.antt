@@ -1,15 +1,16 @@
 -- What the reader of a rule text answers, and what it leaves in lent space.
 use mathlib.Core.Path.{_≡_}
 use Prim.Native.Nat.{ℕ, _-_}
-use mathlib.Core.List.{List, [], _∷_, _++_}
+use mathlib.Core.List.{List, [], _∷_}
 use lib.Dec.{eqb}
-use lib.ListN.{length, drop}
+use lib.ListN.{length}
 use Rattle.definitions.specs.Limits.{accepted, ruleForm}
 use Rattle.definitions.specs.Bounded.{pick}
 use Rattle.definitions.specs.Tables.{ruleHeadingRefusal}
 use Rattle.definitions.specs.Lines.{Parsed, onParsed, Heading, Scan}
 use Rattle.definitions.specs.RuleText.{scanRule}
 use Rattle.definitions.specs.Operations.{Answer, readRuleAnswer, readRuleNodes}
+use Rattle.rows.specs.Lent.{laid}
 use Rattle.formula_text.specs.declared.read.HeadingRead.{HeadingRead}
 use Rattle.formula_text.specs.declared.read.HeadingRead.the-variants as line
 use Rattle.formula_text.specs.declared.read.Stopped.{Stopped}
@@ -28,10 +29,6 @@ headingAnswer p =
     (λ h. pick (eqb (ruleHeadingRefusal (h .first) (h .second)) accepted)
     (line.Heading (h .first) (h .second))
     (line.Refused (ruleHeadingRefusal (h .first) (h .second))))
-
--- words laid over the start of lent space
-abbrev pub laid : List ℕ → List ℕ → List ℕ
-laid words entry = words ++ drop (length words) entry
 
 -- the node lines were read as s says
 pub record NodesScanned (s : Scan) (entry : List ℕ) (r : Stopped) (exit : List ℕ) : Type 0 where

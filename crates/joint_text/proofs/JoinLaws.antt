@@ -6,7 +6,6 @@ use Prim.Native.Nat.{ℕ, _+_, _-_, _<_, _≤_}
 use native.Mathlib.Omega.{arith}
 use lib.Dec.{eqb, ltb}
 use lib.ListN.{length, take, drop, length-drop}
-use lib.Seq.{take-at, drop-append-add, drop-drop}
 use denote.Ref.{RefT}
 use mir.Val.{Fits}
 use mir.Syntax.{w32}
@@ -20,10 +19,11 @@ use Rattle.definitions.specs.RecordingText.{scanRecording, lineIn, jointNumber,
 use Rattle.definitions.specs.Operations.{left, tooShort, readJointNumber, readJointHeading, readJointNodes, readJointMasks, readJointStates, readJointPart}
 use Rattle.theorems.proofs.Choice.{by-test, both-false}
 use Rattle.theorems.proofs.RoundTrips.{read-count}
-use Rattle.rows.specs.Lent.{cleared}
+use Rattle.rows.specs.Lent.{laid, cleared}
+use Rattle.rows.proofs.LeftLaws.{laid-past, laid-begins, left-untouched, left-zeroed, left-filled}
 use Rattle.lines.proofs.PartLaws.{part-to-end}
 use Rattle.lines.proofs.ScanLaws.{before-le}
-use Rattle.formula_text.specs.Reading.{RuleScanned, laid}
+use Rattle.formula_text.specs.Reading.{RuleScanned}
 use Rattle.formula_text.specs.declared.read.Scanned as ruled
 use Rattle.formula_text.proofs.CallerLaws.{words-most, scanned-low, scanned-count, scanned-place, scanned-rest}
 use Rattle.trace_text.specs.Reading.{RecordingScanned}
@@ -67,14 +67,7 @@ held-refused full number content entry exit z d =
 held-laid : (full count : ℕ) (content entry exit : List ℕ) → count ≤ full → length content ≡ count → exit ≡ laid content entry → drop full exit ≡ drop full entry
     → Held full 0 count content entry exit
 held-laid full count content entry exit f l x d =
-    record { fits = f; begins = λ e. rw x (take-at content (drop (length content) entry) count l); counts = λ e. l; none = λ z. absurd (z refl); past = d }
-
-laid-past : (full : ℕ) (words entry exit : List ℕ) → length words ≤ full → exit ≡ laid words entry → drop full exit ≡ drop full entry
-laid-past full words entry exit h x =
-    let e : length words + (full - length words) ≡ full = omega arith in
-    let p : drop (length words + (full - length words)) (laid words entry) ≡ drop (length words + (full - length words)) entry
-    = drop-append-add words (drop (length words) entry) (full - length words) ∙ drop-drop (full - length words) (length words) entry in
-    ap (drop full) x ∙ (rw e at p)
+    record { fits = f; begins = λ e. laid-begins count content entry exit l x; counts = λ e. l; none = λ z. absurd (z refl); past = d }
 
 -- ---- the definitions, by what the two texts gave
 module _ (rule recording : List ℕ) where
@@ -237,22 +230,14 @@ pub ruleset scan-laws = (needs, scanned-place, count-fits, rule-refused, recordi
 
 -- ---- `join_whole`
 module _ (full number count : ℕ) (content entry exit end : List ℕ) (low : number < lentShort) (h : Held full number count content entry exit) (e : end ≡ cleared exit count full) where
-  left-accepted : number ≡ 0 → end ≡ left number full content entry
-  unfolding left cleared pick
-  left-accepted z = rw (z, h .counts z) (e ∙ rw (h .begins z, h .past))
+  filled : number ≡ 0 → end ≡ left number full content entry
+  filled z = left-filled number full content entry exit end (h .past) count z (h .counts z) (h .begins z) e
 
-  left-refused : (number ≡ 0 → ⊥) → end ≡ left number full content entry
-  unfolding left cleared pick
-  left-refused z =
-      let f : full - 0 ≡ full = omega arith in
-      rw (ne-eqb number lentShort (λ q. omega arith), ne-eqb number 0 z) (e ∙ rw (h .none z, f, h .past))
+  zeroed : (number ≡ 0 → ⊥) → end ≡ left number full content entry
+  zeroed z = left-zeroed number full content entry exit end (h .past) low z (rw (h .none z) at e)
 
   left-held : end ≡ left number full content entry
-  left-held = by-test (eqb number 0) (λ z. left-accepted (eqb-true number 0 z)) (λ z. left-refused (eqb-false number 0 z))
-
-left-untouched : (number full : ℕ) (content entry : List ℕ) → number ≡ lentShort → entry ≡ left number full content entry
-unfolding left pick
-left-untouched number full content entry e = rw e
+  left-held = by-test (eqb number 0) (λ z. filled (eqb-true number 0 z)) (λ z. zeroed (eqb-false number 0 z))
 
 -- with lent space of full size
 module _ (rule recording nodes masks states : List ℕ) (room : Room nodes masks states) where

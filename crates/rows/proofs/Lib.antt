@@ -3,3 +3,4 @@ pub mod OperatorLaws
 pub mod RowLaws
 pub mod StateLaws
 pub mod WordLaws
+pub mod LeftLaws

@@ -1,13 +1,23 @@
--- What an operation leaves in lent space, by its number.
+-- What an operation answers and what it leaves in lent space, by its number.
 use mathlib.Core.Path.{_≡_, refl}
 use Prim.Native.Nat.{ℕ, _-_, _<_}
 use native.Mathlib.Omega.{arith}
-use mathlib.Core.List.{List, _++_}
+use mathlib.Core.List.{List, [], _++_}
 use lib.ListN.{length, drop, replicate}
 use borrow.Author.Tests.{ne-eqb}
 use Rattle.definitions.specs.Limits.{lentShort}
 use Rattle.definitions.specs.Bounded.{pick}
-use Rattle.definitions.specs.Operations.{left}
+use Rattle.definitions.specs.Operations.{answer, left}
+
+-- a refusal carries its number alone
+pub refused-answer : (number : ℕ) (values : List ℕ) → (number ≡ 0 → ⊥) → record { number = number; values = [] } ≡ answer number values
+unfolding answer pick
+refused-answer number values z = rw (ne-eqb number 0 z)
+
+-- accepted, an answer carries its values
+pub accepted-answer : (number : ℕ) (values : List ℕ) → number ≡ 0 → record { number = 0; values = values } ≡ answer number values
+unfolding answer pick
+accepted-answer number values z = rw z
 
 -- after 13 it is untouched
 pub left-short : (full : ℕ) (content entry : List ℕ) → left lentShort full content entry ≡ entry

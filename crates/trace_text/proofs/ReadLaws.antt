@@ -6,19 +6,20 @@ use Prim.Native.Nat.{ℕ, _+_, _-_, _<_, _≤_}
 use native.Mathlib.Omega.{arith}
 use lib.Dec.{eqb}
 use lib.ListN.{length, take, drop, length-drop}
-use lib.Seq.{drop-drop, drop-append-add, take-at}
+use lib.Seq.{take-at}
 use borrow.Author.Needs.{needs}
 use borrow.Author.Tests.{eq-eqb, ne-eqb, lt-ltb, le-ltb, eqb-true, eqb-false}
 use Rattle.definitions.specs.Limits.{accepted, recordingForm, lentShort, maxControllers, maxStates}
 use Rattle.definitions.specs.Bounded.{pick}
 use Rattle.definitions.specs.Lines.{newline, before, lineOf, restOf, Parsed, formed, malformed, onParsed, Heading, Scan}
 use Rattle.definitions.specs.RecordingText.{recordingHeading, recordingHeadingLineRefusal, scanMasks, scanStates, RecordingScan, recordingStop, recordingMasks, recordingStates, scanRecording}
-use Rattle.definitions.specs.Operations.{answer, left, tooShort, readRecordingNumber, readRecordingAnswer, readRecordingMasks, readRecordingStates}
+use Rattle.definitions.specs.Operations.{answer, tooShort, readRecordingNumber, readRecordingAnswer, readRecordingMasks, readRecordingStates}
 use Rattle.theorems.proofs.Choice.{by-test}
-use Rattle.rows.specs.Lent.{cleared}
+use Rattle.rows.specs.Lent.{laid, cleared}
+use Rattle.rows.proofs.LeftLaws.{laid-past, laid-begins, left-untouched, left-zeroed, left-filled}
 use Rattle.trace_text.specs.Forms.{heading}
 use Rattle.trace_text.specs.Next.{refusalAt, headingOf, headingAnswer, nextHeading}
-use Rattle.trace_text.specs.Reading.{Room, MaskRoom, StateRoom, laid, LinesScanned, RecordingScanned, readAnswer, ReadRecording}
+use Rattle.trace_text.specs.Reading.{Room, MaskRoom, StateRoom, LinesScanned, RecordingScanned, readAnswer, ReadRecording}
 use Rattle.trace_text.specs.declared.next.HeadingRead.{HeadingRead}
 use Rattle.trace_text.specs.declared.next.HeadingRead.the-variants as first
 use Rattle.trace_text.specs.declared.read.Stopped.{Stopped}
@@ -27,14 +28,6 @@ use Rattle.trace_text.specs.declared.read.RecordingRead.the-variants.{Re
 use Rattle.trace_text.proofs.NextLaws.{HeadingWithin, heading-within, heading-line-refusal}
 use Rattle.trace_text.proofs.ScanLaws.{NextAccepted, next-accepted, Counted, masks-counted, states-counted, scan-own}
 use Rattle.trace_text.proofs.RecordingNumbers.{scan-low}
-
--- ---- lent space that words were laid over
-laid-past : (full : ℕ) (words entry : List ℕ) → length words ≤ full → drop full (laid words entry) ≡ drop full entry
-laid-past full words entry h =
-    let e : length words + (full - length words) ≡ full = omega arith in
-    let p : drop (length words + (full - length words)) (laid words entry) ≡ drop (length words + (full - length words)) entry
-    = drop-append-add words (drop (length words) entry) (full - length words) ∙ drop-drop (full - length words) (length words) entry in
-    rw e at p
 
 -- ---- the heading
 -- what the reading is, by the refusal n of the first line and its form p
@@ -179,8 +172,7 @@ module _ (text masks states : List ℕ) (end : ℕ) (is : end ≡ before newline
 
       masks-past : drop maxControllers masks′ ≡ drop maxControllers masks
       masks-past =
-          ap (λ (l : List ℕ). drop maxControllers l) (m .words)
-          ∙ laid-past maxControllers (scanMasks C [] (drop (end + 1) text) .words) masks (omega (arith, masks-few .most, limits .few))
+          laid-past maxControllers (scanMasks C [] (drop (end + 1) text) .words) masks masks′ (omega (arith, masks-few .most, limits .few)) (m .words)
 
       pub masks-refused : (v : Scanned) → (owned .number ≡ 0 → ⊥) → v ≡ record { number = owned .number; controllers = 0; count = 0; «rest_at» = owned .at } → RecordingScanned text masks states v masks′ states
       masks-refused v z w =
@@ -234,29 +226,10 @@ module _ (text masks states : List ℕ) (end : ℕ) (is : end ≡ before newline
             statesLaid = s .words ∙ ap (λ (l : List ℕ). laid l states) (sym states-are);
             statesCount = λ q. ap length states-are ∙ states-few .all (sym (s .number) ∙ q);
             statesPast =
-                ap (λ (l : List ℕ). drop maxStates l) (s .words)
-                ∙ laid-past maxStates (scanStates C N masks′ N 0 0 (drop (owned .at) text) .words) states (omega (arith, states-few .most, limits .short));
+                laid-past maxStates (scanStates C N masks′ N 0 0 (drop (owned .at) text) .words) states states′ (omega (arith, states-few .most, limits .short)) (s .words);
           }
 
 pub ruleset scan-laws = (needs, heading-refused, mask-room, masks-refused, state-room, recording-scanned)
-
--- ---- what is left in lent space
-left-short : (full : ℕ) (content entry : List ℕ) (n : ℕ) → n ≡ lentShort → entry ≡ left n full content entry
-unfolding left pick
-left-short full content entry n e = rw e
-
-left-refused : (full : ℕ) (content entry exit end : List ℕ) (n : ℕ) → n < lentShort → (n ≡ 0 → ⊥) → drop full exit ≡ drop full entry → end ≡ cleared exit 0 full → end ≡ left n full content entry
-unfolding left cleared pick
-left-refused full content entry exit end n l z d e =
-    let f : full - 0 ≡ full = omega arith in
-    rw (ne-eqb n lentShort (λ q. omega arith), ne-eqb n 0 z) (e ∙ rw (f, d))
-
-left-accepted : (full count : ℕ) (content entry exit end : List ℕ) (n : ℕ) → n ≡ 0 → length content ≡ count → exit ≡ laid content entry → drop full exit ≡ drop full entry
-    → end ≡ cleared exit count full → end ≡ left n full content entry
-unfolding left cleared pick
-left-accepted full count content entry exit end n z l x d e =
-    let t : take count exit ≡ content = rw x (take-at content (drop (length content) entry) count l) in
-    rw (z, l) (e ∙ rw (t, d))
 
 -- ---- `read_recording`
 module _ (text masks states : List ℕ) where
@@ -280,8 +253,8 @@ module _ (text masks states : List ℕ) where
   unfolding readRecordingMasks readRecordingStates
   read-short e = record {
     answered = refused-is 13 e (λ q. omega arith);
-    masksLeft = left-short maxControllers ((scanRecording text) .masks) masks (readRecordingNumber text masks states) e;
-    statesLeft = left-short maxStates ((scanRecording text) .states) states (readRecordingNumber text masks states) e;
+    masksLeft = left-untouched (readRecordingNumber text masks states) maxControllers ((scanRecording text) .masks) masks e;
+    statesLeft = left-untouched (readRecordingNumber text masks states) maxStates ((scanRecording text) .states) states e;
   }
 
   pub masks-short : length masks < maxControllers → ReadRecording text masks states (Refused 13) masks states
@@ -298,16 +271,16 @@ module _ (text masks states : List ℕ) where
     unfolding readRecordingMasks readRecordingStates
     read-refused z p q = record {
       answered = refused-is (v .number) read-number z;
-      masksLeft = rw read-number (left-refused maxControllers ((scanRecording text) .masks) masks masks′ m (v .number) (s .low) z (s .masksPast) p);
-      statesLeft = rw read-number (left-refused maxStates ((scanRecording text) .states) states states′ n (v .number) (s .low) z (s .statesPast) q);
+      masksLeft = rw read-number (left-zeroed (v .number) maxControllers ((scanRecording text) .masks) masks masks′ m (s .masksPast) (s .low) z p);
+      statesLeft = rw read-number (left-zeroed (v .number) maxStates ((scanRecording text) .states) states states′ n (s .statesPast) (s .low) z q);
     }
 
     pub read-accepted : v .number ≡ 0 → m ≡ cleared masks′ (v .controllers) maxControllers → n ≡ cleared states′ (v .count) maxStates → ReadRecording text masks states (Recording (v .controllers) (v .count)) m n
     unfolding readRecordingMasks readRecordingStates
     read-accepted z p q = record {
       answered = accepted-is (v .controllers) (v .count) (read-number ∙ z) (s .controllers) (s .count);
-      masksLeft = rw read-number (left-accepted maxControllers (v .controllers) ((scanRecording text) .masks) masks masks′ m (v .number) z (s .masksCount z) (s .masksLaid z) (s .masksPast) p);
-      statesLeft = rw read-number (left-accepted maxStates (v .count) ((scanRecording text) .states) states states′ n (v .number) z (s .statesCount z) (s .statesLaid) (s .statesPast) q);
+      masksLeft = rw read-number (left-filled (v .number) maxControllers ((scanRecording text) .masks) masks masks′ m (s .masksPast) (v .controllers) z (s .masksCount z) (laid-begins (v .controllers) ((scanRecording text) .masks) masks masks′ (s .masksCount z) (s .masksLaid z)) p);
+      statesLeft = rw read-number (left-filled (v .number) maxStates ((scanRecording text) .states) states states′ n (s .statesPast) (v .count) z (s .statesCount z) (laid-begins (v .count) ((scanRecording text) .states) states states′ (s .statesCount z) (s .statesLaid)) q);
     }
 
 pub ruleset read-laws = (needs, masks-short, states-short, read-refused, read-accepted)

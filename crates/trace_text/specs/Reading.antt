@@ -1,12 +1,13 @@
 -- What the reader of a recording text answers, and what it leaves in lent space.
 use mathlib.Core.Path.{_≡_}
 use Prim.Native.Nat.{ℕ, _-_, _≤_, _<_}
-use mathlib.Core.List.{List, [], _∷_, _++_}
+use mathlib.Core.List.{List, [], _∷_}
 use lib.ListN.{length, drop}
 use Rattle.definitions.specs.Limits.{accepted, lentShort, maxControllers, maxStates}
 use Rattle.definitions.specs.Lines.{Scan}
 use Rattle.definitions.specs.RecordingText.{scanRecording}
 use Rattle.definitions.specs.Operations.{Answer, readRecordingAnswer, readRecordingMasks, readRecordingStates}
+use Rattle.rows.specs.Lent.{laid}
 use Rattle.trace_text.specs.declared.read.Stopped.{Stopped}
 use Rattle.trace_text.specs.declared.read.Scanned.{Scanned}
 use Rattle.trace_text.specs.declared.read.RecordingRead.{RecordingRead}
@@ -29,10 +30,6 @@ pub record StateRoom (C N start : ℕ) (text states : List ℕ) : Type 0 where
   pub short : N ≤ maxStates
   pub inside : start ≤ length text
   pub room : maxStates ≤ length states
-
--- words laid over the start of lent space
-abbrev pub laid : List ℕ → List ℕ → List ℕ
-laid words entry = words ++ drop (length words) entry
 
 -- lines of a text were read as s says
 pub record LinesScanned (s : Scan) (text entry : List ℕ) (r : Stopped) (exit : List ℕ) : Type 0 where
