@@ -129,7 +129,7 @@ fn is_short(nodes: &[u32], masks: &[u32], states: &[u64]) -> bool
 }
 
 // Reads both texts, where lent space is of full size.
-fn join(
+pub fn join(
     rule: &[u8],
     recording: &[u8],
     nodes: &mut [u32],

@@ -1,0 +1,3 @@
+pub mod Arguments
+pub mod Parts
+pub mod Values

@@ -1,0 +1,15 @@
+-- An answer as C has it: the number is returned, and the values lie in an array of fixed length.
+use mathlib.Core.List.{List, [], _∷_, _++_}
+use Prim.Native.Nat.{ℕ, _-_}
+use lib.ListN.{length, replicate}
+use Rattle.definitions.specs.Bounded.{pick}
+use Rattle.definitions.specs.Operations.{Answer}
+use Rattle.definitions.specs.RecordingText.{Part}
+
+-- the number, then the values, and zeros up to the width: a refusal "carries its number alone", so all of them are zero
+unfoldable pub heading : ℕ → Answer → List ℕ
+heading width a = a .number ∷ (a .values ++ replicate (width - length (a .values)) 0)
+
+-- a part of a text: 0 for the rule text or 1 for the recording text, its start and its length
+unfoldable pub partValues : Part → List ℕ
+partValues p = pick (p .ofRule) 0 1 ∷ p .from ∷ p .count ∷ []

@@ -1,0 +1,164 @@
+// The nine operations of document 01: each answer and each lent slice is what the definition of its operation says, on every input.
+// `ruleRead` to `rewritten` list document 01's number and values for each case of an answer.
+ghost use mathlib.Core.Path.{_≡_};
+ghost use mathlib.Core.Bool.{true, false};
+ghost use Rattle.definitions.specs.Operations.{readRuleAnswer, readRuleNodes, writeRuleAnswer, writeRuleText, readRecordingAnswer, readRecordingMasks, readRecordingStates};
+ghost use Rattle.definitions.specs.Operations.{readJointHeading, readJointNodes, readJointMasks, readJointStates, readJointPart, projectAnswer, projectPlaces, judgeLocalAnswer};
+ghost use Rattle.definitions.specs.Operations.{rewriteAnswer, rewriteTable, judgeRecordingAnswer, judgeRecordingRows};
+ghost use Rattle.formula_text.specs.Reading.{readAnswer as ruleRead};
+ghost use Rattle.formula_text.specs.Writing.{writeAnswer as ruleWritten};
+ghost use Rattle.trace_text.specs.Reading.{readAnswer as recordingRead};
+ghost use Rattle.traces.specs.Answers.{answerOf as projected};
+ghost use Rattle.evaluation.specs.Judging.{answerOf as judged};
+ghost use Rattle.rewriting.specs.Answers.{answerOf as rewritten};
+ghost use Rattle.ragyvosin.specs.Arguments.{ruleOf, recordingOf, tableOf};
+ghost use Rattle.ragyvosin.specs.Parts.{placeIn, bytesIn};
+pub use evaluation::verdicts::Verdicts;
+pub use formula_text::read::RuleRead;
+pub use formula_text::write::RuleWritten;
+pub use rewriting::rewrite::Rewriting;
+pub use trace_text::read::RecordingRead;
+pub use traces::operation::Projection;
+
+pub mod c;
+mod values;
+
+// "read a rule (controller, count, nodes)"
+pub fn read_rule(text: &[u8], nodes: &mut [u32]) -> RuleRead
+    ensures { λ r. ⌜ ruleRead r ≡ readRuleAnswer (now (text .entry)) (now (nodes .entry)) ⌝ }
+    ensures { λ _. ⌜ now (nodes .exit) ≡ readRuleNodes (now (text .entry)) (now (nodes .entry)) ⌝ }
+{
+    formula_text::read::read_rule(text, nodes)
+}
+
+// "write one (length, text)"
+pub fn write_rule(controller: usize, count: usize, nodes: &[u32], text: &mut [u8]) -> RuleWritten
+    ensures { λ r. ⌜ ruleWritten r ≡ writeRuleAnswer (ruleOf controller count (now (nodes .entry))) (now (text .entry)) ⌝ }
+    ensures { λ _. ⌜ now (text .exit) ≡ writeRuleText (ruleOf controller count (now (nodes .entry))) (now (text .entry)) ⌝ }
+{
+    formula_text::write::write_rule(controller, count, nodes, text)
+}
+
+// "read a recording (C, N, masks, states)"
+pub fn read_recording(text: &[u8], masks: &mut [u32], states: &mut [u64]) -> RecordingRead
+    ensures { λ r. ⌜ recordingRead r ≡ readRecordingAnswer (now (text .entry)) (now (masks .entry)) (now (states .entry)) ⌝ }
+    ensures { λ _. ⌜ now (masks .exit) ≡ readRecordingMasks (now (text .entry)) (now (masks .entry)) (now (states .entry)) ⌝ }
+    ensures { λ _. ⌜ now (states .exit) ≡ readRecordingStates (now (text .entry)) (now (masks .entry)) (now (states .entry)) ⌝ }
+{
+    trace_text::read::read_recording(text, masks, states)
+}
+
+// "the joint reading": hands back the refused line; the heading is the number, controller, node count, C and N
+pub fn read_joint<'a>(
+    rule: &'a [u8],
+    recording: &'a [u8],
+    nodes: &mut [u32],
+    masks: &mut [u32],
+    states: &mut [u64],
+    heading: &mut [u32; 5],
+) -> &'a [u8]
+    ensures { λ r. ⌜ r .ptr ≡ placeIn (rule .entry) (recording .entry) (readJointPart (now (rule .entry)) (now (recording .entry)) (now (nodes .entry)) (now (masks .entry)) (now (states .entry))) ⌝ }
+    ensures { λ r. ⌜ now r ≡ bytesIn (rule .entry) (recording .entry) (readJointPart (now (rule .entry)) (now (recording .entry)) (now (nodes .entry)) (now (masks .entry)) (now (states .entry))) ⌝ }
+    ensures { λ _. ⌜ now (heading .exit) ≡ readJointHeading (now (rule .entry)) (now (recording .entry)) (now (nodes .entry)) (now (masks .entry)) (now (states .entry)) ⌝ }
+    ensures { λ _. ⌜ now (nodes .exit) ≡ readJointNodes (now (rule .entry)) (now (recording .entry)) (now (nodes .entry)) (now (masks .entry)) (now (states .entry)) ⌝ }
+    ensures { λ _. ⌜ now (masks .exit) ≡ readJointMasks (now (rule .entry)) (now (recording .entry)) (now (nodes .entry)) (now (masks .entry)) (now (states .entry)) ⌝ }
+    ensures { λ _. ⌜ now (states .exit) ≡ readJointStates (now (rule .entry)) (now (recording .entry)) (now (nodes .entry)) (now (masks .entry)) (now (states .entry)) ⌝ }
+{
+    joint_text::joint::read_joint(rule, recording, nodes, masks, states, heading)
+}
+
+// "project (recording and c)": the length of the local trace, and its places
+pub fn project(
+    controllers: usize,
+    count: usize,
+    masks: &[u32],
+    states: &[u64],
+    c: usize,
+    places: &mut [u32],
+) -> Projection
+    ensures { λ r. ⌜ projected r ≡ projectAnswer (recordingOf controllers count (now (masks .entry)) (now (states .entry))) c (now (places .entry)) ⌝ }
+    ensures { λ _. ⌜ now (places .exit) ≡ projectPlaces (recordingOf controllers count (now (masks .entry)) (now (states .entry))) c (now (places .entry)) ⌝ }
+{
+    traces::operation::project(controllers, count, masks, states, c, places)
+}
+
+// "judge a rule on its local trace (rule and recording, for the rule's controller)": weak and strong verdict
+pub fn judge_local(
+    controller: usize,
+    count: usize,
+    nodes: &[u32],
+    controllers: usize,
+    states_count: usize,
+    masks: &[u32],
+    states: &[u64],
+) -> Verdicts
+    ensures { λ r. ⌜ judged r ≡ judgeLocalAnswer (ruleOf controller count (now (nodes .entry))) (recordingOf controllers «states_count» (now (masks .entry)) (now (states .entry))) ⌝ }
+{
+    evaluation::local::judge_local(
+        controller,
+        count,
+        nodes,
+        controllers,
+        states_count,
+        masks,
+        states,
+    )
+}
+
+// "rewrite plain or short (rule and own mask, any 32 bits)": "node count and both tops", and the table
+pub fn rewrite_plain(
+    controller: usize,
+    count: usize,
+    nodes: &[u32],
+    mask: u32,
+    table: &mut [u32],
+) -> Rewriting
+    ensures { λ r. ⌜ rewritten r ≡ rewriteAnswer false (ruleOf controller count (now (nodes .entry))) mask (now (table .entry)) ⌝ }
+    ensures { λ _. ⌜ now (table .exit) ≡ rewriteTable false (ruleOf controller count (now (nodes .entry))) mask (now (table .entry)) ⌝ }
+{
+    rewriting::rewrite::rewrite_plain(controller, count, nodes, mask, table)
+}
+
+// "The short rewriting"
+pub fn rewrite_short(
+    controller: usize,
+    count: usize,
+    nodes: &[u32],
+    mask: u32,
+    table: &mut [u32],
+) -> Rewriting
+    ensures { λ r. ⌜ rewritten r ≡ rewriteAnswer true (ruleOf controller count (now (nodes .entry))) mask (now (table .entry)) ⌝ }
+    ensures { λ _. ⌜ now (table .exit) ≡ rewriteTable true (ruleOf controller count (now (nodes .entry))) mask (now (table .entry)) ⌝ }
+{
+    rewriting::rewrite::rewrite_short(controller, count, nodes, mask, table)
+}
+
+// "judge the whole recording": the verdicts at the tops, and "a weak and a strong row for each node"
+pub fn judge_recording(
+    count: usize,
+    nodes: &[u32],
+    weak_top: usize,
+    strong_top: usize,
+    controllers: usize,
+    states_count: usize,
+    masks: &[u32],
+    states: &[u64],
+    c: usize,
+    rows: &mut [u64],
+) -> Verdicts
+    ensures { λ r. ⌜ judged r ≡ judgeRecordingAnswer (tableOf count (now (nodes .entry)) «weak_top» «strong_top») (recordingOf controllers «states_count» (now (masks .entry)) (now (states .entry))) c (now (rows .entry)) ⌝ }
+    ensures { λ _. ⌜ now (rows .exit) ≡ judgeRecordingRows (tableOf count (now (nodes .entry)) «weak_top» «strong_top») (recordingOf controllers «states_count» (now (masks .entry)) (now (states .entry))) c (now (rows .entry)) ⌝ }
+{
+    evaluation::whole::judge_recording(
+        count,
+        nodes,
+        weak_top,
+        strong_top,
+        controllers,
+        states_count,
+        masks,
+        states,
+        c,
+        rows,
+    )
+}

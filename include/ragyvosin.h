@@ -1,0 +1,176 @@
+/*
+ * Ragyvosin: judges the rule of one controller over the recording of a whole
+ * rack. Link the archive that `rt staticlib ragyvosin` writes.
+ *
+ * Every function takes any input: any bytes, any tables, any lent space, each
+ * slice as a pointer and the number of its entries. What C owes: a pointer is
+ * aligned and not null, also where there are no entries, and valid for that
+ * many; and what is written overlaps no other argument. Nothing is allocated,
+ * nothing is kept between calls, and every call ends.
+ *
+ * Answers. A function returns a refusal number, RGV_ACCEPTED for none. Its
+ * values go to `values`: all zero on a refusal, but for the part that
+ * rgv_read_joint hands back.
+ *
+ * Lent space (the slices that are written) has the full size that stands at
+ * each function; more may be lent and is never touched. After
+ * RGV_LENT_SHORT it is untouched; after another refusal its full size is zero;
+ * accepted, the entries that the answer doesn't use are zero. A slice that is
+ * only read may have any length: entries past the count aren't read, and
+ * fewer entries than the count are a line missing (4 or 8).
+ *
+ * Words. A node is kind + 256 * first + 1048576 * second, each operand below
+ * 4096. A state is atoms + 4294967296 * run marks, bit c for controller c. A
+ * mask and a place are 32 atoms, bit a for atom a. A row pair is six words:
+ * the weak row's marks 0 to 63, its marks 64 to 127, the count of states, and
+ * the same three of the strong row.
+ */
+#ifndef RAGYVOSIN_H
+#define RAGYVOSIN_H
+
+#include <stddef.h>
+#include <stdint.h>
+
+#ifdef __cplusplus
+extern "C" {
+#endif
+
+/* Refusal numbers. */
+enum {
+    RGV_ACCEPTED = 0,
+    RGV_RULE_FORM = 1,         /* a rule line not closed by byte 10, or not of its form */
+    RGV_RULE_LIMITS = 2,       /* a count, controller or atom outside its limits, an unknown kind, run or end
+                                  in a rule, an unused operand not 0, a top not below the count */
+    RGV_RULE_OPERAND = 3,      /* any other operand that isn't an earlier node */
+    RGV_RULE_LINES = 4,        /* a rule line or node missing, or a line too many */
+    RGV_RECORDING_FORM = 5,    /* a recording line not closed by byte 10, or not of its form */
+    RGV_RECORDING_LIMITS = 6,  /* a number outside its limits, a run mark at C or above */
+    RGV_MASKS_MEET = 7,        /* a mask meets an earlier mask */
+    RGV_RECORDING_LINES = 8,   /* a recording line, mask or state missing, or a line too many */
+    RGV_LAST_MARK = 9,         /* a run mark in the last state */
+    RGV_OUTPUT_RULE = 10,      /* an own atom changed though its controller didn't run in the state before */
+    RGV_NO_CONTROLLER = 11,    /* the controller is not below C */
+    RGV_TOO_MANY_NODES = 12,   /* a rewritten table over 1,024 nodes */
+    RGV_LENT_SHORT = 13        /* lent space shorter than its full size */
+};
+
+/* Node kinds; run and end stand only in rewritten tables. */
+enum {
+    RGV_TRUE = 0, RGV_ATOM = 1, RGV_NOT = 2, RGV_OR = 3, RGV_NEXT = 4,
+    RGV_UNTIL = 5, RGV_PREV = 6, RGV_SINCE = 7, RGV_RUN = 8, RGV_END = 9
+};
+
+/* Full sizes of lent space, in entries. */
+enum {
+    RGV_RULE_NODES = 64,
+    RGV_MASKS = 8,
+    RGV_STATES = 128,
+    RGV_PLACES = 128,
+    RGV_TABLE_NODES = 1024,
+    RGV_PAIR_WORDS = 6,
+    RGV_ROW_WORDS = 6144,      /* 1,024 row pairs */
+    RGV_RULE_BYTES = 1024
+};
+
+/*
+ * Reads a rule text. Full size: nodes RGV_RULE_NODES.
+ * values: controller, node count. Refusals: 13, 1, 2, 3, 4.
+ */
+uint8_t rgv_read_rule(const uint8_t *text, size_t text_len,
+                      uint32_t *nodes, size_t nodes_len,
+                      size_t values[2]);
+
+/*
+ * Writes the text of a rule. Full size: text RGV_RULE_BYTES.
+ * values: length of the text. Refusals: 13, 2, 3, 4.
+ */
+uint8_t rgv_write_rule(size_t controller, size_t count,
+                       const uint32_t *nodes, size_t nodes_len,
+                       uint8_t *text, size_t text_len,
+                       size_t values[1]);
+
+/*
+ * Reads a recording text. Full sizes: masks RGV_MASKS, states RGV_STATES.
+ * values: C, N. Refusals: 13, 5, 6, 7, 10, 9, 8.
+ */
+uint8_t rgv_read_recording(const uint8_t *text, size_t text_len,
+                           uint32_t *masks, size_t masks_len,
+                           uint64_t *states, size_t states_len,
+                           size_t values[2]);
+
+/*
+ * Reads a rule text, then a recording text, then tests the rule's controller.
+ * Full sizes: nodes RGV_RULE_NODES, masks RGV_MASKS, states RGV_STATES.
+ * values: controller, node count, C, N (zero on a refusal); then the part
+ * handed back, refused or not: which text (0 the rule text, 1 the recording
+ * text), start, length. It is the refused line without its byte 10, for 13 the
+ * empty start of the rule text, accepted the empty end of the recording text.
+ * Refusals: 13, those of the rule, those of the recording, 11.
+ */
+uint8_t rgv_read_joint(const uint8_t *rule, size_t rule_len,
+                       const uint8_t *recording, size_t recording_len,
+                       uint32_t *nodes, size_t nodes_len,
+                       uint32_t *masks, size_t masks_len,
+                       uint64_t *states, size_t states_len,
+                       size_t values[7]);
+
+/*
+ * The local trace of controller c. Full size: places RGV_PLACES.
+ * values: local length. Refusals: 13, 6, 7, 10, 9, 8, 11.
+ */
+uint8_t rgv_project(size_t controllers, size_t count,
+                    const uint32_t *masks, size_t masks_len,
+                    const uint64_t *states, size_t states_len,
+                    size_t c,
+                    uint32_t *places, size_t places_len,
+                    size_t values[1]);
+
+/*
+ * Judges a rule on its controller's local trace. Lends nothing.
+ * values: weak verdict, strong verdict, 1 for yes.
+ * Refusals: 2, 3, 4, 6, 7, 10, 9, 8, 11.
+ */
+uint8_t rgv_judge_local(size_t controller, size_t count,
+                        const uint32_t *nodes, size_t nodes_len,
+                        size_t controllers, size_t states_count,
+                        const uint32_t *masks, size_t masks_len,
+                        const uint64_t *states, size_t states_len,
+                        size_t values[2]);
+
+/*
+ * Rewrites a rule over the whole recording, for a mask of own atoms: plain or
+ * short. Full size: table RGV_TABLE_NODES.
+ * values: node count, weak top, strong top. Refusals: 13, 2, 3, 4, 12.
+ */
+uint8_t rgv_rewrite_plain(size_t controller, size_t count,
+                          const uint32_t *nodes, size_t nodes_len,
+                          uint32_t mask,
+                          uint32_t *table, size_t table_len,
+                          size_t values[3]);
+uint8_t rgv_rewrite_short(size_t controller, size_t count,
+                          const uint32_t *nodes, size_t nodes_len,
+                          uint32_t mask,
+                          uint32_t *table, size_t table_len,
+                          size_t values[3]);
+
+/*
+ * Judges the whole recording by a table of 1 to 1,024 nodes, run and end those
+ * of controller c. Full size: rows RGV_ROW_WORDS, a row pair for each node.
+ * values: weak verdict at weak_top, strong verdict at strong_top, 1 for yes.
+ * Refusals: 13, 2, 3, 4, 2 (a top), 6, 7, 10, 9, 8, 11.
+ */
+uint8_t rgv_judge_recording(size_t count,
+                            const uint32_t *nodes, size_t nodes_len,
+                            size_t weak_top, size_t strong_top,
+                            size_t controllers, size_t states_count,
+                            const uint32_t *masks, size_t masks_len,
+                            const uint64_t *states, size_t states_len,
+                            size_t c,
+                            uint64_t *rows, size_t rows_len,
+                            size_t values[2]);
+
+#ifdef __cplusplus
+}
+#endif
+
+#endif
