@@ -4,23 +4,26 @@ use mathlib.Core.Bool.{Bool, true, false}
 use mathlib.Core.List.{List, [], _∷_, _++_}
 use Prim.Native.Nat.{ℕ, _+_, _*_, _<_, _≤_}
 use native.Mathlib.Omega.{arith}
+use lib.Dec.{ltb, eqb}
 use lib.ListN.{length, take, drop, getD, length-append, length-drop, take-append-drop}
 use lib.Seq.{take-at, drop-at, drop-drop}
 use borrow.Author.Needs.{needs}
+use borrow.Author.Tests.{lt-ltb, le-ltb, ltb-true, eqb-true}
 use Rattle.definitions.specs.Limits.{pairWords}
 use Rattle.definitions.specs.Nodes.{node, nodeOf, kindOf}
 use Rattle.definitions.specs.Tables.{nodesIn}
 use Rattle.definitions.specs.Readings.{Rows, noRows, nodeRows, rowsOf, rowWords, pairsWords}
+use Rattle.theorems.proofs.Choice.{both-true}
 use Rattle.formulas.specs.Meaning.{meaning, OfWord}
 use Rattle.formulas.specs.declared.node.Node as code
 use Rattle.rows.specs.Marks.{marks}
 use Rattle.rows.proofs.LentLaws.{loaded, pairs-length, weak-words, strong-words, pair-laid}
 use Rattle.evaluation.specs.declared.pair.Pair.{Pair}
 use Rattle.evaluation.specs.Traced.{traceOf}
-use Rattle.evaluation.specs.Nodes.{isLeaf, Fit, LeafReady, Evaluable, Ready, rowsTo, rowsAt}
+use Rattle.evaluation.specs.Nodes.{isLeaf, slots, again, Fit, LeafReady, Evaluable, Ready, rowsTo, rowsAt}
 use Rattle.evaluation.specs.Pairs.{rowsIn, PairMade, Operable, operated, pairAt, pairOfNode, Operands, operandPlaces, operatorRows}
 use Rattle.evaluation.proofs.KindLaws.{leaf-is}
-use Rattle.evaluation.proofs.TableLaws.{rows-more, rows-length, rows-sized, nodes-more, nodes-length, operated-is, leaf-rows}
+use Rattle.evaluation.proofs.TableLaws.{rows-more, rows-length, rows-sized, nodes-more, nodes-length, operated-is, leaf-rows, rows-at}
 
 -- ---- pairs
 
@@ -42,6 +45,21 @@ both-made p q n r s m o = record {
 }
 
 -- ---- a node's turn
+
+again-both : (nodes : List ℕ) (i j : ℕ) → again nodes i j ≡ true → (j < i) × (getD nodes j 0 ≡ getD nodes i 0)
+unfolding again
+again-both nodes i j h =
+    let b = both-true (ltb j i) (eqb (getD nodes j 0) (getD nodes i 0)) h in
+    (ltb-true j i (b .0), eqb-true (getD nodes j 0) (getD nodes i 0) (b .1))
+
+-- the two answers of the test
+pub again-tested : (nodes : List ℕ) (i j : ℕ) (b : Bool) → j < i → b ≡ eqb (getD nodes j 0) (getD nodes i 0) → b ≡ again nodes i j
+unfolding again
+again-tested nodes i j b h e = rw (lt-ltb j i h) e
+
+pub again-late : (nodes : List ℕ) (i j : ℕ) → i ≤ j → false ≡ again nodes i j
+unfolding again
+again-late nodes i j h = rw (le-ltb j i h)
 
 -- the operands of an operator, as they were loaded
 module _ (kind first second : ℕ) (rows : List ℕ) (p q : Pair) (e : p ≡ pairOfNode rows first) (g : q ≡ pairOfNode rows second) where
@@ -94,6 +112,19 @@ module _ (nodes : List ℕ) (i : ℕ) (states : List ℕ) (n c own : ℕ) (rows 
           pair-same r n (nodeRows (traceOf states n c own) [] (node (kindOf (x .kind)) (x .first) 0)) (rowsAt nodes i states n c own) m
           (leaf-rows states n c own before (kindOf (x .kind)) (x .first) (x .second) (sym tested ∙ t) ∙ ap (nodeRows (traceOf states n c own) before) (word .meant))
 
+      pub again-turn : leaf ≡ true → (j : ℕ) (b : Bool) → b ≡ again nodes i j → b ≡ true → (r : Pair) → r ≡ pairOfNode rows j → PairMade r n (rowsAt nodes i states n c own)
+      again-turn t j b v y r e =
+          let s = again-both nodes i j (sym v ∙ y) in
+          let T = traceOf states n c own in
+          let w : meaning x ≡ nodeOf (getD nodes j 0) = word .meant ∙ ap nodeOf (sym (s .1)) in
+          let here = leaf-rows states n c own before (kindOf (x .kind)) (x .first) (x .second) (sym tested ∙ t) ∙ ap (nodeRows T before) (word .meant) in
+          let there = leaf-rows states n c own (rowsTo nodes j states n c own) (kindOf (x .kind)) (x .first) (x .second) (sym tested ∙ t) ∙ ap (nodeRows T (rowsTo nodes j states n c own)) w in
+          pair-same r n (getD before j noRows) (rowsAt nodes i states n c own) (pair-loaded j r e (s .0))
+          (rows-at nodes states n c own i j (s .0) (omega (arith, ready .counted)) ∙ (sym there ∙ here))
+
+      pub again-room : leaf ≡ true → (j : ℕ) (b : Bool) → b ≡ again nodes i j → b ≡ true → j * pairWords + pairWords ≤ length rows
+      again-room t j b v y = let s = again-both nodes i j (sym v ∙ y) in omega (arith, s .0, ready .room)
+
       module _ (f : leaf ≡ false) where
         first-made : PairMade (pairOfNode rows (x .first)) n (getD before (x .first) noRows)
         first-made = pair-loaded (x .first) (pairOfNode rows (x .first)) refl (fit-of .first (sym tested ∙ f))
@@ -129,17 +160,18 @@ module _ (nodes : List ℕ) (i : ℕ) (states : List ℕ) (n c own : ℕ) (rows 
 
 -- ---- the loop
 
--- before node i: the rows of the nodes before it are laid, and what is lent past them is as it was
-pub record Evaluated (nodes : List ℕ) (count : ℕ) (states : List ℕ) (n c own : ℕ) (entry : List ℕ) (i : ℕ) (l : List ℕ) : Type 0 where
+-- before node i: the rows of the nodes before it are laid, and what is lent past them is as it was; whatever the slots hold, they are there
+pub record Evaluated (nodes : List ℕ) (count : ℕ) (states : List ℕ) (n c own : ℕ) (entry : List ℕ) (i : ℕ) (l seen : List ℕ) : Type 0 where
   pub within : i ≤ count
   pub laid : l ≡ pairsWords (rowsTo nodes i states n c own) ++ drop (i * pairWords) entry
+  pub slotted : slots ≡ length seen
 
-pub evaluated-none : (nodes : List ℕ) (count : ℕ) (states : List ℕ) (n c own : ℕ) (entry : List ℕ) → Evaluated nodes count states n c own entry 0 entry
+pub evaluated-none : (nodes : List ℕ) (count : ℕ) (states : List ℕ) (n c own : ℕ) (entry seen : List ℕ) → slots ≡ length seen → Evaluated nodes count states n c own entry 0 entry seen
 unfolding rowsOf
-evaluated-none nodes count states n c own entry = record { within = omega arith; laid = refl }
+evaluated-none nodes count states n c own entry seen s = record { within = omega arith; laid = refl; slotted = s }
 
-module _ (nodes : List ℕ) (count : ℕ) (states : List ℕ) (n c own : ℕ) (entry : List ℕ) (i : ℕ) (l : List ℕ)
-    (given : Evaluable nodes count states n c entry) (so : Evaluated nodes count states n c own entry i l) where
+module _ (nodes : List ℕ) (count : ℕ) (states : List ℕ) (n c own : ℕ) (entry : List ℕ) (i : ℕ) (l seen : List ℕ)
+    (given : Evaluable nodes count states n c entry) (so : Evaluated nodes count states n c own entry i l seen) where
   front-length : length (pairsWords (rowsTo nodes i states n c own)) ≡ i * pairWords
   front-length =
       let a = nodes-length nodes i (omega (arith, given .counted, so .within)) in
@@ -150,6 +182,9 @@ module _ (nodes : List ℕ) (count : ℕ) (states : List ℕ) (n c own : ℕ) (e
   evaluated-length =
       let room : i * pairWords ≤ length entry = omega (arith, given .room, so .within) in
       ap length (so .laid) ∙ rw (length-append, length-drop, front-length) (omega arith)
+
+  pub evaluated-slots : slots ≤ length seen
+  evaluated-slots = omega (arith, so .slotted)
 
   pub evaluated-ready : i < count → Ready nodes i states n c own l
   evaluated-ready h = record {
@@ -162,18 +197,18 @@ module _ (nodes : List ℕ) (count : ℕ) (states : List ℕ) (n c own : ℕ) (e
     laid = ap (take (i * pairWords)) (so .laid) ∙ take-at (pairsWords (rowsTo nodes i states n c own)) (drop (i * pairWords) entry) (i * pairWords) front-length;
   }
 
-  pub evaluated-more : i < count → (l′ : List ℕ) → l′ ≡ pairsWords (rowsTo nodes (i + 1) states n c own) ++ drop ((i + 1) * pairWords) l
-      → Evaluated nodes count states n c own entry (i + 1) l′
-  evaluated-more h l′ e =
+  pub evaluated-more : i < count → (l′ seen′ : List ℕ) → l′ ≡ pairsWords (rowsTo nodes (i + 1) states n c own) ++ drop ((i + 1) * pairWords) l → length seen′ ≡ length seen
+      → Evaluated nodes count states n c own entry (i + 1) l′ seen′
+  evaluated-more h l′ seen′ e s =
       let sum : i * pairWords + 6 ≡ (i + 1) * pairWords = omega arith in
       let rest : drop (i * pairWords) l ≡ drop (i * pairWords) entry =
       ap (drop (i * pairWords)) (so .laid) ∙ drop-at (pairsWords (rowsTo nodes i states n c own)) (drop (i * pairWords) entry) (i * pairWords) front-length in
       let same : drop ((i + 1) * pairWords) l ≡ drop ((i + 1) * pairWords) entry =
       rw sum at (sym (drop-drop 6 (i * pairWords) l) ∙ ap (drop 6) rest ∙ drop-drop 6 (i * pairWords) entry) in
-      record { within = omega arith; laid = e ∙ rw same }
+      record { within = omega arith; laid = e ∙ rw same; slotted = so .slotted ∙ sym s }
 
   pub evaluated-done : count ≤ i → l ≡ pairsWords (rowsTo nodes count states n c own) ++ drop (count * pairWords) entry
   evaluated-done h = let e : i ≡ count = omega (arith, so .within) in rw e at (so .laid)
 
 pub ruleset table-laws =
-    (needs, leaf-is, operands-even, operator-rows, leaf-ready, leaf-turn, operands-laid, operator-turn, turn-laid, evaluated-none, evaluated-length, evaluated-ready, evaluated-more, evaluated-done)
+    (needs, leaf-is, operands-even, operator-rows, leaf-ready, leaf-turn, again-tested, again-late, again-turn, again-room, operands-laid, operator-turn, turn-laid, evaluated-none, evaluated-length, evaluated-slots, evaluated-ready, evaluated-more, evaluated-done)

@@ -1,9 +1,9 @@
 -- The rows of a table, one node more.
-use mathlib.Core.Path.{_≡_, refl, sym, _∙_}
+use mathlib.Core.Path.{_≡_, refl, ap, sym, _∙_}
 use mathlib.Core.Bool.{true, false, true≢false}
 use mathlib.Core.List.{List, [], _∷_, _++_, map-append}
 use mathlib.Core.Logic.{⊎-elim}
-use Prim.Native.Nat.{ℕ, _+_, _<_, _≤_}
+use Prim.Native.Nat.{ℕ, zero, suc, _+_, _<_, _≤_}
 use native.Mathlib.Numerals.{add-one}
 use native.Mathlib.Omega.{arith}
 use lib.ListN.{length, take, getD, length-append, length-map, List·getD-append}
@@ -14,7 +14,7 @@ use Rattle.definitions.specs.Readings.{Trace, Rows, noRows, nodeRows, reading, 
 use Rattle.theorems.proofs.Tabulations.{tabulate-length}
 use Rattle.rows.proofs.OperatorLaws.{lt-or-le}
 use Rattle.evaluation.specs.Traced.{traceOf}
-use Rattle.evaluation.specs.Nodes.{isLeaf}
+use Rattle.evaluation.specs.Nodes.{isLeaf, rowsTo, rowsAt}
 use Rattle.evaluation.specs.Pairs.{operated}
 
 -- every row of a list covers n places
@@ -63,6 +63,24 @@ nodes-more nodes i h = rw (add-one i, take-suc nodes i 0 h, map-append)
 
 pub nodes-length : (nodes : List ℕ) (i : ℕ) → i ≤ length nodes → length (nodesIn i nodes) ≡ i
 nodes-length nodes i h = length-map (take i nodes) nodeOf ∙ length-take-le i nodes h
+
+-- the rows of a node, among those of the nodes before a later one
+pub rows-at : (nodes states : List ℕ) (n c own i j : ℕ) → j < i → i ≤ length nodes → getD (rowsTo nodes i states n c own) j noRows ≡ rowsAt nodes j states n c own
+rows-at nodes states n c own zero j h l = absurd (omega arith)
+rows-at nodes states n c own (suc i) j h l =
+    let t = traceOf states n c own in
+    let fits : i < length nodes = omega arith in
+    let more : rowsTo nodes (suc i) states n c own ≡ rowsTo nodes i states n c own ++ (rowsAt nodes i states n c own ∷ []) =
+    (rw (add-one i) at (ap (rowsOf t) (nodes-more nodes i fits))) ∙ rows-more t (nodesIn i nodes) (nodeOf (getD nodes i 0)) in
+    let size : length (rowsTo nodes i states n c own) ≡ i = rows-length t (nodesIn i nodes) ∙ nodes-length nodes i (omega arith) in
+    rw more (⊎-elim
+    (λ (lt : j < i). List·getD-append (rowsTo nodes i states n c own) (rowsAt nodes i states n c own ∷ []) noRows j (rw size lt) ∙ rows-at nodes states n c own i j lt (omega arith))
+    (λ (ge : i ≤ j).
+    let e : j ≡ length (rowsTo nodes i states n c own) = omega arith in
+    let q : i ≡ j = omega arith in
+    ap (λ (k : ℕ). getD (rowsTo nodes i states n c own ++ (rowsAt nodes i states n c own ∷ [])) k noRows) e
+    ∙ (getD-append-seam (rowsTo nodes i states n c own) (rowsAt nodes i states n c own) [] noRows ∙ ap (λ (k : ℕ). rowsAt nodes k states n c own) q))
+    (lt-or-le j i))
 
 -- an operator's rows are read from its operands' rows, a leaf's from the trace alone
 module _ (states : List ℕ) (n c own : ℕ) (rs : List Rows) where

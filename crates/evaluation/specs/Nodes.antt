@@ -1,8 +1,9 @@
 -- What the evaluator asks of a node, and of the lent rows when its turn comes.
-use mathlib.Core.Bool.{Bool, true, false}
+use mathlib.Core.Bool.{Bool, true, false, _&&_}
 use mathlib.Core.List.{List}
 use mathlib.Core.Path.{_≡_}
 use Prim.Native.Nat.{ℕ, _+_, _*_, _<_, _≤_}
+use lib.Dec.{eqb, ltb}
 use lib.ListN.{length, getD, take}
 use Rattle.definitions.specs.Limits.{atomCount, maxStates, maxControllers, pairWords}
 use Rattle.definitions.specs.Nodes.{Kind, True, Atom, Not, Or, Next, Until, Prev, Since, Run, End, Unknown, Node, nodeOf, kindOf}
@@ -30,6 +31,14 @@ pub record Fit (i : ℕ) (n : Node) : Type 0 where
   pub atom : n .kind ≡ Atom → n .first < atomCount
   pub first : isLeaf (n .kind) ≡ false → n .first < i
   pub second : isLeaf (n .kind) ≡ false → n .second < i
+
+-- how many slots there are for leaves seen before
+abbrev pub slots : ℕ
+slots = 64
+
+-- node j is a node before node i with the same word
+unfoldable pub again : List ℕ → ℕ → ℕ → Bool
+again nodes i j = ltb j i && eqb (getD nodes j 0) (getD nodes i 0)
 
 -- what a leaf's rows are gathered from
 pub record Gathered (states : List ℕ) (n : ℕ) : Type 0 where

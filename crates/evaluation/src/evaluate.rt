@@ -1,13 +1,13 @@
 // The evaluator of a table over a trace of state words, both readings, into lent rows.
 ghost use mathlib.Core.Path.{_≡_};
 ghost use mathlib.Core.List.{_++_};
-ghost use Prim.Native.Nat.{_+_, _*_};
-ghost use lib.ListN.{drop};
+ghost use Prim.Native.Nat.{_+_, _*_, _<_, _≤_};
+ghost use lib.ListN.{length, drop};
 ghost use Rattle.definitions.specs.Limits.{pairWords};
 ghost use Rattle.definitions.specs.Nodes.{kindOf};
 ghost use Rattle.definitions.specs.Readings.{pairsWords};
-ghost use Rattle.evaluation.specs.Nodes.{isLeaf, Ready, Evaluable, rowsTo, rowsAt};
-ghost use Rattle.evaluation.specs.Pairs.{PairMade, Operands, operandPlaces, operatorRows};
+ghost use Rattle.evaluation.specs.Nodes.{isLeaf, slots, again, Ready, Evaluable, rowsTo, rowsAt};
+ghost use Rattle.evaluation.specs.Pairs.{PairMade, pairOfNode, Operands, operandPlaces, operatorRows};
 use super::leaf::leaf;
 use super::pair::Pair;
 use super::pair::load_pair;
@@ -16,6 +16,16 @@ use formulas::limits::Limits;
 use formulas::node::Node;
 use rows::lent::store;
 
+// The leaves seen so far: a slot holds the number of the last node whose leaf fell into it.
+pub struct Seen {}
+
+impl Seen {
+    pub const SLOTS: usize = 64;
+
+    // Tells the leaves' slots apart: true at 0, the atoms at 5 to 36, run at 40, end at 45.
+    pub const SPREAD: usize = 5;
+}
+
 // Kinds without operand nodes.
 fn is_leaf(kind: u8) -> bool
     ensures { λ r. ⌜ r ≡ isLeaf (kindOf kind) ⌝ }
@@ -23,17 +33,42 @@ fn is_leaf(kind: u8) -> bool
     (kind < Node::NOT) | (Node::SINCE < kind)
 }
 
+fn slot(kind: u8, first: u16) -> usize
+    ensures { λ r. ⌜ r < slots ⌝ }
+{
+    (kind as usize * Seen::SPREAD + first as usize) % Seen::SLOTS
+}
+
+// Whether `earlier` is a node before node i with the same word.
+fn is_again(nodes: &[u32], i: usize, earlier: usize) -> bool
+    requires { ⌜ i < length (now nodes) ⌝ }
+    ensures { λ r. ⌜ r ≡ again (now (nodes .entry)) i earlier ⌝ }
+{
+    if earlier < i {
+        return nodes[earlier] == nodes[i];
+    }
+    false
+}
+
+// The rows of a node before this one.
+fn pair_of_node(rows: &[u64], j: usize) -> Pair
+    requires { ⌜ j * pairWords + pairWords ≤ length (now rows) ⌝ }
+    ensures { λ r. ⌜ r ≡ pairOfNode (now (rows .entry)) j ⌝ }
+{
+    load_pair(rows, j * Limits::PAIR_WORDS)
+}
+
 // An unused operand is 0, which is a node before it too.
 fn operator(kind: u8, first: usize, second: usize, rows: &[u64]) -> Pair
     requires { ⌜ Operands kind first second (now rows) ⌝ }
     ensures { λ r. ⌜ PairMade r (operandPlaces first (now (rows .entry))) (operatorRows kind first second (now (rows .entry))) ⌝ }
 {
-    let p = load_pair(rows, first * Limits::PAIR_WORDS);
-    let q = load_pair(rows, second * Limits::PAIR_WORDS);
+    let p = pair_of_node(rows, first);
+    let q = pair_of_node(rows, second);
     operate(kind, p, q)
 }
 
-// Node i's two rows, from the rows of the nodes before it.
+// Node i's two rows, from the rows of the nodes before it; a leaf that stood there before has its rows already.
 fn node_rows(
     nodes: &[u32],
     i: usize,
@@ -42,14 +77,21 @@ fn node_rows(
     c: usize,
     own: u32,
     rows: &[u64],
+    seen: &mut [usize],
 ) -> Pair
-    requires { ⌜ Ready (now nodes) i (now states) n c own (now rows) ⌝ }
+    requires { ⌜ (Ready (now nodes) i (now states) n c own (now rows)) × (slots ≤ length (now seen)) ⌝ }
     ensures { λ r. ⌜ PairMade r n (rowsAt (now (nodes .entry)) i (now (states .entry)) n c own) ⌝ }
 {
     let node = Node::of_word(nodes[i]);
     let kind = node.kind;
     let first = node.first as usize;
     if is_leaf(kind) {
+        let at = slot(kind, node.first);
+        let earlier = seen[at];
+        seen[at] = i;
+        if is_again(nodes, i, earlier) {
+            return pair_of_node(rows, earlier);
+        }
         return leaf(kind, first, states, n, c, own);
     }
     operator(kind, first, node.second as usize, rows)
@@ -63,11 +105,12 @@ fn evaluate_node(
     c: usize,
     own: u32,
     rows: &mut [u64],
+    seen: &mut [usize],
 )
-    requires { ⌜ Ready (now nodes) i (now states) n c own (now rows) ⌝ }
+    requires { ⌜ (Ready (now nodes) i (now states) n c own (now rows)) × (slots ≤ length (now seen)) ⌝ }
     ensures { λ _. ⌜ now (rows .exit) ≡ pairsWords (rowsTo (now (nodes .entry)) (i + 1) (now (states .entry)) n c own) ++ drop ((i + 1) * pairWords) (now (rows .entry)) ⌝ }
 {
-    let p = node_rows(nodes, i, states, n, c, own, rows);
+    let p = node_rows(nodes, i, states, n, c, own, rows, seen);
     store(rows, i * Limits::PAIR_WORDS, p.weak);
     store(rows, i * Limits::PAIR_WORDS + Pair::STRONG, p.strong);
 }
@@ -85,7 +128,8 @@ pub fn evaluate(
     requires { ⌜ Evaluable (now nodes) count (now states) n c (now rows) ⌝ }
     ensures { λ _. ⌜ now (rows .exit) ≡ pairsWords (rowsTo (now (nodes .entry)) count (now (states .entry)) n c own) ++ drop (count * pairWords) (now (rows .entry)) ⌝ }
 {
+    let mut seen = [0usize; Seen::SLOTS];
     for i in 0..count {
-        evaluate_node(nodes, i, states, n, c, own, rows);
+        evaluate_node(nodes, i, states, n, c, own, rows, &mut seen);
     }
 }

@@ -3,7 +3,9 @@ ghost use mathlib.Core.Path.{_≡_};
 ghost use Rattle.definitions.specs.Nodes.{node, kindOf, operands};
 ghost use Rattle.definitions.specs.Tables.{isUnknown, isRewritten, isAtom, unusedSet, operandLate, nodeRefusal, nodesRefusal, ruleHeadingRefusal, ruleRefusal, tableRefusal};
 ghost use Rattle.formulas.specs.Meaning.{meaning};
+ghost use Rattle.formulas.specs.Ends.{firstEnd, secondEnd, nodeFits};
 use super::choice::pick;
+use super::choice::pick_index;
 use super::limits::Limits;
 use super::limits::Refusal;
 use super::node::Node;
@@ -53,7 +55,7 @@ fn operand_late(i: usize, kind: u8, first: u16, second: u16) -> bool
 }
 
 // Of one node, 2 goes before 3.
-pub fn node_refusal(rewritten: bool, i: usize, n: Node) -> u8
+fn first_refusal(rewritten: bool, i: usize, n: Node) -> u8
     ensures { λ r. ⌜ r ≡ nodeRefusal rewritten i (meaning n) ⌝ }
 {
     let kind = n.kind;
@@ -66,6 +68,45 @@ pub fn node_refusal(rewritten: bool, i: usize, n: Node) -> u8
     let late = !atom & operand_late(i, kind, first, second);
     let operand = pick(late, Refusal::RULE_OPERAND, Refusal::NONE);
     pick(outside, Refusal::RULE_LIMITS, operand)
+}
+
+fn first_end(kind: u8, i: usize) -> usize
+    ensures { λ r. ⌜ r ≡ firstEnd i (kindOf kind) ⌝ }
+{
+    let operator = (Node::ATOM < kind) & (kind < Node::RUN);
+    pick_index(
+        kind == Node::ATOM,
+        Limits::ATOMS,
+        pick_index(operator, i, 1),
+    )
+}
+
+fn second_end(kind: u8, i: usize) -> usize
+    ensures { λ r. ⌜ r ≡ secondEnd i (kindOf kind) ⌝ }
+{
+    let two = (kind == Node::OR) | (kind == Node::UNTIL) | (kind == Node::SINCE);
+    pick_index(two, i, 1)
+}
+
+// A kind that the table may hold, and each operand before its end.
+fn node_fits(rewritten: bool, i: usize, n: Node) -> bool
+    ensures { λ r. ⌜ r ≡ nodeFits rewritten i (meaning n) ⌝ }
+{
+    let kind = n.kind;
+    let known = kind <= pick(rewritten, Node::END, Node::SINCE);
+    let first = (n.first as usize) < first_end(kind, i);
+    let second = (n.second as usize) < second_end(kind, i);
+    known & first & second
+}
+
+// A node that fits is accepted by a few tests; only another one is asked for its first refusal.
+pub fn node_refusal(rewritten: bool, i: usize, n: Node) -> u8
+    ensures { λ r. ⌜ r ≡ nodeRefusal rewritten i (meaning n) ⌝ }
+{
+    if node_fits(rewritten, i, n) {
+        return Refusal::NONE;
+    }
+    first_refusal(rewritten, i, n)
 }
 
 // The nodes that are there, in order, then a node missing.

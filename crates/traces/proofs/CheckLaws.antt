@@ -1,25 +1,29 @@
 -- One law for each return and each turn of the functions of the check, over plain variables.
 use mathlib.Core.Path.{_≡_, refl, sym, _∙_}
-use Prim.Native.Nat.{ℕ, suc, _+_, _-_, _*_, _/_, _%_, _^_, _≤_, _<_}
+use Prim.Native.Nat.{ℕ, suc, _+_, _-_, _*_, _/_, _%_, _^_, _≤_, _<_, min}
 use native.Mathlib.Omega.{arith}
+use native.Mathlib.Decide.{ℕ-discrete, decLt}
 use native.Mathlib.Numerals.{add-one}
 use mathlib.Core.Bool.{Bool, true, false, not, _&&_, _||_}
 use mathlib.Core.List.{List, [], _∷_}
 use lib.Dec.{eqb, ltb, leb}
 use lib.Bits.{bitAnd, bitOr}
-use lib.Pow.{shl-exact}
+use lib.Pow.{pow-mono}
 use lib.ListN.{length, take, drop, getD, drop-of-length-le, List·getD-eq-default}
 use lib.Seq.{drop-cons, getD-take, take-nil}
 use borrow.Author.Needs.{needs}
-use borrow.Author.Tests.{ne-eqb, leb-true}
+use borrow.Author.Tests.{ne-eqb, lt-ltb, le-ltb, leb-true, leb-false, lt-leb, le-leb}
 use Rattle.definitions.specs.Limits.{maxControllers, maxStates, recordingLimits, masksMeet, recordingLines, lastMark, outputRule, noController, accepted}
-use Rattle.definitions.specs.Bounded.{pick, bitOf, within, orElse, someOf}
-use Rattle.definitions.specs.Recordings.{Recording, atomsOf, marksOf, marked, outputBroken, stateRefusal, recordingHeadingRefusal, masksRefusal, statesRefusal, recordingLinesRefusal, recordingRefusal}
+use Rattle.definitions.specs.Bounded.{pick, bitOf, within, orElse}
+use Rattle.definitions.specs.Recordings.{Recording, stateOf, atomsOf, marksOf, marked, outputBroken, stateRefusal, recordingHeadingRefusal, masksRefusal, statesRefusal, recordingLinesRefusal, recordingRefusal}
 use Rattle.definitions.specs.Operations.{controllerRefusal}
-use Rattle.theorems.proofs.Choice.{accept-yes, both-true}
+use Rattle.theorems.proofs.Choice.{accept-yes, both-true, refuse-no}
 use Rattle.theorems.proofs.Recursions.{some-cong}
 use Rattle.traces.specs.Unions.{unionOf, unionRefusal, unionsRefusal}
+use Rattle.traces.specs.Turns.{stepRefusal, lastRefusal}
+use Rattle.traces.specs.Held.{heldGroup, heldChanged}
 use Rattle.traces.proofs.MaskLaws.{masks-union}
+use Rattle.traces.proofs.HeldLaws.{tables-broken}
 
 -- ---- choice by a test
 pub pick-yes : (t : Bool) (x y : ℕ) → t ≡ true → x ≡ pick t x y
@@ -125,102 +129,150 @@ pub marked-is : (c s marks : ℕ) → marks ≡ marksOf s → eqb (marks / 2 ^ c
 unfolding bitOf
 marked-is c s marks e = rw e
 
--- own atoms of two states differ, and the controller did not run in the first
-abbrev pub changed : ℕ → Bool → ℕ → ℕ → Bool
-changed mask ran before s = not ran && not (eqb (bitAnd (atomsOf before) mask) (bitAnd (atomsOf s) mask))
-
-pub changed-ran : (mask before s : ℕ) (ran : Bool) → ran ≡ true → false ≡ changed mask ran before s
-changed-ran mask before s ran e = rw e
-
-pub changed-idle : (mask before s a b : ℕ) (ran : Bool) → ran ≡ false → a ≡ atomsOf before → b ≡ atomsOf s →
-    not (eqb (bitAnd a mask) (bitAnd b mask)) ≡ changed mask ran before s
-changed-idle mask before s a b ran e p q = rw (e, p, q)
-
--- the output rule of the controllers from c on
-pub record OutputsLeft (C : ℕ) (masks : List ℕ) (before s c : ℕ) : Type 0 where
-  pub within : c ≤ C
-  pub left : outputBroken C masks before s ≡ someOf (C - c) c (λ (j : ℕ). changed (getD masks j 0) (marked j before) before s)
-
-pub outputs-start : (C : ℕ) (masks : List ℕ) (before s : ℕ) → OutputsLeft C masks before s 0
-outputs-start C masks before s = record { within = omega arith; left = refl }
-
-module _ (C : ℕ) (masks : List ℕ) (before s c : ℕ) (inv : OutputsLeft C masks before s c) where
-  pub outputs-end : C ≤ c → false ≡ outputBroken C masks before s
-  outputs-end h = let e : C - c ≡ 0 = omega arith in sym (inv .left ∙ rw e)
-
-  module _ (h : c < C) (mask : ℕ) (m : mask ≡ getD masks c 0) (ran : Bool) (n : ran ≡ marked c before) (r : Bool) (d : r ≡ changed mask ran before s) where
-    one : someOf (C - c) c (λ (j : ℕ). changed (getD masks j 0) (marked j before) before s) ≡ (r || someOf (C - (c + 1)) (c + 1) (λ (j : ℕ). changed (getD masks j 0) (marked j before) before s))
-    one = let e : C - c ≡ suc (C - (c + 1)) = omega arith in rw (d, m, n, e, add-one c)
-
-    pub outputs-broken : r ≡ true → true ≡ outputBroken C masks before s
-    outputs-broken z = sym (inv .left ∙ (one ∙ rw z))
-
-    pub outputs-next : r ≡ false → OutputsLeft C masks before s (c + 1)
-    outputs-next z = record { within = omega arith; left = inv .left ∙ (one ∙ rw z) }
-
 -- ---- one state
--- the word of marks is below 2 ^ C where no mark is at C or above: the code's shift loses nothing
-shift-is : (C : ℕ) → C ≤ maxControllers → 1 * 2 ^ C % 2 ^ 64 ≡ 2 ^ C
-shift-is C h =
-    let e : 1 * 2 ^ C ≡ 2 ^ C = omega arith in
-    shl-exact {a = 1} 1 C 64 (omega arith) (omega arith) ∙ e
+pub broken-later : (k : ℕ) (broken r : Bool) → 0 < k → r ≡ broken → r ≡ (ltb 0 k && broken)
+broken-later k broken r h e = rw (lt-ltb 0 k h) e
 
--- the tests of a state, one choice each
-module _ (C N : ℕ) (masks : List ℕ) (k before s : ℕ) where
-  abbrev lastTests : ℕ
-  lastTests = pick (eqb (k + 1) N) (pick (eqb (marksOf s) 0) accepted lastMark) accepted
+pub broken-first : (k : ℕ) (broken : Bool) → k ≤ 0 → false ≡ (ltb 0 k && broken)
+broken-first k broken h = rw (le-ltb 0 k h)
 
-  state-tests : stateRefusal C N masks k before s
-      ≡ pick (leb (2 ^ C) (marksOf s)) recordingLimits (pick (ltb 0 k) (pick (outputBroken C masks before s) outputRule lastTests) lastTests)
-  unfolding stateRefusal
-  state-tests = rw (
-    pick-and (ltb 0 k) (outputBroken C masks before s) outputRule (pick (eqb (k + 1) N && not (eqb (marksOf s) 0)) lastMark accepted),
-    pick-and (eqb (k + 1) N) (not (eqb (marksOf s) 0)) lastMark accepted,
-    pick-not (eqb (marksOf s) 0) lastMark accepted,
-  )
+-- the code's shift loses nothing
+pub limit-is : (C : ℕ) → C ≤ maxControllers → 2 ^ 32 * 2 ^ C % 2 ^ 64 ≡ stateOf (2 ^ C) 0
+limit-is C h = let e : 2 ^ C ≤ 256 = pow-mono {i = C} {j = 8} h in omega arith
 
-pub state-is : (C N : ℕ) (masks : List ℕ) (k before s marks a last output late r : ℕ) (broken : Bool) → C ≤ maxControllers →
-    marks ≡ marksOf s → a ≡ pick (eqb marks 0) accepted lastMark → last ≡ pick (eqb (k + 1) N) a accepted →
-    broken ≡ outputBroken C masks before s → output ≡ pick broken outputRule last →
-    late ≡ pick (ltb 0 k) output last → r ≡ pick (leb (1 * 2 ^ C % 2 ^ 64) marks) recordingLimits late → r ≡ stateRefusal C N masks k before s
-state-is C N masks k before s marks a last output late r broken h m p q b o l e = cc (shift-is C h, state-tests C N masks k before s)
+pub step-is : (limit s output r : ℕ) (broken : Bool) → output ≡ pick broken outputRule accepted → r ≡ pick (leb limit s) recordingLimits output → r ≡ stepRefusal limit s broken
+unfolding stepRefusal
+step-is limit s output r broken p q = cc
+
+-- a word below the limit has its run marks below 2 ^ C
+limit-marks : (p s : ℕ) → leb p (marksOf s) ≡ leb (stateOf p 0) s
+limit-marks p s = go (decLt (marksOf s) p)
+  where
+    go : Dec (marksOf s < p) → leb p (marksOf s) ≡ leb (stateOf p 0) s
+    go (yes h) = lt-leb p (marksOf s) h ∙ sym (lt-leb (stateOf p 0) s (omega arith))
+    go (no h) = le-leb p (marksOf s) (omega arith) ∙ sym (le-leb (stateOf p 0) s (omega arith))
+
+pub last-is : (marks idle r : ℕ) (last : Bool) → idle ≡ pick (eqb marks 0) accepted lastMark → r ≡ pick last idle accepted → r ≡ lastRefusal last marks
+unfolding lastRefusal
+last-is marks idle r last p q = cc
+
+-- the number of the last state's marks comes after the others
+numbers-split : (limit broken last idle : Bool) →
+    pick limit recordingLimits (pick broken outputRule (pick (last && not idle) lastMark accepted))
+    ≡ orElse (pick limit recordingLimits (pick broken outputRule accepted)) (pick last (pick idle accepted lastMark) accepted)
+unfolding orElse pick
+numbers-split true broken last idle = refl
+numbers-split false true last idle = refl
+numbers-split false false true true = refl
+numbers-split false false true false = refl
+numbers-split false false false idle = refl
+
+state-split : (C N : ℕ) (masks : List ℕ) (k before s : ℕ) →
+    stateRefusal C N masks k before s
+    ≡ orElse (stepRefusal (stateOf (2 ^ C) 0) s (ltb 0 k && outputBroken C masks before s)) (lastRefusal (eqb (k + 1) N) (marksOf s))
+unfolding stateRefusal stepRefusal lastRefusal
+state-split C N masks k before s =
+    rw (limit-marks (2 ^ C) s)
+    (numbers-split (leb (stateOf (2 ^ C) 0) s) (ltb 0 k && outputBroken C masks before s) (eqb (k + 1) N) (eqb (marksOf s) 0))
+
+pub state-is : (C N : ℕ) (masks : List ℕ) (k before s marks limit step last r : ℕ) (broken : Bool) → marks ≡ marksOf s → limit ≡ stateOf (2 ^ C) 0 →
+    broken ≡ (ltb 0 k && outputBroken C masks before s) → step ≡ stepRefusal limit s broken → last ≡ lastRefusal (eqb (k + 1) N) marks →
+    r ≡ orElse step last → r ≡ stateRefusal C N masks k before s
+state-is C N masks k before s marks limit step last r broken m l b p q e = e ∙ (rw (p, q, b, m, l) (sym (state-split C N masks k before s)))
 
 -- ---- states
--- what is left to check at state k
-pub record StatesLeft (C N : ℕ) (masks states : List ℕ) (before k : ℕ) : Type 0 where
-  pub within : k ≤ N
-  pub left : statesRefusal C N masks 0 0 (take N states) ≡ statesRefusal C N masks k before (take (N - k) (drop k states))
+-- what is left to check at state k, the marks of the state before it as the last among it, and the output rule by the atoms that it holds
+pub record StatesLeft (C N : ℕ) (masks states : List ℕ) (before held k : ℕ) : Type 0 where
+  pub within : k ≤ min N (length states)
+  pub left : statesRefusal C N masks 0 0 (take N states)
+      ≡ orElse (lastRefusal (eqb k N) (marksOf before)) (statesRefusal C N masks k before (take (N - k) (drop k states)))
+  pub rule : (s : ℕ) → heldChanged held before s ≡ (ltb 0 k && outputBroken C masks before s)
 
-pub states-start : (C N : ℕ) (masks states : List ℕ) → StatesLeft C N masks states 0 0
-states-start C N masks states = let z : N - 0 ≡ N = omega arith in record { within = omega arith; left = rw z }
+last-idle : (last : Bool) → lastRefusal last 0 ≡ 0
+unfolding lastRefusal pick
+last-idle true = refl
+last-idle false = refl
 
-module _ (C N : ℕ) (masks states : List ℕ) (before k : ℕ) (inv : StatesLeft C N masks states before k) where
-  pub states-missing : length states ≤ k → 0 ≡ statesRefusal C N masks 0 0 (take N states)
+or-else-last : (r : ℕ) → orElse r 0 ≡ r
+or-else-last r = go (ℕ-discrete r 0)
+  where
+    go : Dec (r ≡ 0) → orElse r 0 ≡ r
+    go (yes e) = or-else-go r 0 e ∙ sym e
+    go (no e) = or-else-stop r 0 e
+
+pub states-start : (C N : ℕ) (masks states : List ℕ) → StatesLeft C N masks states 0 0 0
+unfolding heldChanged
+states-start C N masks states =
+    let z : N - 0 ≡ N = omega arith in
+    record {
+      within = omega arith;
+      left = sym (or-else-go (lastRefusal (eqb 0 N) 0) _ (last-idle (eqb 0 N)) ∙ rw z);
+      rule = λ s. refl;
+    }
+
+module _ (C N : ℕ) (masks states : List ℕ) (before held k there : ℕ) (inv : StatesLeft C N masks states before held k) (t : there ≡ min N (length states)) where
+  -- no state is left
+  none-left : there ≤ k → take (N - k) (drop k states) ≡ []
+  none-left h = go (decLt k N)
+    where
+      go : Dec (k < N) → take (N - k) (drop k states) ≡ []
+      go (yes l) = from-missing N states k (omega arith)
+      go (no l) = from-end N states k (omega arith)
+
+  pub states-end : there ≤ k → (marks r : ℕ) → marks ≡ marksOf before → r ≡ lastRefusal (eqb there N) marks → r ≡ statesRefusal C N masks 0 0 (take N states)
   unfolding statesRefusal
-  states-missing h = sym (inv .left ∙ rw (from-missing N states k h))
+  states-end h marks r m e =
+      let z : k ≡ there = omega (arith, inv .within) in
+      let all : statesRefusal C N masks 0 0 (take N states) ≡ lastRefusal (eqb there N) marks =
+      inv .left ∙ (rw (none-left h, or-else-last) (rw (z, m))) in
+      e ∙ sym all
 
-  pub states-end : N ≤ k → 0 ≡ statesRefusal C N masks 0 0 (take N states)
-  unfolding statesRefusal
-  states-end h = sym (inv .left ∙ rw (from-end N states k h))
+  module _ (h : k < there) (limit r : ℕ) (changed : Bool) (l : limit ≡ stateOf (2 ^ C) 0)
+      (d : changed ≡ heldChanged held before (getD states k 0)) (e : r ≡ stepRefusal limit (getD states k 0) changed) where
+    one-left : statesRefusal C N masks 0 0 (take N states)
+        ≡ orElse (orElse r (lastRefusal (eqb (k + 1) N) (marksOf (getD states k 0)))) (statesRefusal C N masks (k + 1) (getD states k 0) (take (N - (k + 1)) (drop (k + 1) states)))
+    unfolding statesRefusal lastRefusal pick
+    one-left =
+        let f : eqb k N ≡ false = ne-eqb k N (λ q. omega arith) in
+        let g : r ≡ stepRefusal (stateOf (2 ^ C) 0) (getD states k 0) (ltb 0 k && outputBroken C masks before (getD states k 0)) =
+        e ∙ rw (d, inv .rule (getD states k 0), l) in
+        inv .left ∙ rw (f, or-else-go 0 _ refl, from-next N states k (omega arith) (omega arith), state-split C N masks k before (getD states k 0), ← g)
 
-  module _ (h : k < N) (l : k < length states) (r : ℕ) (e : r ≡ stateRefusal C N masks k before (getD states k 0)) where
     pub states-refused : (r ≡ 0 → ⊥) → r ≡ statesRefusal C N masks 0 0 (take N states)
-    unfolding statesRefusal
-    states-refused z = sym (inv .left ∙ rw (from-next N states k h l, ← e, or-else-stop r _ z))
+    states-refused z = sym (one-left ∙ rw (or-else-stop r _ z, or-else-stop r _ z))
 
-    pub states-next : r ≡ 0 → StatesLeft C N masks states (getD states k 0) (k + 1)
-    unfolding statesRefusal
-    states-next z = record { within = omega arith; left = inv .left ∙ rw (from-next N states k h l, ← e, or-else-go r _ z) }
+    few-marks : r ≡ 0 → C ≤ maxControllers → marksOf (getD states k 0) < 256
+    unfolding stepRefusal
+    few-marks z few =
+        let below = leb-false limit (getD states k 0) ((refuse-no (leb limit (getD states k 0)) recordingLimits (pick changed outputRule accepted) (omega arith) (sym e ∙ z)) .0) in
+        let most : 2 ^ C ≤ 256 = pow-mono {i = C} {j = 8} few in
+        omega arith
+
+    module _ (z : r ≡ 0) (few : C ≤ maxControllers) (marks : ℕ) (m : marks ≡ marksOf (getD states k 0)) where
+      -- the marks of a state that is not refused have an entry in each table
+      pub marks-high : marks / 16 < 16
+      marks-high = omega (arith, few-marks z few)
+
+      pub states-next : (low high : List ℕ) → low ≡ heldGroup (take C masks) 0 → high ≡ heldGroup (take C masks) 4 →
+          StatesLeft C N masks states (getD states k 0) (bitOr (getD low (marks % 16) 0) (getD high (marks / 16) 0)) (k + 1)
+      states-next low high p q =
+          record {
+            within = omega arith;
+            left = one-left ∙ rw (or-else-go r _ z);
+            rule = λ s. rw (p, q, m, lt-ltb 0 (k + 1) (omega arith)) (tables-broken C masks (getD states k 0) s few (few-marks z few));
+          }
 
 -- ---- the output rule depends on the masks of the controllers only
 output-own : (C : ℕ) (masks : List ℕ) (before s : ℕ) → outputBroken C masks before s ≡ outputBroken C (take C masks) before s
 output-own C masks before s =
-    some-cong (λ (c : ℕ). changed (getD masks c 0) (marked c before) before s) (λ (c : ℕ). changed (getD (take C masks) c 0) (marked c before) before s) (C - 0) 0
-    (λ c a b. rw (getD-take C masks c 0 (omega arith)))
+    some-cong
+    (λ (c : ℕ). not (marked c before) && not (eqb (bitAnd (atomsOf before) (getD masks c 0)) (bitAnd (atomsOf s) (getD masks c 0))))
+    (λ (c : ℕ). not (marked c before) && not (eqb (bitAnd (atomsOf before) (getD (take C masks) c 0)) (bitAnd (atomsOf s) (getD (take C masks) c 0))))
+    (C - 0) 0 (λ c a b. rw (getD-take C masks c 0 (omega arith)))
 
 pub state-own : (C N : ℕ) (masks : List ℕ) (k before s : ℕ) → stateRefusal C N masks k before s ≡ stateRefusal C N (take C masks) k before s
 state-own C N masks k before s =
-    cc (state-tests C N masks k before s, state-tests C N (take C masks) k before s, output-own C masks before s)
+    cc (state-split C N masks k before s, state-split C N (take C masks) k before s, output-own C masks before s)
 
 pub states-own : (C N : ℕ) (masks : List ℕ) (k before : ℕ) (ss : List ℕ) → statesRefusal C N masks k before ss ≡ statesRefusal C N (take C masks) k before ss
 unfolding statesRefusal
@@ -263,9 +315,9 @@ pub ruleset test-laws = (pick-yes, pick-no, or-else-is, heading-is, mask-is)
 
 pub ruleset mask-laws = (masks-start, masks-missing, masks-end, masks-refused, masks-next)
 
-pub ruleset output-laws = (mask-none, marked-is, changed-ran, changed-idle, outputs-start, outputs-end, outputs-broken, outputs-next)
+pub ruleset output-laws = (mask-none, marked-is)
 
-pub ruleset state-laws = (states-start, states-missing, states-end, states-refused, states-next)
+pub ruleset state-laws = (needs, broken-later, broken-first, limit-is, step-is, last-is, state-is, states-start, states-end, states-refused, marks-high, states-next)
 
 pub ruleset recording-laws = (lines-is, controller-is, recording-heading)
 

@@ -1,4 +1,5 @@
 pub mod MaskLaws
+pub mod HeldLaws
 pub mod CheckLaws
 pub mod ProjectLaws
 pub mod OperationLaws

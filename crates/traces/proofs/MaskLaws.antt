@@ -47,7 +47,7 @@ and-or = bin-ind (λ (a : ℕ). (b m : ℕ) → bitAnd (bitOr a b) m ≡ bitOr (
     ))
 
 -- a union is empty where both parts are
-some-atom : (x y : ℕ) → (not (eqb y 0) || not (eqb x 0)) ≡ not (eqb (bitOr x y) 0)
+pub some-atom : (x y : ℕ) → (not (eqb y 0) || not (eqb x 0)) ≡ not (eqb (bitOr x y) 0)
 some-atom x y = go (ℕ-discrete x 0) (ℕ-discrete y 0)
   where
     go : Dec (x ≡ 0) → Dec (y ≡ 0) → (not (eqb y 0) || not (eqb x 0)) ≡ not (eqb (bitOr x y) 0)

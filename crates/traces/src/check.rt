@@ -1,19 +1,21 @@
 // The check of a recording: heading, masks, states, then lines that are missing.
 ghost use mathlib.Core.Path.{_≡_};
-ghost use mathlib.Core.Bool.{not, _&&_};
+ghost use mathlib.Core.Bool.{_&&_};
 ghost use mathlib.Core.List.{[]};
-ghost use Prim.Native.Nat.{_≤_, _<_};
-ghost use lib.Dec.{eqb};
-ghost use lib.Bits.{bitAnd};
+ghost use Prim.Native.Nat.{_^_, _≤_};
+ghost use lib.Dec.{ltb};
 ghost use lib.ListN.{take, getD};
 ghost use Rattle.definitions.specs.Limits.{maxControllers};
-ghost use Rattle.definitions.specs.Recordings.{Recording, atomsOf, outputBroken, stateRefusal, recordingHeadingRefusal, masksRefusal, statesRefusal, recordingLinesRefusal, recordingRefusal};
+ghost use Rattle.definitions.specs.Recordings.{Recording, stateOf, outputBroken, stateRefusal, recordingHeadingRefusal, masksRefusal, statesRefusal, recordingLinesRefusal, recordingRefusal};
 ghost use Rattle.definitions.specs.Operations.{controllerRefusal};
 ghost use Rattle.traces.specs.Unions.{unionRefusal};
-ghost use Rattle.traces.specs.Turns.{InTurn};
-use super::state::atoms_of;
+ghost use Rattle.traces.specs.Turns.{InTurn, stepRefusal, lastRefusal};
+use super::held::held_atoms;
+use super::held::held_changed;
+use super::held::held_group;
+use super::held::least;
+use super::state::ATOM_WORDS;
 use super::state::marks_of;
-use super::state::runs;
 use formulas::choice::or_else;
 use formulas::choice::pick;
 use formulas::limits::Limits;
@@ -72,26 +74,47 @@ pub fn mask_at(masks: &[u32], c: usize) -> u32
     0
 }
 
-// An output of the component changed though it was not scheduled.
-fn output_changed(mask: u32, ran: bool, before: u64, state: u64) -> bool
-    ensures { λ r. ⌜ r ≡ (not ran && not (eqb (bitAnd (atomsOf before) mask) (bitAnd (atomsOf state) mask))) ⌝ }
-{
-    if ran {
-        return false;
-    }
-    atoms_of(before) & mask != atoms_of(state) & mask
-}
-
 pub fn output_broken(controllers: usize, masks: &[u32], before: u64, state: u64) -> bool
     requires { ⌜ controllers ≤ maxControllers ⌝ }
     ensures { λ r. ⌜ r ≡ outputBroken controllers (now (masks .entry)) before state ⌝ }
 {
-    for c in 0..controllers {
-        if output_changed(mask_at(masks, c), runs(c, before), before, state) {
-            return true;
-        }
+    let held = held_atoms(controllers, masks, before);
+    held_changed(held, before, state)
+}
+
+// The first state has no state before it.
+fn output_broken_at(controllers: usize, masks: &[u32], k: usize, before: u64, state: u64) -> bool
+    requires { ⌜ controllers ≤ maxControllers ⌝ }
+    ensures { λ r. ⌜ r ≡ (ltb 0 k && outputBroken controllers (now (masks .entry)) before state) ⌝ }
+{
+    if 0 < k {
+        return output_broken(controllers, masks, before, state);
     }
     false
+}
+
+// States from this word on have a run mark at C or above.
+fn state_limit(controllers: usize) -> u64
+    requires { ⌜ controllers ≤ maxControllers ⌝ }
+    ensures { λ r. ⌜ r ≡ stateOf (2 ^ controllers) 0 ⌝ }
+{
+    ATOM_WORDS << controllers
+}
+
+// What any state is refused for.
+fn step_refusal(limit: u64, state: u64, broken: bool) -> u8
+    ensures { λ r. ⌜ r ≡ stepRefusal limit state broken ⌝ }
+{
+    let output = pick(broken, Refusal::OUTPUT_RULE, Refusal::NONE);
+    pick(limit <= state, Refusal::RECORDING_LIMITS, output)
+}
+
+// What only the last state is refused for.
+fn last_refusal(last: bool, marks: u64) -> u8
+    ensures { λ r. ⌜ r ≡ lastRefusal last marks ⌝ }
+{
+    let idle = pick(marks == 0, Refusal::NONE, Refusal::LAST_MARK);
+    pick(last, idle, Refusal::NONE)
 }
 
 // State k against the state before it.
@@ -106,33 +129,35 @@ pub fn state_refusal(
     requires { ⌜ InTurn controllers count k ⌝ }
     ensures { λ r. ⌜ r ≡ stateRefusal controllers count (now (masks .entry)) k before state ⌝ }
 {
-    let marks = marks_of(state);
-    let idle = pick(marks == 0, Refusal::NONE, Refusal::LAST_MARK);
-    let last = pick(k + 1 == count, idle, Refusal::NONE);
-    let broken = output_broken(controllers, masks, before, state);
-    let output = pick(broken, Refusal::OUTPUT_RULE, last);
-    let later = pick(0 < k, output, last);
-    pick(1 << controllers <= marks, Refusal::RECORDING_LIMITS, later)
+    let broken = output_broken_at(controllers, masks, k, before, state);
+    let step = step_refusal(state_limit(controllers), state, broken);
+    let last = last_refusal(k + 1 == count, marks_of(state));
+    or_else(step, last)
 }
 
-// The states that are there, in order.
+// The states that are there, in order. `held` are the atoms that the state before holds, none before the first:
+// by its marks of controllers 0 to 3 and of 4 to 7, so that no branch depends on them.
 pub fn states_refusal(controllers: usize, count: usize, masks: &[u32], states: &[u64]) -> u8
     requires { ⌜ controllers ≤ maxControllers ⌝ }
     ensures { λ r. ⌜ r ≡ statesRefusal controllers count (now (masks .entry)) 0 0 (take count (now (states .entry))) ⌝ }
 {
+    let low = held_group(controllers, masks, 0);
+    let high = held_group(controllers, masks, 4);
+    let limit = state_limit(controllers);
+    let there = least(count, states.len());
     let mut before: u64 = 0;
-    for k in 0..count {
-        if states.len() <= k {
-            return Refusal::NONE;
-        }
+    let mut held: u32 = 0;
+    for k in 0..there {
         let state = states[k];
-        let refusal = state_refusal(controllers, count, masks, k, before, state);
+        let refusal = step_refusal(limit, state, held_changed(held, before, state));
         if refusal != Refusal::NONE {
             return refusal;
         }
+        let marks = marks_of(state);
+        held = low[(marks % 16) as usize] | high[(marks / 16) as usize];
         before = state;
     }
-    Refusal::NONE
+    last_refusal(there == count, marks_of(before))
 }
 
 // Fewer masks or states than the heading says.

@@ -4,13 +4,16 @@ use Rattle.evaluation.proofs.evaluate.evaluate.Statement.{statement}
 use Rattle.evaluation.proofs.evaluate.evaluate.Tie as tie
 
 abbrev Inv-loop : tie.InvT-loop
-Inv-loop nodes count states n c own rows₀ i₀ rows i = Evaluated nodes count states n c own rows₀ i rows
+Inv-loop nodes count states n c own rows₀ seen₀ i₀ rows seen i = Evaluated nodes count states n c own rows₀ i rows seen
 
 abbrev μ-loop : tie.MeasureT-loop
-μ-loop nodes count states n c own rows₀ i₀ rows i = count - i
+μ-loop nodes count states n c own rows₀ seen₀ i₀ rows seen i = count - i
 
 loop-holds : tie.Need-loop-holds Inv-loop μ-loop
 loop-holds c = search table-laws
+
+slice-aggregate-evaluate-node : tie.Need-slice-aggregate-evaluate-node Inv-loop μ-loop
+slice-aggregate-evaluate-node c = search table-laws
 
 evaluate-node-requires : tie.Need-evaluate-node-requires Inv-loop μ-loop
 evaluate-node-requires c κs = search table-laws
@@ -37,6 +40,7 @@ evaluate-spec =
     Inv-loop
     μ-loop
     loop-holds
+    slice-aggregate-evaluate-node
     evaluate-node-requires
     add-i
     loop-less

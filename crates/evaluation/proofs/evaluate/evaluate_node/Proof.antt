@@ -23,6 +23,9 @@ store-requires-2 c κs = search table-laws
 same-length : tie.Need-same-length
 same-length c = search table-laws
 
+same-length-2 : tie.Need-same-length-2
+same-length-2 c = search table-laws
+
 returns : tie.Need-returns
 returns c = search table-laws
 
@@ -37,4 +40,5 @@ evaluate-node-spec =
     add-store
     store-requires-2
     same-length
+    same-length-2
     returns)

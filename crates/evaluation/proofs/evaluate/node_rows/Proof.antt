@@ -17,11 +17,41 @@ cast-first c = search table-laws
 is-leaf-requires : tie.Need-is-leaf-requires
 is-leaf-requires c κs = search table-laws
 
-leaf-requires : tie.Need-leaf-requires
-leaf-requires c κs = search table-laws
+slot-requires : tie.Need-slot-requires
+slot-requires c κs = search table-laws
+
+mul-earlier : tie.Need-mul-earlier
+mul-earlier c = search table-laws
+
+slice-read-earlier : tie.Need-slice-read-earlier
+slice-read-earlier c = search table-laws
+
+mul-seen : tie.Need-mul-seen
+mul-seen c = search table-laws
+
+slice-write-seen : tie.Need-slice-write-seen
+slice-write-seen c = search table-laws
+
+is-again-requires : tie.Need-is-again-requires
+is-again-requires c κs = search table-laws
+
+pair-of-node-requires : tie.Need-pair-of-node-requires
+pair-of-node-requires c κs = search table-laws
+
+same-length : tie.Need-same-length
+same-length c = search table-laws
 
 returns : tie.Need-returns
 returns c = search table-laws
+
+leaf-requires : tie.Need-leaf-requires
+leaf-requires c κs = search table-laws
+
+same-length-2 : tie.Need-same-length-2
+same-length-2 c = search table-laws
+
+returns-2 : tie.Need-returns-2
+returns-2 c = search table-laws
 
 cast-operator : tie.Need-cast-operator
 cast-operator c = search table-laws
@@ -29,8 +59,8 @@ cast-operator c = search table-laws
 operator-requires : tie.Need-operator-requires
 operator-requires c κs = search table-laws
 
-returns-2 : tie.Need-returns-2
-returns-2 c = search table-laws
+returns-3 : tie.Need-returns-3
+returns-3 c = search table-laws
 
 pub node-rows-spec : {M : Type 1} → statement M
 node-rows-spec =
@@ -41,8 +71,18 @@ node-rows-spec =
     of-word-requires
     cast-first
     is-leaf-requires
-    leaf-requires
+    slot-requires
+    mul-earlier
+    slice-read-earlier
+    mul-seen
+    slice-write-seen
+    is-again-requires
+    pair-of-node-requires
+    same-length
     returns
+    leaf-requires
+    same-length-2
+    returns-2
     cast-operator
     operator-requires
-    returns-2)
+    returns-3)

@@ -1,46 +1,19 @@
--- `node_refusal` meets its contract: the tests of the definition, those that answer 2 as one (CheckLaws).
-use borrow.Author.Needs.{needs}
-use Rattle.formulas.proofs.CheckLaws.{node-tested}
+use Rattle.formulas.proofs.EndLaws.{end-laws}
 use Rattle.formulas.proofs.check.node_refusal.Statement.{statement}
 use Rattle.formulas.proofs.check.node_refusal.Tie as tie
 
-is-atom-requires : tie.Need-is-atom-requires
-is-atom-requires c κs = search needs
-
-cast-high : tie.Need-cast-high
-cast-high c = search needs
-
-is-rewritten-requires : tie.Need-is-rewritten-requires
-is-rewritten-requires c κs = search needs
-
-is-unknown-requires : tie.Need-is-unknown-requires
-is-unknown-requires c κs = search needs
-
-unused-set-requires : tie.Need-unused-set-requires
-unused-set-requires c κs = search needs
-
-operand-late-requires : tie.Need-operand-late-requires
-operand-late-requires c κs = search needs
-
-pick-requires : tie.Need-pick-requires
-pick-requires c κs = search needs
-
-pick-requires-2 : tie.Need-pick-requires-2
-pick-requires-2 c κs = search needs
+node-fits-requires : tie.Need-node-fits-requires
+node-fits-requires c κs = search end-laws
 
 returns : tie.Need-returns
-returns c = search (needs, node-tested)
+returns c = search end-laws
+
+first-refusal-requires : tie.Need-first-refusal-requires
+first-refusal-requires c κs = search end-laws
+
+returns-2 : tie.Need-returns-2
+returns-2 c = search end-laws
 
 pub node-refusal-spec : {M : Type 1} → statement M
 node-refusal-spec =
-    tie.close
-    (tie.spec
-    is-atom-requires
-    cast-high
-    is-rewritten-requires
-    is-unknown-requires
-    unused-set-requires
-    operand-late-requires
-    pick-requires
-    pick-requires-2
-    returns)
+    tie.close (tie.spec node-fits-requires returns first-refusal-requires returns-2)

@@ -1,0 +1,10 @@
+-- `traces::held::held_table` meets its contract.
+use Rattle.traces.proofs.HeldLaws.{held-laws}
+use Rattle.traces.proofs.held.held_table.Statement.{statement}
+use Rattle.traces.proofs.held.held_table.Tie as tie
+
+returns : tie.Need-returns
+returns c = search held-laws
+
+pub held-table-spec : {M : Type 1} → statement M
+held-table-spec = tie.close (tie.spec returns)
