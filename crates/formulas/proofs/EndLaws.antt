@@ -1,10 +1,10 @@
 -- A node whose operands are before their ends is refused by nothing.
 use mathlib.Core.Bool.{Bool, true, false, true≢false, _&&_, _||_}
 use mathlib.Core.Path.{_≡_, refl, sym, _∙_}
-use Prim.Native.Nat.{ℕ, _<_, _≤_}
+use Prim.Native.Nat.{ℕ, _<_}
 use native.Mathlib.Omega.{arith}
 use borrow.Author.Needs.{needs}
-use borrow.Author.Tests.{ne-eqb, eq-eqb, lt-ltb, le-ltb, lt-leb, le-leb, ltb-true}
+use borrow.Author.Tests.{ne-eqb, eq-eqb, lt-ltb, le-ltb, lt-leb, ltb-true}
 use lib.Dec.{eqb, ltb, leb}
 use Rattle.definitions.specs.Limits.{atomCount, accepted}
 use Rattle.definitions.specs.Bounded.{pick}

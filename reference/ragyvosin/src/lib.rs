@@ -73,13 +73,7 @@ pub fn read_rule(text: &[u8], nodes: &mut [u32]) -> (u8, [usize; 2]) {
     let mut values = [usize::MAX; 2];
     // SAFETY: each pointer comes with the length of its slice, and the library has no precondition.
     let number = unsafe {
-        sys::rgv_read_rule(
-            text.as_ptr(),
-            text.len(),
-            nodes.as_mut_ptr(),
-            nodes.len(),
-            &mut values,
-        )
+        sys::rgv_read_rule(text.as_ptr(), text.len(), nodes.as_mut_ptr(), nodes.len(), &mut values)
     };
     (number, values)
 }
@@ -161,6 +155,7 @@ pub fn read_joint<'a>(
         )
     };
     let [controller, count, controllers, states_count, text, start, length] = values;
+    assert!(text < 2, "there are two texts");
     let of_rule = text == 0;
     let whole = if of_rule { rule } else { recording };
     Joint {

@@ -1,0 +1,5 @@
+pub mod SplitLaws
+pub mod ReportLaws
+pub mod TableLaws
+pub mod RecordingAccepted
+pub mod OutputLaws

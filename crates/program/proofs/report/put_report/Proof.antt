@@ -1,0 +1,41 @@
+-- `program::report::put_report` meets its contract.
+use Rattle.program.proofs.ReportLaws.{report-laws}
+use Rattle.program.proofs.report.put_report.Statement.{statement}
+use Rattle.program.proofs.report.put_report.Tie as tie
+
+put-local-requires : tie.Need-put-local-requires
+put-local-requires c κs = search report-laws
+
+put-own-requires : tie.Need-put-own-requires
+put-own-requires c κs = search report-laws
+
+slice-aggregate-put-rewritten : tie.Need-slice-aggregate-put-rewritten
+slice-aggregate-put-rewritten c = search report-laws
+
+put-rewritten-requires : tie.Need-put-rewritten-requires
+put-rewritten-requires c κs = search report-laws
+
+slice-aggregate-put-rewritten-2 : tie.Need-slice-aggregate-put-rewritten-2
+slice-aggregate-put-rewritten-2 c = search report-laws
+
+put-rewritten-requires-2 : tie.Need-put-rewritten-requires-2
+put-rewritten-requires-2 c κs = search report-laws
+
+same-length : tie.Need-same-length
+same-length c = search report-laws
+
+returns : tie.Need-returns
+returns c = search report-laws
+
+pub put-report-spec : {M : Type 1} → statement M
+put-report-spec =
+    tie.close
+    (tie.spec
+    put-local-requires
+    put-own-requires
+    slice-aggregate-put-rewritten
+    put-rewritten-requires
+    slice-aggregate-put-rewritten-2
+    put-rewritten-requires-2
+    same-length
+    returns)

@@ -1,0 +1,71 @@
+-- `program::split::rule_length` meets its contract.
+use Prim.Native.Nat.{_-_}
+use lib.ListN.{length}
+use Rattle.program.proofs.SplitLaws.{Searched, search-laws}
+use Rattle.program.proofs.split.rule_length.Statement.{statement}
+use Rattle.program.proofs.split.rule_length.Tie as tie
+
+abbrev Inv-loop : tie.InvT-loop
+Inv-loop input at₀ at = Searched input at
+
+abbrev μ-loop : tie.MeasureT-loop
+μ-loop input at₀ at = length input - at
+
+loop-holds : tie.Need-loop-holds Inv-loop μ-loop
+loop-holds c = search search-laws
+
+sub-until-byte : tie.Need-sub-until-byte Inv-loop μ-loop
+sub-until-byte c = search search-laws
+
+part-until-byte-start : tie.Need-part-until-byte-start Inv-loop μ-loop
+part-until-byte-start c = search search-laws
+
+part-until-byte-end : tie.Need-part-until-byte-end Inv-loop μ-loop
+part-until-byte-end c = search search-laws
+
+until-byte-requires : tie.Need-until-byte-requires Inv-loop μ-loop
+until-byte-requires c κs = search search-laws
+
+add-end : tie.Need-add-end Inv-loop μ-loop
+add-end c = search search-laws
+
+returns : tie.Need-returns Inv-loop μ-loop
+returns c = search search-laws
+
+is-split-requires : tie.Need-is-split-requires Inv-loop μ-loop
+is-split-requires c κs = search search-laws
+
+returns-2 : tie.Need-returns-2 Inv-loop μ-loop
+returns-2 c = search search-laws
+
+add-at : tie.Need-add-at Inv-loop μ-loop
+add-at c = search search-laws
+
+loop-less : tie.Need-loop-less Inv-loop μ-loop
+loop-less c = search search-laws
+
+loop-again : tie.Need-loop-again Inv-loop μ-loop
+loop-again c = search search-laws
+
+returns-3 : tie.Need-returns-3 Inv-loop μ-loop
+returns-3 c = search search-laws
+
+pub rule-length-spec : {M : Type 1} → statement M
+rule-length-spec =
+    tie.close
+    (tie.spec
+    Inv-loop
+    μ-loop
+    loop-holds
+    sub-until-byte
+    part-until-byte-start
+    part-until-byte-end
+    until-byte-requires
+    add-end
+    returns
+    is-split-requires
+    returns-2
+    add-at
+    loop-less
+    loop-again
+    returns-3)

@@ -1,0 +1,4 @@
+pub mod Splitting
+pub mod Reporting
+pub mod Judged
+pub mod Output

@@ -1,0 +1,145 @@
+//! Inputs of exact sizes, drawn from the generators of the reference model.
+
+use ragyvosin::{Recording, Rule, Table};
+use reference::generate::formulas::{self, JudgeTable, RuleTable};
+use reference::generate::random::Random;
+use reference::generate::texts;
+use reference::generate::traces::{self, RecordingTable};
+use reference::model::limits;
+
+/// Steps the source on until the sizes that it gives next are the largest, so
+/// that what a generator draws first comes out at full size.
+fn seek(random: &mut Random, largest: &[usize]) {
+    let full = |mut ahead: Random| largest.iter().all(|most| ahead.size(1, *most) == *most);
+    while !full(random.clone()) {
+        random.bits();
+    }
+}
+
+/// A recording of all eight controllers.
+fn recording(random: &mut Random, states: usize) -> RecordingTable {
+    seek(random, &[limits::CONTROLLERS, states]);
+    let recording = traces::recording(random, limits::CONTROLLERS, states);
+    assert!(recording.controllers == limits::CONTROLLERS && recording.length == states);
+    recording
+}
+
+/// A rule of so many nodes.
+fn rule(random: &mut Random, controller: usize, nodes: usize) -> RuleTable {
+    seek(random, &[nodes]);
+    let rule = formulas::rule_for(random, controller, nodes);
+    assert_eq!(rule.count, nodes);
+    rule
+}
+
+/// A table of so many nodes of all ten kinds.
+fn table(random: &mut Random, nodes: usize) -> JudgeTable {
+    seek(random, &[nodes]);
+    let table = formulas::table(random, nodes);
+    assert_eq!(table.count, nodes);
+    table
+}
+
+/// The controller that runs most often: its local trace is the longest.
+fn busiest(recording: &RecordingTable) -> usize {
+    let runs =
+        |c: &usize| recording.states.iter().filter(|word| *word >> (32 + c) & 1 == 1).count();
+    (0..recording.controllers).max_by_key(runs).expect("there are controllers")
+}
+
+/// A rule and a recording that has its controller, as tables and as texts.
+pub struct RuleInput {
+    rule: RuleTable,
+    recording: RecordingTable,
+    pub rule_text: Vec<u8>,
+    pub recording_text: Vec<u8>,
+}
+
+impl RuleInput {
+    fn of(rule: RuleTable, recording: RecordingTable) -> RuleInput {
+        let (rule_text, recording_text) =
+            (texts::rule_text(&rule), texts::recording_text(&recording));
+        RuleInput { rule, recording, rule_text, recording_text }
+    }
+
+    /// An accepted input of exactly this size.
+    pub fn exact(random: &mut Random, nodes: usize, states: usize) -> RuleInput {
+        let recording = recording(random, states);
+        let rule = rule(random, busiest(&recording), nodes);
+        RuleInput::of(rule, recording)
+    }
+
+    /// Any input, accepted or refused.
+    pub fn any(random: &mut Random) -> RuleInput {
+        let rule = formulas::any_rule(random, limits::RULE_NODES);
+        let recording = traces::any_recording(random, limits::CONTROLLERS, limits::STATES);
+        let mut input = RuleInput::of(rule, recording);
+        (input.rule_text, input.recording_text) = texts::any_pair(random);
+        input
+    }
+
+    pub fn rule(&self) -> Rule<'_> {
+        let RuleTable { controller, count, nodes } = &self.rule;
+        Rule { controller: *controller, count: *count, nodes }
+    }
+
+    pub fn recording(&self) -> Recording<'_> {
+        as_recording(&self.recording)
+    }
+
+    pub fn controller(&self) -> usize {
+        self.rule.controller
+    }
+
+    /// The own atoms of the rule's controller; any word if it has no mask.
+    pub fn mask(&self) -> u32 {
+        self.recording.masks.get(self.rule.controller).copied().unwrap_or(0x5555_5555)
+    }
+}
+
+/// A table for the whole judge, a recording and a controller.
+pub struct TableInput {
+    table: JudgeTable,
+    recording: RecordingTable,
+    pub c: usize,
+}
+
+impl TableInput {
+    /// An accepted table of all ten kinds and of exactly this size.
+    pub fn exact(random: &mut Random, nodes: usize, states: usize) -> TableInput {
+        let recording = recording(random, states);
+        let table = table(random, nodes);
+        TableInput { table, c: busiest(&recording), recording }
+    }
+
+    /// The plain rewriting of a rule of exactly this size.
+    pub fn rewritten(random: &mut Random, nodes: usize, states: usize) -> TableInput {
+        let input = RuleInput::exact(random, nodes, states);
+        let mut nodes = vec![0; limits::TABLE_NODES];
+        let (_, [count, weak_top, strong_top]) =
+            ragyvosin::rewrite(false, input.rule(), input.mask(), &mut nodes);
+        let table = JudgeTable { count, nodes, weak_top, strong_top };
+        TableInput { table, c: input.controller(), recording: input.recording }
+    }
+
+    /// Any input, accepted or refused.
+    pub fn any(random: &mut Random) -> TableInput {
+        let table = formulas::any_table(random, limits::TABLE_NODES);
+        let recording = traces::any_recording(random, limits::CONTROLLERS, limits::STATES);
+        TableInput { table, recording, c: random.below(limits::CONTROLLERS) }
+    }
+
+    pub fn table(&self) -> Table<'_> {
+        let JudgeTable { count, nodes, weak_top, strong_top } = &self.table;
+        Table { count: *count, nodes, weak_top: *weak_top, strong_top: *strong_top }
+    }
+
+    pub fn recording(&self) -> Recording<'_> {
+        as_recording(&self.recording)
+    }
+}
+
+fn as_recording(recording: &RecordingTable) -> Recording<'_> {
+    let RecordingTable { controllers, length, masks, states } = recording;
+    Recording { controllers: *controllers, count: *length, masks, states }
+}

@@ -1,0 +1,99 @@
+//! One worker's comparisons: the library's outcome against the model's.
+
+use std::panic::{catch_unwind, AssertUnwindSafe};
+
+use reference::model::refusal::LENT_SPACE;
+
+use crate::difference::Difference;
+use crate::expected;
+use crate::input::{Input, GUARD};
+use crate::library;
+use crate::outcome::Outcome;
+use crate::tally::{Operation, Section, Tally};
+use crate::wrong::{Place, WrongAnswer};
+
+/// What a worker compares with and counts into.
+pub struct Check<'a> {
+    section: Section,
+    wrong: &'a WrongAnswer,
+    /// What was compared so far.
+    pub tally: Tally,
+}
+
+impl<'a> Check<'a> {
+    /// A worker of a section.
+    pub fn new(section: Section, wrong: &'a WrongAnswer) -> Check<'a> {
+        Check { section, wrong, tally: Tally::default() }
+    }
+
+    /// Is this the place of the wrong answer? Yes at most once in a run.
+    pub fn wrong(&self, operation: Operation, place: Place) -> bool {
+        self.wrong.take(self.section, operation, place)
+    }
+
+    /// Counts inputs of an operation and the entries compared for them.
+    pub fn count(&mut self, operation: Operation, inputs: u64, entries: u64) {
+        self.tally.add(self.section, operation, inputs, entries);
+    }
+
+    /// Compares the library with the model on an input.
+    pub fn compare(&mut self, input: &Input) -> Result<Outcome, Difference> {
+        let mut expected = expected::of(input);
+        if self.wrong.pending() {
+            self.alter(input, &mut expected);
+        }
+        // The wrapper panics where a part isn't within its text.
+        let found = catch_unwind(AssertUnwindSafe(|| library::of(input)));
+        let panicked = |_| Difference::new("a panic".to_string(), input.to_string());
+        let found = found.map_err(panicked)?;
+        self.count(input.operation(), 1, found.entries());
+        expected.require(input, &found)?;
+        self.tally.met(input.operation(), found.number);
+        Ok(found)
+    }
+
+    /// Alters an expected outcome if the wrong answer belongs here.
+    fn alter(&self, input: &Input, expected: &mut Outcome) {
+        let operation = input.operation();
+        let refused = expected.number != 0;
+        if refused && self.wrong(operation, Place::Number) {
+            expected.number = expected.number % LENT_SPACE + 1;
+        }
+        if !refused && self.wrong(operation, Place::Value) {
+            expected.values[0] ^= 1;
+        }
+        if refused && operation == Operation::ReadJoint && self.wrong(operation, Place::Line) {
+            expected.values[5] += 1;
+        }
+        for (number, slice) in input.slices().iter().enumerate() {
+            let length = slice.lent.length;
+            let place = self.altered_entry(operation, expected, number, slice.full, length);
+            if let Some(at) = place {
+                expected.lent[number][GUARD + at] ^= 1;
+            }
+        }
+    }
+
+    /// The lent entry to alter in a slice, if the wrong answer is of it.
+    fn altered_entry(
+        &self,
+        operation: Operation,
+        expected: &Outcome,
+        slice: usize,
+        full: usize,
+        length: usize,
+    ) -> Option<usize> {
+        let accepted = expected.number == 0;
+        let untouched = expected.number == LENT_SPACE;
+        let unused = accepted && expected.slice(slice)[full - 1] == 0;
+        let places = [
+            (Place::Content, accepted, 0),
+            (Place::Unused, unused, full - 1),
+            (Place::Zero, !accepted && !untouched, full / 2),
+            (Place::Untouched, untouched && length > 0, length / 2),
+            (Place::Beyond, !untouched && length > full, full),
+        ];
+        let mut fitting = places.iter().filter(|(_, fits, _)| *fits);
+        fitting.find(|(place, _, _)| self.wrong(operation, *place)).map(|(_, _, at)| *at)
+    }
+}

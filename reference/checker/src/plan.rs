@@ -1,0 +1,108 @@
+//! How much a run compares.
+
+use reference::generate::random::Random;
+
+use crate::tally::Section;
+
+/// The sizes of a run.
+#[derive(Clone, Debug)]
+pub struct Plan {
+    /// What all random inputs depend on.
+    pub seed: u64,
+    /// Batches of random inputs of all operations.
+    pub random_batches: usize,
+    /// Texts for each kind of damage.
+    pub damaged_texts: usize,
+    /// From one lent length to the next.
+    pub lent_step: usize,
+    /// Runs of the program on random inputs.
+    pub program_runs: usize,
+    /// All small rules on all small recordings.
+    pub small: SmallPlan,
+}
+
+/// The sizes of the small rules and recordings.
+#[derive(Clone, Debug)]
+pub struct SmallPlan {
+    /// Rules of at most so many nodes meet every view of the recordings.
+    pub nodes: usize,
+    /// Recordings have at most so many states.
+    pub states: usize,
+    /// Rules of at most so many nodes meet every recording.
+    pub every_recording_nodes: usize,
+    /// Rules of up to `nodes` meet every recording of so many states.
+    pub every_recording_states: usize,
+    /// On how many views each rule of one node more is judged.
+    pub larger_views: usize,
+    /// Rules of one node more are judged on every view of so many states.
+    pub larger_states: usize,
+    /// Other schedules of each local trace, of up to 128 states.
+    pub schedules: usize,
+}
+
+impl Plan {
+    /// What a run compares by default.
+    pub fn ordinary(seed: u64) -> Plan {
+        Plan {
+            seed,
+            random_batches: 800,
+            damaged_texts: 1000,
+            lent_step: 1,
+            program_runs: 3000,
+            small: SmallPlan {
+                nodes: 3,
+                states: 4,
+                every_recording_nodes: 2,
+                every_recording_states: 3,
+                larger_views: 16,
+                larger_states: 0,
+                schedules: 2,
+            },
+        }
+    }
+
+    /// The longer run: every rule of 3 nodes on every recording.
+    pub fn long(seed: u64) -> Plan {
+        let ordinary = Plan::ordinary(seed);
+        Plan {
+            random_batches: 8000,
+            damaged_texts: 10_000,
+            program_runs: 30_000,
+            small: SmallPlan {
+                every_recording_nodes: 3,
+                every_recording_states: 4,
+                larger_views: 64,
+                larger_states: 3,
+                schedules: 8,
+                ..ordinary.small
+            },
+            ..ordinary
+        }
+    }
+
+    /// Just enough to meet every wrong answer.
+    pub fn probe(seed: u64) -> Plan {
+        Plan {
+            seed,
+            random_batches: 2,
+            damaged_texts: 1,
+            lent_step: 61,
+            program_runs: 2,
+            small: SmallPlan {
+                nodes: 1,
+                states: 2,
+                every_recording_nodes: 1,
+                every_recording_states: 2,
+                larger_views: 1,
+                larger_states: 0,
+                schedules: 1,
+            },
+        }
+    }
+
+    /// The source of random numbers for a job of a section.
+    pub fn random(&self, section: Section, job: usize) -> Random {
+        let section = (section as u64 + 1) << 40;
+        Random::new(self.seed.wrapping_mul(0x5851_f42d_4c95_7f2d) ^ section ^ job as u64)
+    }
+}

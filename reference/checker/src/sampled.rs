@@ -1,0 +1,156 @@
+//! Random inputs up to every limit: texts, rules of up to 64 nodes, recordings
+//! of up to 128 states and 8 controllers, judge's tables of up to 1,024 nodes,
+//! valid and damaged, and other schedules of the same local trace.
+
+use reference::generate::formulas::{self, RuleTable};
+use reference::generate::random::Random;
+use reference::generate::texts;
+use reference::generate::traces::{self, RecordingTable};
+use reference::model::limits::{CONTROLLERS, RULE_NODES, STATES, TABLE_NODES};
+
+use crate::check::Check;
+use crate::difference::Difference;
+use crate::input::Input;
+use crate::plan::Plan;
+use crate::tally::{Operation, Section};
+use crate::work::Job;
+use crate::wrong::Place;
+
+/// A controller of a recording, or now and then one that it doesn't have.
+fn controller(random: &mut Random, recording: &RecordingTable) -> usize {
+    let controllers = recording.controllers.clamp(1, CONTROLLERS);
+    if random.once_in(8) {
+        random.beyond(controllers)
+    } else {
+        random.below(controllers)
+    }
+}
+
+/// A mask of own atoms: none, all, or any.
+fn mask(random: &mut Random) -> u32 {
+    let any = [random.word(), random.word() & random.word()];
+    random.pick(&[0, u32::MAX, 3, any[0], any[0], any[1]])
+}
+
+/// A rule and a recording that can mostly be judged together.
+fn rule_and_recording(random: &mut Random) -> (RuleTable, RecordingTable) {
+    let recording = match random.below(3) {
+        0 => traces::any_recording(random, CONTROLLERS, STATES),
+        _ => traces::recording(random, CONTROLLERS, STATES),
+    };
+    let controllers = recording.controllers.clamp(1, CONTROLLERS);
+    let rule = match random.below(3) {
+        0 => formulas::any_rule(random, RULE_NODES),
+        _ => {
+            let controller = random.below(controllers);
+            formulas::rule_for(random, controller, RULE_NODES)
+        }
+    };
+    (rule, recording)
+}
+
+/// A random input of a text operation or an operation on rules.
+fn input(random: &mut Random, operation: Operation) -> Input {
+    match operation {
+        Operation::ReadRule => Input::read_rule(texts::any_rule_text(random, RULE_NODES)),
+        Operation::WriteRule => Input::write_rule(formulas::any_rule(random, RULE_NODES)),
+        Operation::ReadRecording => {
+            Input::read_recording(texts::any_recording_text(random, CONTROLLERS, STATES))
+        }
+        Operation::ReadJoint => {
+            let (rule, recording) = texts::any_pair(random);
+            Input::read_joint(rule, recording)
+        }
+        Operation::Project => {
+            let recording = traces::any_recording(random, CONTROLLERS, STATES);
+            let controller = controller(random, &recording);
+            Input::project(recording, controller)
+        }
+        Operation::JudgeLocal => {
+            let (rule, recording) = rule_and_recording(random);
+            Input::JudgeLocal { rule, recording }
+        }
+        Operation::JudgeRecording => whole_input(random),
+        _ => {
+            let short = operation == Operation::RewriteShort;
+            Input::rewrite(short, formulas::any_rule(random, RULE_NODES), mask(random))
+        }
+    }
+}
+
+/// A table and a recording for the whole judge; one of the two is damaged now
+/// and then, or both are.
+fn whole_input(random: &mut Random) -> Input {
+    let table = match random.below(3) {
+        0 => formulas::any_table(random, TABLE_NODES),
+        _ => formulas::table(random, TABLE_NODES),
+    };
+    let recording = match random.below(4) {
+        0 => traces::any_recording(random, CONTROLLERS, STATES),
+        _ => traces::recording(random, CONTROLLERS, STATES),
+    };
+    let controller = controller(random, &recording);
+    Input::judge_recording(table, recording, controller)
+}
+
+/// The verdicts of a rule on a recording: local, plain and short, each
+/// compared with the model's.
+fn verdicts(
+    check: &mut Check,
+    rule: &RuleTable,
+    recording: &RecordingTable,
+) -> Result<[Vec<usize>; 3], Difference> {
+    let local = Input::JudgeLocal { rule: rule.clone(), recording: recording.clone() };
+    let local = check.compare(&local)?.values;
+    let mut whole = |short| {
+        let mask = recording.masks[rule.controller];
+        let rewritten = check.compare(&Input::rewrite(short, rule.clone(), mask))?;
+        let table = rewritten.rewritten_table();
+        let input = Input::judge_recording(table, recording.clone(), rule.controller);
+        Ok(check.compare(&input)?.values)
+    };
+    Ok([local, whole(false)?, whole(true)?])
+}
+
+/// Demand 3: a rule on two recordings of one local trace, six verdicts that
+/// are one.
+fn schedules(check: &mut Check, random: &mut Random) -> Result<(), Difference> {
+    let one = traces::recording(random, CONTROLLERS, STATES);
+    let controller = random.below(one.controllers);
+    let other = traces::rescheduled(random, &one, controller);
+    let rule = formulas::rule_for(random, controller, RULE_NODES);
+    let mut expected = verdicts(check, &rule, &one)?;
+    let found = verdicts(check, &rule, &other)?;
+    if check.wrong(Operation::Schedules, Place::Value) {
+        expected[0][0] ^= 1;
+    }
+    check.count(Operation::Schedules, 1, 0);
+    let all: Vec<&Vec<usize>> = expected.iter().chain(&found).collect();
+    if all.iter().any(|verdict| *verdict != all[0]) {
+        let place = format!("verdicts of one local trace: {expected:?} and {found:?}");
+        return Err(Difference::new(place, format!("{rule:?}, {one:?}, {other:?}")));
+    }
+    Ok(())
+}
+
+/// One batch of inputs of all operations.
+fn batch(check: &mut Check, plan: &Plan, number: usize) -> Result<(), Difference> {
+    let mut random = plan.random(Section::Random, number);
+    for operation in Operation::NINE {
+        let inputs = if operation == Operation::JudgeRecording { 12 } else { 50 };
+        for _ in 0..inputs {
+            let input = input(&mut random, operation).lent_anew(&mut random);
+            check.compare(&input)?;
+        }
+    }
+    for _ in 0..4 {
+        schedules(check, &mut random)?;
+    }
+    Ok(())
+}
+
+/// All batches.
+pub fn jobs(plan: &Plan) -> Vec<Job<'_>> {
+    let job = |number| -> Job { Box::new(move |check| batch(check, plan, number)) };
+    (0..plan.random_batches).map(job).collect()
+}

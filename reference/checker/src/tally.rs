@@ -1,0 +1,211 @@
+//! How many answers and how many lent entries were compared, of each kind.
+
+use std::collections::BTreeMap;
+use std::fmt;
+
+/// The parts of a run, in their order.
+#[derive(Clone, Copy, PartialEq, Eq, PartialOrd, Ord, Debug)]
+pub enum Section {
+    /// The trials of document 01, against the numbers that it names.
+    Trials,
+    /// Texts: round trips and every kind of damage.
+    Texts,
+    /// Lent space of every length.
+    Lent,
+    /// Random inputs up to every limit.
+    Random,
+    /// The program, through its standard input.
+    Program,
+    /// All small rules on all small recordings.
+    Small,
+}
+
+impl Section {
+    /// Every section, in order.
+    pub const ALL: [Section; 6] = [
+        Section::Trials,
+        Section::Texts,
+        Section::Lent,
+        Section::Random,
+        Section::Program,
+        Section::Small,
+    ];
+
+    /// The name that is printed and that `--only` takes.
+    pub fn name(self) -> &'static str {
+        match self {
+            Section::Trials => "trials",
+            Section::Texts => "texts",
+            Section::Lent => "lent",
+            Section::Random => "random",
+            Section::Program => "program",
+            Section::Small => "small",
+        }
+    }
+}
+
+/// What is compared: the nine operations, two laws and the program.
+#[derive(Clone, Copy, PartialEq, Eq, PartialOrd, Ord, Debug)]
+pub enum Operation {
+    /// Reading a rule text.
+    ReadRule,
+    /// Writing a rule text.
+    WriteRule,
+    /// Reading a recording text.
+    ReadRecording,
+    /// The joint reading.
+    ReadJoint,
+    /// The local trace of a controller.
+    Project,
+    /// A rule on its local trace.
+    JudgeLocal,
+    /// The plain rewriting.
+    RewritePlain,
+    /// The short rewriting.
+    RewriteShort,
+    /// A table over the whole recording.
+    JudgeRecording,
+    /// An accepted text, read and written, is the same text.
+    RoundTrip,
+    /// Recordings of one local trace give one verdict (demand 3).
+    Schedules,
+    /// The program.
+    Program,
+}
+
+impl Operation {
+    /// The nine operations.
+    pub const NINE: [Operation; 9] = [
+        Operation::ReadRule,
+        Operation::WriteRule,
+        Operation::ReadRecording,
+        Operation::ReadJoint,
+        Operation::Project,
+        Operation::JudgeLocal,
+        Operation::RewritePlain,
+        Operation::RewriteShort,
+        Operation::JudgeRecording,
+    ];
+
+    /// The name that is printed.
+    pub fn name(self) -> &'static str {
+        match self {
+            Operation::ReadRule => "read_rule",
+            Operation::WriteRule => "write_rule",
+            Operation::ReadRecording => "read_recording",
+            Operation::ReadJoint => "read_joint",
+            Operation::Project => "project",
+            Operation::JudgeLocal => "judge_local",
+            Operation::RewritePlain => "rewrite_plain",
+            Operation::RewriteShort => "rewrite_short",
+            Operation::JudgeRecording => "judge_recording",
+            Operation::RoundTrip => "round_trip",
+            Operation::Schedules => "schedules",
+            Operation::Program => "judge",
+        }
+    }
+}
+
+/// What was compared of one kind.
+#[derive(Clone, Copy, Default, Debug)]
+pub struct Counts {
+    /// Inputs whose whole answer was compared.
+    pub inputs: u64,
+    /// Entries compared beside the answers' numbers and values: lent entries
+    /// with the guards around them, or bytes.
+    pub entries: u64,
+}
+
+/// How many refusal numbers there are, with 0 for accepted.
+const NUMBERS: usize = 15;
+
+/// What was compared of all kinds, and how often each number was answered.
+#[derive(Default, Debug)]
+pub struct Tally {
+    kinds: BTreeMap<(Section, Operation), Counts>,
+    numbers: BTreeMap<Operation, [u64; NUMBERS]>,
+}
+
+/// The numbers that each operation can answer; 12 is never met, since an
+/// accepted rule's table has at most 723 nodes.
+const ANSWERABLE: &[(Operation, &[usize])] = &[
+    (Operation::ReadRule, &[0, 1, 2, 3, 4, 13]),
+    (Operation::WriteRule, &[0, 2, 3, 4, 13]),
+    (Operation::ReadRecording, &[0, 5, 6, 7, 8, 9, 10, 13]),
+    (Operation::ReadJoint, &[0, 1, 2, 3, 4, 5, 6, 7, 8, 9, 10, 11, 13]),
+    (Operation::Project, &[0, 6, 7, 8, 9, 10, 11, 13]),
+    (Operation::JudgeLocal, &[0, 2, 3, 4, 6, 7, 8, 9, 10, 11]),
+    (Operation::RewritePlain, &[0, 2, 3, 4, 13]),
+    (Operation::RewriteShort, &[0, 2, 3, 4, 13]),
+    (Operation::JudgeRecording, &[0, 2, 3, 4, 6, 7, 8, 9, 10, 11, 13]),
+    (Operation::Program, &[0, 1, 2, 3, 4, 5, 6, 7, 8, 9, 10, 11, 14]),
+];
+
+impl Tally {
+    /// Counts inputs of a kind and the entries that were compared for them.
+    pub fn add(&mut self, section: Section, operation: Operation, inputs: u64, entries: u64) {
+        let counts = self.kinds.entry((section, operation)).or_default();
+        counts.inputs += inputs;
+        counts.entries += entries;
+    }
+
+    /// Counts an answer's number.
+    pub fn met(&mut self, operation: Operation, number: u8) {
+        self.numbers.entry(operation).or_default()[usize::from(number)] += 1;
+    }
+
+    /// Numbers that an operation can answer and that no input met.
+    pub fn unmet(&self) -> Vec<String> {
+        let mut unmet = Vec::new();
+        for (operation, numbers) in ANSWERABLE {
+            let met = self.numbers.get(operation).copied().unwrap_or_default();
+            let missed = numbers.iter().filter(|number| met[**number] == 0);
+            unmet.extend(missed.map(|number| format!("{} {number}", operation.name())));
+        }
+        unmet
+    }
+
+    /// One line per operation: each number that was met, and how often.
+    pub fn numbers(&self) -> String {
+        let mut lines = String::new();
+        for (operation, counts) in &self.numbers {
+            let met = counts.iter().enumerate().filter(|(_, count)| **count > 0);
+            let met: Vec<String> =
+                met.map(|(number, count)| format!("{number}: {count}")).collect();
+            lines.push_str(&format!("numbers  {:16} {}\n", operation.name(), met.join(", ")));
+        }
+        lines
+    }
+
+    /// Counts what another tally counted.
+    pub fn merge(&mut self, other: &Tally) {
+        for (operation, counts) in &other.numbers {
+            let sums = self.numbers.entry(*operation).or_default();
+            sums.iter_mut().zip(counts).for_each(|(sum, count)| *sum += count);
+        }
+        for ((section, operation), counts) in &other.kinds {
+            self.add(*section, *operation, counts.inputs, counts.entries);
+        }
+    }
+
+    /// The sums over all kinds.
+    pub fn total(&self) -> Counts {
+        let mut total = Counts::default();
+        for counts in self.kinds.values() {
+            total.inputs += counts.inputs;
+            total.entries += counts.entries;
+        }
+        total
+    }
+}
+
+impl fmt::Display for Tally {
+    /// One line per kind.
+    fn fmt(&self, out: &mut fmt::Formatter) -> fmt::Result {
+        for ((section, operation), Counts { inputs, entries }) in &self.kinds {
+            let (section, operation) = (section.name(), operation.name());
+            writeln!(out, "{section:8} {operation:16} {inputs:>12} inputs {entries:>16} entries")?;
+        }
+        Ok(())
+    }
+}

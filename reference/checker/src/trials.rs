@@ -1,0 +1,215 @@
+//! The trials of document 01, on the library, against the numbers and verdicts
+//! that the document names.
+
+use reference::generate::formulas::{JudgeTable, RuleTable};
+use reference::generate::texts::{recording_text, rule_text};
+use reference::generate::traces::RecordingTable;
+use reference::model::formula::{Node, ATOM, NEXT, NOT, OR, PREV, TRUE, UNTIL};
+
+use crate::check::Check;
+use crate::difference::Difference;
+use crate::input::Input;
+use crate::work::Job;
+use crate::wrong::Place;
+
+/// The kind and operands of a node.
+type Listed = (u32, usize, usize);
+
+/// A rule of controller 0 from kinds and operands.
+fn rule(nodes: &[Listed]) -> RuleTable {
+    let word = |&(kind, first, second): &Listed| Node { kind, first, second }.word();
+    RuleTable { controller: 0, count: nodes.len(), nodes: nodes.iter().map(word).collect() }
+}
+
+/// The rule of the program's example.
+pub fn example_rule() -> RuleTable {
+    let next = [(ATOM, 1, 0), (NOT, 0, 0), (ATOM, 0, 0), (NEXT, 2, 0), (OR, 1, 3)];
+    let always = [(NOT, 4, 0), (TRUE, 0, 0), (UNTIL, 6, 5), (NOT, 7, 0)];
+    rule(&[&next[..], &always].concat())
+}
+
+/// The recording R of the program's example.
+pub fn recording_r() -> RecordingTable {
+    let states = [(1, 2), (2, 3), (1, 1), (2, 0), (0, 2)];
+    let states = states.iter().map(|(runs, word)| (runs << 32) + word).collect();
+    RecordingTable { controllers: 2, length: 5, masks: vec![1, 2], states }
+}
+
+/// A recording of these words in which controller 0, the owner of atom 0,
+/// never runs. With the single word 0 it is Z.
+fn never_runs(words: &[u64]) -> RecordingTable {
+    RecordingTable { controllers: 1, length: words.len(), masks: vec![1], states: words.to_vec() }
+}
+
+/// Compares an outcome with the number and values that document 01 names.
+fn named(check: &mut Check, input: Input, number: u8, values: &[usize]) -> Result<(), Difference> {
+    let found = check.compare(&input)?;
+    let zeros = vec![0; found.values.len()];
+    let mut values = if number == 0 { values.to_vec() } else { zeros };
+    if check.wrong(input.operation(), Place::Named) {
+        values[0] ^= 1;
+    }
+    if found.number == number && found.values == values {
+        return Ok(());
+    }
+    let place = format!("the trial: named {number} {values:?}");
+    let place = format!("{place}, found {} {:?}", found.number, found.values);
+    Err(Difference::new(place, input.to_string()))
+}
+
+/// A rule's verdicts on its local trace and, rewritten, over the whole
+/// recording: all those that document 01 names.
+fn verdict(
+    check: &mut Check,
+    rule: &RuleTable,
+    recording: &RecordingTable,
+    verdict: [usize; 2],
+) -> Result<(), Difference> {
+    let local = Input::JudgeLocal { rule: rule.clone(), recording: recording.clone() };
+    named(check, local, 0, &verdict)?;
+    for short in [false, true] {
+        let mask = recording.masks[rule.controller];
+        let rewritten = check.compare(&Input::rewrite(short, rule.clone(), mask))?;
+        let table = rewritten.rewritten_table();
+        let whole = Input::judge_recording(table, recording.clone(), rule.controller);
+        named(check, whole, 0, &verdict)?;
+    }
+    Ok(())
+}
+
+/// The plain and the short node count of a rule.
+fn node_counts(
+    check: &mut Check,
+    rule: &RuleTable,
+    mask: u32,
+    counts: [usize; 2],
+) -> Result<(), Difference> {
+    for (short, count) in [(false, counts[0]), (true, counts[1])] {
+        let input = Input::rewrite(short, rule.clone(), mask);
+        let found = check.compare(&input)?;
+        if found.values[0] != count {
+            let place = format!("the trial: named {count} nodes, found {:?}", found.values);
+            return Err(Difference::new(place, input.to_string()));
+        }
+    }
+    Ok(())
+}
+
+/// The starred trials.
+fn starred(check: &mut Check) -> Result<(), Difference> {
+    let (r, z) = (recording_r(), never_runs(&[0]));
+    let next = rule(&[(ATOM, 1, 0), (NEXT, 0, 0)]);
+    verdict(check, &next, &r, [0, 0])?;
+    node_counts(check, &next, 1, [34, 34])?;
+    verdict(check, &rule(&[(TRUE, 0, 0), (PREV, 0, 0)]), &r, [0, 0])?;
+    verdict(check, &rule(&[(ATOM, 1, 0)]), &z, [1, 0])?;
+    verdict(check, &rule(&[(ATOM, 0, 0)]), &z, [0, 0])?;
+    verdict(check, &rule(&[(TRUE, 0, 0), (NEXT, 0, 0)]), &z, [1, 0])?;
+    named(check, Input::project(z, 0), 0, &[1])?;
+    node_counts(check, &rule(&[(TRUE, 0, 0)]), 1, [20, 12])?;
+    let until = rule(&[(ATOM, 0, 0), (ATOM, 1, 0), (UNTIL, 0, 1)]);
+    node_counts(check, &until, 3, [32, 19])?;
+    node_counts(check, &until, 0, [40, 32])?;
+    named(check, Input::read_rule(b"rule\t0\t1\nnot\t0\n".to_vec()), 3, &[])?;
+    let later_first = b"rule\t0\t3\natom\t0\natom\t1\nuntil\t1\t0\n".to_vec();
+    named(check, Input::read_rule(later_first), 0, &[0, 3])?;
+    verdict(check, &example_rule(), &r, [1, 0])?;
+    node_counts(check, &example_rule(), 1, [55, 43])
+}
+
+/// The node limit: 64 accepted, 65 refused with 2, as text and as tables.
+fn node_limit(check: &mut Check) -> Result<(), Difference> {
+    let trues = |count| RuleTable { controller: 7, count, nodes: vec![TRUE; count] };
+    let [plain, short] = [[83, 78, 82], [75, 74, 74]];
+    for (count, number) in [(64, 0), (65, 2)] {
+        let rule = trues(count);
+        named(check, Input::read_rule(rule_text(&rule)), number, &[7, 64])?;
+        named(check, Input::write_rule(rule.clone()), number, &[10 + 64 * 5])?;
+        named(check, Input::rewrite(false, rule.clone(), 0), number, &plain)?;
+        named(check, Input::rewrite(true, rule.clone(), 0), number, &short)?;
+        let (rule, recording) = (RuleTable { controller: 0, ..rule }, never_runs(&[0]));
+        named(check, Input::JudgeLocal { rule, recording }, number, &[1, 1])?;
+    }
+    Ok(())
+}
+
+/// The limits of the judge's table: 1,024 nodes, and tops below the count.
+fn table_limit(check: &mut Check) -> Result<(), Difference> {
+    let trials = [(1024, 0, 1023, 0), (1025, 0, 0, 2), (1024, 1024, 0, 2), (1024, 0, 1024, 2)];
+    for (count, weak_top, strong_top, number) in trials {
+        let table = JudgeTable { count, nodes: vec![TRUE; count], weak_top, strong_top };
+        named(check, Input::judge_recording(table, never_runs(&[0]), 0), number, &[1, 1])?;
+    }
+    Ok(())
+}
+
+/// The state limit: 128 accepted, 129 refused with 6, as text and as tables.
+fn state_limit(check: &mut Check) -> Result<(), Difference> {
+    for (length, number) in [(128, 0), (129, 6)] {
+        let recording = never_runs(&vec![0; length]);
+        named(check, Input::read_recording(recording_text(&recording)), number, &[1, 128])?;
+        named(check, Input::project(recording.clone(), 0), number, &[1])?;
+        let rule = rule(&[(TRUE, 0, 0)]);
+        let table = JudgeTable { count: 1, nodes: vec![TRUE], weak_top: 0, strong_top: 0 };
+        let local = Input::JudgeLocal { rule, recording: recording.clone() };
+        named(check, local, number, &[1, 1])?;
+        named(check, Input::judge_recording(table, recording, 0), number, &[1, 1])?;
+    }
+    Ok(())
+}
+
+/// The atom limit: 31 accepted, 32 refused with 2, as text and as tables.
+fn atom_limit(check: &mut Check) -> Result<(), Difference> {
+    for (atom, number) in [(31, 0), (32, 2)] {
+        let rule = rule(&[(ATOM, atom, 0)]);
+        named(check, Input::read_rule(rule_text(&rule)), number, &[0, 1])?;
+        named(check, Input::write_rule(rule.clone()), number, &[9 + 8])?;
+        let recording = never_runs(&[0]);
+        named(check, Input::JudgeLocal { rule, recording }, number, &[1, 0])?;
+    }
+    Ok(())
+}
+
+/// The empty rule text: 4, with the empty end of that text from the joint
+/// reading; and the example, which is accepted.
+fn joint_readings(check: &mut Check) -> Result<(), Difference> {
+    let recording = recording_text(&recording_r());
+    named(check, Input::read_rule(Vec::new()), 4, &[])?;
+    named(check, Input::read_joint(Vec::new(), recording.clone()), 4, &[])?;
+    let accepted = [0, 9, 2, 5, 1, recording.len(), 0];
+    named(check, Input::read_joint(rule_text(&example_rule()), recording), 0, &accepted)
+}
+
+/// The traps, each by a rule and a recording on which its victim answers
+/// another verdict.
+fn traps(check: &mut Check) -> Result<(), Difference> {
+    let atom = [(ATOM, 0, 0), (ATOM, 1, 0)];
+    let r = recording_r();
+    // Next or prev taken as the neighbouring recorded state.
+    verdict(check, &rule(&[atom[1], (NEXT, 0, 0)]), &r, [0, 0])?;
+    verdict(check, &rule(&[atom[0], (PREV, 0, 0), (NEXT, 1, 0)]), &r, [0, 0])?;
+    // Foreign atoms read at the last place, recorded there or not.
+    verdict(check, &rule(&[atom[1]]), &never_runs(&[0]), [1, 0])?;
+    verdict(check, &rule(&[atom[1]]), &never_runs(&[2, 0]), [1, 0])?;
+    // One reading kept under not.
+    verdict(check, &rule(&[atom[1], (NOT, 0, 0)]), &never_runs(&[0]), [1, 0])?;
+    // A *state* with no first state for a controller that never runs.
+    verdict(check, &rule(&[atom[0], (NOT, 0, 0)]), &never_runs(&[1, 1, 1]), [0, 0])?;
+    verdict(check, &rule(&[atom[0]]), &never_runs(&[1, 1, 1]), [1, 1])?;
+    // Short next without `end`.
+    verdict(check, &rule(&[atom[0], (NEXT, 0, 0)]), &never_runs(&[0, 0, 0]), [1, 0])?;
+    verdict(check, &rule(&[atom[0], (NEXT, 0, 0)]), &never_runs(&[1, 1, 1]), [1, 0])
+}
+
+/// All trials.
+pub fn jobs<'a>() -> Vec<Job<'a>> {
+    vec![
+        Box::new(starred),
+        Box::new(node_limit),
+        Box::new(table_limit),
+        Box::new(state_limit),
+        Box::new(atom_limit),
+        Box::new(joint_readings),
+        Box::new(traps),
+    ]
+}

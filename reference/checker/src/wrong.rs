@@ -1,0 +1,137 @@
+//! Wrong answers on purpose: an expected answer altered in one place, to show
+//! that the comparison there is real.
+
+use std::sync::atomic::{AtomicBool, Ordering};
+
+use crate::tally::{Operation, Section};
+
+/// The places of an expected answer that can be altered.
+#[derive(Clone, Copy, PartialEq, Eq, Debug)]
+pub enum Place {
+    /// The number of a refusal.
+    Number,
+    /// A value of an accepted answer: a count, a top, a verdict.
+    Value,
+    /// Where the refused line starts.
+    Line,
+    /// A lent entry that an accepted answer fills, or an output byte.
+    Content,
+    /// An unused entry after acceptance.
+    Unused,
+    /// An entry after a refusal that isn't 13.
+    Zero,
+    /// An entry after 13.
+    Untouched,
+    /// An entry lent past the full size.
+    Beyond,
+    /// The length of an output.
+    Length,
+    /// The number or a value that document 01 names in a trial.
+    Named,
+}
+
+impl Place {
+    /// The name that `--wrong` takes.
+    fn name(self) -> &'static str {
+        match self {
+            Place::Number => "number",
+            Place::Value => "value",
+            Place::Line => "line",
+            Place::Content => "content",
+            Place::Unused => "unused",
+            Place::Zero => "zero",
+            Place::Untouched => "untouched",
+            Place::Beyond => "beyond",
+            Place::Length => "length",
+            Place::Named => "named",
+        }
+    }
+}
+
+/// One wrong answer: in which section, of what, and where.
+#[derive(Clone, Copy, PartialEq, Eq, Debug)]
+pub struct Wrong {
+    /// The section that expects it.
+    pub section: Section,
+    /// The operation that is expected to answer it.
+    pub operation: Operation,
+    /// The altered place.
+    pub place: Place,
+}
+
+impl Wrong {
+    /// The name that `--wrong` takes.
+    pub fn name(&self) -> String {
+        let Wrong { section, operation, place } = self;
+        format!("{}.{}.{}", section.name(), operation.name(), place.name())
+    }
+
+    /// The wrong answer of a name.
+    pub fn named(name: &str) -> Option<Wrong> {
+        Wrong::all().into_iter().find(|wrong| wrong.name() == name)
+    }
+
+    /// Every wrong answer that the checker can expect.
+    pub fn all() -> Vec<Wrong> {
+        let mut all = Vec::new();
+        for (section, operation, places) in lists() {
+            all.extend(places.iter().map(|place| Wrong { section, operation, place: *place }));
+        }
+        all
+    }
+}
+
+/// The wrong answers by section and operation.
+fn lists() -> Vec<(Section, Operation, &'static [Place])> {
+    use Place::{Beyond, Content, Length, Line, Named, Number, Untouched, Unused, Value, Zero};
+    let mut lists: Vec<(Section, Operation, &[Place])> = Vec::new();
+    for operation in Operation::NINE {
+        lists.push((Section::Trials, operation, &[Named]));
+        lists.push((Section::Random, operation, &[Number, Value]));
+        if operation != Operation::JudgeLocal {
+            lists.push((Section::Random, operation, &[Content, Unused, Zero, Untouched, Beyond]));
+            lists.push((Section::Lent, operation, &[Number, Content, Zero, Untouched, Beyond]));
+        }
+    }
+    lists.extend([
+        (Section::Random, Operation::ReadJoint, &[Line][..]),
+        (Section::Random, Operation::Schedules, &[Value]),
+        (Section::Texts, Operation::ReadRule, &[Number, Value, Content]),
+        (Section::Texts, Operation::ReadRecording, &[Number, Value, Content]),
+        (Section::Texts, Operation::ReadJoint, &[Number, Value, Line]),
+        (Section::Texts, Operation::RoundTrip, &[Content]),
+        (Section::Program, Operation::Program, &[Named, Content, Length]),
+        (Section::Small, Operation::Project, &[Number, Value, Content]),
+        (Section::Small, Operation::RewritePlain, &[Value, Content]),
+        (Section::Small, Operation::RewriteShort, &[Value, Content]),
+        (Section::Small, Operation::JudgeLocal, &[Value]),
+        (Section::Small, Operation::JudgeRecording, &[Value, Content, Unused, Beyond]),
+        (Section::Small, Operation::Schedules, &[Value]),
+    ]);
+    lists
+}
+
+/// The wrong answer of a run, if it has one; it is expected once only.
+#[derive(Default, Debug)]
+pub struct WrongAnswer {
+    wrong: Option<Wrong>,
+    spent: AtomicBool,
+}
+
+impl WrongAnswer {
+    /// A run that expects this wrong answer, once.
+    pub fn new(wrong: Option<Wrong>) -> WrongAnswer {
+        WrongAnswer { wrong, spent: AtomicBool::new(false) }
+    }
+
+    /// Does the run have a wrong answer that is still to come?
+    pub fn pending(&self) -> bool {
+        self.wrong.is_some() && !self.spent.load(Ordering::Relaxed)
+    }
+
+    /// Is this the place to alter? Yes at most once.
+    pub fn take(&self, section: Section, operation: Operation, place: Place) -> bool {
+        self.wrong == Some(Wrong { section, operation, place })
+            && !self.spent.swap(true, Ordering::Relaxed)
+    }
+}
