@@ -21,7 +21,7 @@ use Rattle.rows.proofs.LentLaws.{loaded, pairs-length, weak-words, strong-words
 use Rattle.evaluation.specs.declared.pair.Pair.{Pair}
 use Rattle.evaluation.specs.Traced.{traceOf}
 use Rattle.evaluation.specs.Nodes.{isLeaf, slots, again, Fit, LeafReady, Evaluable, Ready, rowsTo, rowsAt}
-use Rattle.evaluation.specs.Pairs.{rowsIn, PairMade, Operable, operated, pairAt, pairOfNode, Operands, operandPlaces, operatorRows}
+use Rattle.evaluation.specs.Pairs.{rowsIn, PairMade, Counted, Operable, operated, pairAt, pairOfNode, Operands, operandPlaces, operatorRows}
 use Rattle.evaluation.proofs.KindLaws.{leaf-is}
 use Rattle.evaluation.proofs.TableLaws.{rows-more, rows-length, rows-sized, nodes-more, nodes-length, operated-is, leaf-rows, rows-at}
 
@@ -63,12 +63,19 @@ again-late nodes i j h = rw (le-ltb j i h)
 
 -- the operands of an operator, as they were loaded
 module _ (kind first second : ℕ) (rows : List ℕ) (p q : Pair) (e : p ≡ pairOfNode rows first) (g : q ≡ pairOfNode rows second) where
-  pub operands-even : Operands kind first second rows → Operable p q
-  operands-even o = rw (e, g) (o .laid)
+  pub first-counted : Operands kind first second rows → Counted (p .weak .count) p
+  first-counted o = record { weak = refl; strong = rw e (o .laid .firstEven) }
 
-  pub operator-rows : (r : Pair) → PairMade r (p .weak .count) (operated (kindOf kind) (p .weak .count) (rowsIn p) (rowsIn q))
-      → PairMade r (operandPlaces first rows) (operatorRows kind first second rows)
-  operator-rows r m = rw (e, g) at m
+  pub second-counted : Operands kind first second rows → Counted (p .weak .count) q
+  second-counted o = record { weak = rw (e, g) (o .laid .secondFirst); strong = rw (e, g) (o .laid .secondEven) }
+
+  module _ (p′ q′ : Pair) (f : p′ ≡ p) (h : q′ ≡ q) where
+    pub operands-even : Operands kind first second rows → Operable p′ q′
+    operands-even o = rw (f, h, e, g) (o .laid)
+
+    pub operator-rows : (r : Pair) → PairMade r (p′ .weak .count) (operated (kindOf kind) (p′ .weak .count) (rowsIn p′) (rowsIn q′))
+        → PairMade r (operandPlaces first rows) (operatorRows kind first second rows)
+    operator-rows r m = rw (f, h, e, g) at m
 
 module _ (nodes : List ℕ) (i : ℕ) (states : List ℕ) (n c own : ℕ) (rows : List ℕ) (ready : Ready nodes i states n c own rows) where
   abbrev before : List Rows
@@ -211,4 +218,4 @@ module _ (nodes : List ℕ) (count : ℕ) (states : List ℕ) (n c own : ℕ) (e
   evaluated-done h = let e : i ≡ count = omega (arith, so .within) in rw e at (so .laid)
 
 pub ruleset table-laws =
-    (needs, leaf-is, operands-even, operator-rows, leaf-ready, leaf-turn, again-tested, again-late, again-turn, again-room, operands-laid, operator-turn, turn-laid, evaluated-none, evaluated-length, evaluated-slots, evaluated-ready, evaluated-more, evaluated-done)
+    (needs, leaf-is, first-counted, second-counted, operands-even, operator-rows, leaf-ready, leaf-turn, again-tested, again-late, again-turn, again-room, operands-laid, operator-turn, turn-laid, evaluated-none, evaluated-length, evaluated-slots, evaluated-ready, evaluated-more, evaluated-done)

@@ -1,5 +1,5 @@
 -- One law for each return of the functions on pairs.
-use mathlib.Core.Path.{_≡_, refl, sym}
+use mathlib.Core.Path.{_≡_, refl, sym, ap, ap₂}
 use mathlib.Core.Bool.{true, false, not, _||_}
 use mathlib.Core.List.{List}
 use Prim.Native.Nat.{ℕ, _+_}
@@ -13,7 +13,7 @@ use Rattle.rows.specs.declared.row.Row.{Row}
 use Rattle.rows.proofs.RowLaws.{whole-made, not-on, or-on, next-on, until-on, prev-on, since-on}
 use Rattle.evaluation.specs.declared.pair.Pair.{Pair}
 use Rattle.evaluation.specs.Nodes.{isLeaf}
-use Rattle.evaluation.specs.Pairs.{rowsIn, PairMade, Operable, operated, pairAt}
+use Rattle.evaluation.specs.Pairs.{rowsIn, PairMade, Counted, Operable, operated, pairAt}
 use Rattle.evaluation.proofs.KindLaws.{kind-not, kind-or, kind-next, kind-until, kind-prev, kind-since}
 
 abbrev pub pairOf : Row → Row → Pair
@@ -22,6 +22,12 @@ pairOf w s = record { weak = w; strong = s }
 pub pair-at : (l : List ℕ) (at : ℕ) (w s : Row) → w ≡ rowAt l at → s ≡ rowAt l (at + 3) → pairOf w s ≡ pairAt l at
 unfolding pairAt
 pair-at l at w s e f = cc
+
+pub counted-pair : (n : ℕ) (p : Pair) → Counted n p → pairOf (record { words = p .weak .words; count = n }) (record { words = p .strong .words; count = n }) ≡ p
+counted-pair n p c =
+    let w : record { words = p .weak .words; count = n } ≡ p .weak = ap (λ (k : ℕ). record { words = p .weak .words; count = k }) (sym (c .weak)) in
+    let s : record { words = p .strong .words; count = n } ≡ p .strong = ap (λ (k : ℕ). record { words = p .strong .words; count = k }) (sym (c .strong)) in
+    ap₂ pairOf w s
 
 -- what operate has to show
 abbrev pub Operated : ℕ → Pair → Pair → Row → Row → Type 0
@@ -101,3 +107,5 @@ module _ (kind : ℕ) (p q : Pair) (w s : Row) (o : Operable p q) where
   })
 
 pub ruleset pair-laws = (needs, pair-at, not-pair, or-pair, next-pair, until-pair, prev-pair, since-pair)
+
+pub ruleset counted-laws = (needs, counted-pair)

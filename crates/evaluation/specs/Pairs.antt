@@ -22,6 +22,11 @@ pub record PairMade (p : Pair) (n : ℕ) (r : Rows) : Type 0 where
   pub weak : Made (p .weak) n (r .weak)
   pub strong : Made (p .strong) n (r .strong)
 
+-- both rows of a pair cover n places
+pub record Counted (n : ℕ) (p : Pair) : Type 0 where
+  pub weak : p .weak .count ≡ n
+  pub strong : p .strong .count ≡ n
+
 -- two pairs whose rows cover the same places
 pub record Operable (p q : Pair) : Type 0 where
   pub firstWeak : Whole (p .weak)

@@ -10,6 +10,7 @@ ghost use Rattle.evaluation.specs.Nodes.{isLeaf, slots, again, Ready, Ev
 ghost use Rattle.evaluation.specs.Pairs.{PairMade, pairOfNode, Operands, operandPlaces, operatorRows};
 use super::leaf::leaf;
 use super::pair::Pair;
+use super::pair::counted;
 use super::pair::load_pair;
 use super::pair::operate;
 use formulas::limits::Limits;
@@ -65,7 +66,9 @@ fn operator(kind: u8, first: usize, second: usize, rows: &[u64]) -> Pair
 {
     let p = pair_of_node(rows, first);
     let q = pair_of_node(rows, second);
-    operate(kind, p, q)
+    let weak = p.weak;
+    let n = weak.count;
+    operate(kind, counted(p, n), counted(q, n))
 }
 
 // Node i's two rows, from the rows of the nodes before it; a leaf that stood there before has its rows already.

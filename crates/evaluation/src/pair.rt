@@ -6,7 +6,7 @@ ghost use lib.ListN.{length};
 ghost use Rattle.definitions.specs.Limits.{pairWords};
 ghost use Rattle.definitions.specs.Nodes.{kindOf};
 ghost use Rattle.evaluation.specs.Nodes.{isLeaf};
-ghost use Rattle.evaluation.specs.Pairs.{rowsIn, PairMade, Operable, operated, pairAt};
+ghost use Rattle.evaluation.specs.Pairs.{rowsIn, PairMade, Counted, Operable, operated, pairAt};
 use formulas::node::Node;
 use rows::lent::load;
 use rows::row::Row;
@@ -28,6 +28,27 @@ pub fn load_pair(rows: &[u64], at: usize) -> Pair
     Pair {
         weak: load(rows, at),
         strong: load(rows, at + Pair::STRONG),
+    }
+}
+
+// The pair, its counts told to be n: the compiler then sees one count where there are two.
+pub fn counted(p: Pair, n: usize) -> Pair
+    requires { ⌜ Counted n p ⌝ }
+    ensures { λ r. ⌜ r ≡ p ⌝ }
+{
+    let weak = p.weak;
+    let strong = p.strong;
+    let weak_words = weak.words;
+    let strong_words = strong.words;
+    Pair {
+        weak: Row {
+            words: weak_words,
+            count: n,
+        },
+        strong: Row {
+            words: strong_words,
+            count: n,
+        },
     }
 }
 

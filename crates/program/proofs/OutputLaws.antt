@@ -27,8 +27,8 @@ use Rattle.lines.proofs.PartLaws.{part-to-end}
 use Rattle.formula_text.proofs.CallerLaws.{number-low}
 use Rattle.trace_text.proofs.RecordingNumbers.{scan-low}
 use Rattle.joint_text.specs.Joining.{ReadJoint}
-use Rattle.program.specs.Reporting.{reportText}
-use Rattle.program.specs.Judged.{maxOutputBytes, ReportIs}
+use Rattle.program.specs.Reporting.{maxOutputBytes, reportText}
+use Rattle.program.specs.Judged.{ReportIs}
 use Rattle.program.specs.Splitting.{SplitAt}
 use Rattle.program.specs.Output.{TextsRoom, Room, foundRule, foundRecording, Found, foundText, ProgramPrinted}
 use Rattle.program.specs.declared.report.Report.{Report}

@@ -7,7 +7,7 @@ use lib.Dec.{ltb}
 use lib.ListN.{length, take}
 use lib.Seq.{take-all}
 use borrow.Author.Tests.{le-ltb, ltb-true}
-use Rattle.definitions.specs.Limits.{accepted, recordingForm, recordingLines, noController}
+use Rattle.definitions.specs.Limits.{recordingForm, recordingLines, noController}
 use Rattle.definitions.specs.Bounded.{pick}
 use Rattle.definitions.specs.Recordings.{stateRefusal, recordingHeadingRefusal, maskRefusal, masksRefusal, statesRefusal, recordingLinesRefusal, recordingRefusal}
 use Rattle.definitions.specs.Lines.{lineOf, restOf, Parsed, formed, malformed, onParsed, Heading, nextRefusal, Scan}

@@ -40,8 +40,8 @@ use Rattle.judging.specs.Rewritten as judging
 use Rattle.judging.specs.Rewritten.{Judgeable, Judgements, rewrittenFor, numberOf}
 use Rattle.judging.specs.declared.rewritten.Judgement.{Judgement}
 use Rattle.judging.specs.declared.rewritten.Judgement.the-variants as judged
-use Rattle.program.specs.Reporting.{verdictsLine, ownLine, rewrittenLine, reportText}
-use Rattle.program.specs.Judged.{maxOutputBytes, Recorded, OwnIs, RewrittenIs, RewritingsAre, ReportIs}
+use Rattle.program.specs.Reporting.{maxOutputBytes, verdictsLine, ownLine, rewrittenLine, reportText}
+use Rattle.program.specs.Judged.{Recorded, OwnIs, RewrittenIs, RewritingsAre, ReportIs}
 use Rattle.program.specs.declared.report.Verdicts.{Verdicts}
 use Rattle.program.specs.declared.report.Rewritings.{Rewritings}
 

@@ -11,15 +11,11 @@ use Rattle.definitions.specs.Projection.{localTrace}
 use Rattle.definitions.specs.Readings.{local, whole, verdict}
 use Rattle.definitions.specs.Program.{judgedText}
 use Rattle.judging.specs.Rewritten.{rewrittenFor}
-use Rattle.program.specs.Reporting.{reportText}
+use Rattle.program.specs.Reporting.{maxOutputBytes, reportText}
 use Rattle.program.specs.declared.report.Report.{Report}
 use Rattle.program.specs.declared.report.Verdicts.{Verdicts}
 use Rattle.program.specs.declared.report.Rewritten.{Rewritten}
 use Rattle.program.specs.declared.report.Rewritings.{Rewritings}
-
--- the word `refused`, a number of two digits, two tabs, byte 10 and a line that is all of the longest input
-abbrev pub maxOutputBytes : ℕ
-maxOutputBytes = 16396
 
 -- an accepted recording that has the controller, and space for its places
 pub record Recorded (R : Recording) (c : ℕ) (places : List ℕ) : Type 0 where

@@ -1,10 +1,15 @@
 -- What is printed of values, line by line.
-use Prim.Native.Nat.{ℕ}
+use Prim.Native.Nat.{ℕ, _+_}
 use mathlib.Core.Bool.{Bool}
 use mathlib.Core.List.{List, [], _∷_, _++_}
+use Rattle.definitions.specs.Limits.{maxInputBytes}
 use Rattle.definitions.specs.Lines.{tab, newline, digits}
 use Rattle.definitions.specs.Program.{yesNo, ownWord, plainWord, shortWord, localText}
 use Rattle.program.specs.declared.report.Report.{Report}
+
+-- the longest output: the word `refused`, a number of two digits, two tabs, byte 10 and a line that is all of the longest input
+abbrev pub maxOutputBytes : ℕ
+maxOutputBytes = maxInputBytes + 12
 
 -- the line field that ends a refusal
 unfoldable pub lineField : List ℕ → List ℕ

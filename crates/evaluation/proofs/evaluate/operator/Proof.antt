@@ -8,6 +8,12 @@ pair-of-node-requires c κs = search table-laws
 pair-of-node-requires-2 : tie.Need-pair-of-node-requires-2
 pair-of-node-requires-2 c κs = search table-laws
 
+counted-requires : tie.Need-counted-requires
+counted-requires c κs = search table-laws
+
+counted-requires-2 : tie.Need-counted-requires-2
+counted-requires-2 c κs = search table-laws
+
 operate-requires : tie.Need-operate-requires
 operate-requires c κs = search table-laws
 
@@ -20,5 +26,7 @@ operator-spec =
     (tie.spec
     pair-of-node-requires
     pair-of-node-requires-2
+    counted-requires
+    counted-requires-2
     operate-requires
     returns)

@@ -1,4 +1,5 @@
 -- `program::judge::judge_read` meets its contract.
+use borrow.Author.Needs.{needs}
 use Rattle.program.proofs.OutputLaws.{read-laws, tables-found}
 use Rattle.program.proofs.judge.judge_read.Statement.{statement}
 use Rattle.program.proofs.judge.judge_read.Tie as tie
@@ -31,7 +32,10 @@ returns : tie.Need-returns
 returns c = search read-laws
 
 judge-found-requires : tie.Need-judge-found-requires
-judge-found-requires c κs = tables-found _ _ _ _ _ _ _ _ _ _ _ (c .before .before .before .before .before .before .before .before .before .before .before .before .read-joint .ensures) (c .before .before .before .before .before .before .before .before .before .before .before .before .before .before .before .before .before .before .before .before .before .before .before .pre) (c .before .before .before .before .before .if1 .left)
+judge-found-requires c κs =
+    tables-found _ _ _ _ _ _ _ _ _ _ _
+    (c .before .before .before .before .before .before .before .before .before .before .before .before .read-joint .ensures)
+    (search needs) (search needs)
 
 same-length-5 : tie.Need-same-length-5
 same-length-5 c = search read-laws
