@@ -1,4 +1,4 @@
--- Laws of writing fields, nodes, node lines and the first line: one for each call that wants room, and for each return.
+-- Laws of writing nodes, node lines and the first line: one for each call that wants room, and for each return.
 use mathlib.Core.Path.{_≡_, refl, ap, sym, _∙_}
 use mathlib.Core.Bool.{false}
 use mathlib.Core.List.{List, [], _∷_, _++_, append-assoc}
@@ -21,13 +21,6 @@ use Rattle.lines.proofs.PrintLaws.{printed-seq, printed-none}
 use Rattle.formulas.specs.Meaning.{meaning, OfWord}
 use Rattle.formulas.specs.declared.node.Node.{Node}
 use Rattle.formula_text.specs.Writing.{headingLine, headingSize}
-
--- ---- `put_field`
-pub field-written : (n : ℕ) (o o′ o″ : List ℕ) (at r q : ℕ) → at + length (tab ∷ digits n) ≤ length o → Printed (tab ∷ []) o at r o′ → Printed (digits n) o′ r q o″
-    → Printed (tab ∷ digits n) o at q o″
-field-written n o o′ o″ at r q h a b = printed-seq (tab ∷ []) (digits n) o o′ o″ at r q (omega arith) a b
-
-pub ruleset field-laws = (needs, field-written)
 
 -- ---- `put_node`
 module _ (k a b uses : ℕ) (us : uses ≡ operands (kindOf k)) where

@@ -1,8 +1,6 @@
 // The writer of a rule text.
-ghost use mathlib.Core.List.{_∷_};
 ghost use Prim.Native.Nat.{_+_, _≤_};
 ghost use lib.ListN.{length};
-ghost use Rattle.definitions.specs.Lines.{tab, digits};
 ghost use Rattle.definitions.specs.RuleText.{nodeText, nodesText};
 ghost use Rattle.lines.specs.Printing.{Printed};
 ghost use Rattle.formulas.specs.Meaning.{meaning};
@@ -22,15 +20,6 @@ pub enum RuleWritten {
     Refused(u8),
 }
 
-// A tab and the digits of `n`.
-fn put_field(n: u32, at: usize, text: &mut [u8]) -> usize
-    requires { ⌜ at + length (tab ∷ digits n) ≤ length (now text) ⌝ }
-    ensures { λ r. ⌜ Printed (tab ∷ digits n) (now (text .entry)) at r (now (text .exit)) ⌝ }
-{
-    let next = print::put_byte(scan::TAB, at, text);
-    print::print(n, next, text)
-}
-
 // The line of a node, without its end.
 fn put_node(n: Node, at: usize, text: &mut [u8]) -> usize
     requires { ⌜ at + length (nodeText (meaning n)) ≤ length (now text) ⌝ }
@@ -44,11 +33,11 @@ fn put_node(n: Node, at: usize, text: &mut [u8]) -> usize
     if uses == 0 {
         return after_kind;
     }
-    let after_first = put_field(first as u32, after_kind, text);
+    let after_first = print::put_field(first as u32, after_kind, text);
     if uses == 1 {
         return after_first;
     }
-    put_field(second as u32, after_first, text)
+    print::put_field(second as u32, after_first, text)
 }
 
 // The lines of the nodes.
@@ -73,8 +62,8 @@ fn put_heading(controller: u32, count: u32, text: &mut [u8]) -> usize
     ensures { λ r. ⌜ Printed (headingLine controller count) (now (text .entry)) 0 r (now (text .exit)) ⌝ }
 {
     let after_word = print::put(b"rule", 0, text);
-    let after_controller = put_field(controller, after_word, text);
-    let after_count = put_field(count, after_controller, text);
+    let after_controller = print::put_field(controller, after_word, text);
+    let after_count = print::put_field(count, after_controller, text);
     print::put_byte(scan::NEWLINE, after_count, text)
 }
 

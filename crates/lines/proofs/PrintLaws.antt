@@ -11,9 +11,8 @@ use mir.Syntax.{w64}
 use mir.Val.{Fits}
 use lib.Dec.{ltb}
 use borrow.Author.Needs.{needs}
-use borrow.Author.Tests.{lt-ltb, le-ltb, ltb-true, ltb-false}
-use Rattle.definitions.specs.Bounded.{pick}
-use Rattle.definitions.specs.Lines.{digits}
+use borrow.Author.Tests.{ltb-true, ltb-false}
+use Rattle.definitions.specs.Lines.{tab, digits}
 use Rattle.theorems.proofs.Choice.{by-test}
 use Rattle.theorems.proofs.DecimalLaws.{digits-small, digits-step}
 use Rattle.lines.specs.Printing.{laidAt, Printed}
@@ -143,3 +142,8 @@ printed-byte b o at h = record { next = refl; lies = laid-one at b o h }
 
 pub printed-none : (o : List ℕ) (at : ℕ) → Printed [] o at at o
 printed-none o at = record { next = omega arith; lies = sym (laid-none at o) }
+
+-- ---- `put_field`
+pub field-written : (n : ℕ) (o o′ o″ : List ℕ) (at r q : ℕ) → at + length (tab ∷ digits n) ≤ length o → Printed (tab ∷ []) o at r o′ → Printed (digits n) o′ r q o″
+    → Printed (tab ∷ digits n) o at q o″
+field-written n o o′ o″ at r q h a b = printed-seq (tab ∷ []) (digits n) o o′ o″ at r q (omega arith) a b

@@ -2,8 +2,9 @@
 ghost use Prim.Native.Nat.{_+_, _<_, _≤_};
 ghost use mathlib.Core.List.{[], _∷_};
 ghost use lib.ListN.{length};
-ghost use Rattle.definitions.specs.Lines.{digits};
+ghost use Rattle.definitions.specs.Lines.{tab, digits};
 ghost use Rattle.lines.specs.Printing.{Printed};
+use super::scan;
 
 // Writes the digits of `n` from `at` on, highest first. The place after them.
 pub fn print(n: u32, at: usize, text: &mut [u8]) -> usize
@@ -39,4 +40,13 @@ pub fn put_byte(b: u8, at: usize, text: &mut [u8]) -> usize
 {
     text[at] = b;
     at + 1
+}
+
+// A tab and the digits of `n`.
+pub fn put_field(n: u32, at: usize, text: &mut [u8]) -> usize
+    requires { ⌜ at + length (tab ∷ digits n) ≤ length (now text) ⌝ }
+    ensures { λ r. ⌜ Printed (tab ∷ digits n) (now (text .entry)) at r (now (text .exit)) ⌝ }
+{
+    let next = put_byte(scan::TAB, at, text);
+    print(n, next, text)
 }

@@ -10,11 +10,8 @@ use Rattle.definitions.specs.Lines.{bytes, tab, newline, digits}
 use Rattle.definitions.specs.Program.{yesNo, refusedWord, localWord, ownWord, plainWord, shortWord, localText, refusedText}
 use Rattle.lines.specs.Printing.{Printed}
 use Rattle.lines.proofs.PrintLaws.{printed-seq}
-use Rattle.formula_text.proofs.PenLaws.{field-written}
 use Rattle.program.specs.Reporting.{lineField, verdictsLine, ownLine, rewrittenLine, reportText}
 use Rattle.program.specs.declared.report.Report.{Report}
-
-pub ruleset field-laws = (needs, field-written)
 
 from-start : (n m : ℕ) → n ≤ m → 0 + n ≤ m
 from-start n m h = omega arith

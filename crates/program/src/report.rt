@@ -2,7 +2,7 @@
 ghost use mathlib.Core.List.{_∷_};
 ghost use Prim.Native.Nat.{_+_, _≤_};
 ghost use lib.ListN.{length};
-ghost use Rattle.definitions.specs.Lines.{tab, digits};
+ghost use Rattle.definitions.specs.Lines.{tab};
 ghost use Rattle.definitions.specs.Program.{yesNo, localText, refusedText};
 ghost use Rattle.lines.specs.Printing.{Printed};
 ghost use Rattle.program.specs.Reporting.{lineField, verdictsLine, ownLine, rewrittenLine, reportText};
@@ -35,15 +35,6 @@ pub struct Report {
     pub short: Rewritten,
 }
 
-// A tab and the digits of `n`.
-fn put_field(n: u32, at: usize, text: &mut [u8]) -> usize
-    requires { ⌜ at + length (tab ∷ digits n) ≤ length (now text) ⌝ }
-    ensures { λ r. ⌜ Printed (tab ∷ digits n) (now (text .entry)) at r (now (text .exit)) ⌝ }
-{
-    let next = print::put_byte(scan::TAB, at, text);
-    print::print(n, next, text)
-}
-
 // A tab and the verdict.
 fn put_verdict(verdict: bool, at: usize, text: &mut [u8]) -> usize
     requires { ⌜ at + length (tab ∷ yesNo verdict) ≤ length (now text) ⌝ }
@@ -72,7 +63,7 @@ fn put_local(places: u32, text: &mut [u8]) -> usize
     ensures { λ r. ⌜ Printed (localText places) (now (text .entry)) 0 r (now (text .exit)) ⌝ }
 {
     let after_word = print::put(b"local", 0, text);
-    let after_places = put_field(places, after_word, text);
+    let after_places = print::put_field(places, after_word, text);
     print::put_byte(scan::NEWLINE, after_places, text)
 }
 
@@ -98,7 +89,7 @@ fn put_rewritten(
     ensures { λ r. ⌜ Printed (rewrittenLine (now (word .entry)) count weak strong) (now (text .entry)) at r (now (text .exit)) ⌝ }
 {
     let after_word = print::put(word, at, text);
-    let after_count = put_field(count, after_word, text);
+    let after_count = print::put_field(count, after_word, text);
     put_verdicts(weak, strong, after_count, text)
 }
 
@@ -148,6 +139,6 @@ pub fn put_refused(number: u32, line: &[u8], text: &mut [u8]) -> usize
     ensures { λ r. ⌜ Printed (refusedText number (now (line .entry))) (now (text .entry)) 0 r (now (text .exit)) ⌝ }
 {
     let after_word = print::put(b"refused", 0, text);
-    let after_number = put_field(number, after_word, text);
+    let after_number = print::put_field(number, after_word, text);
     put_line(line, after_number, text)
 }

@@ -1,8 +1,8 @@
--- `put_field` meets its contract: one law for each return (PenLaws).
-use Rattle.formula_text.proofs.PenLaws.{field-laws}
+-- `put_field`: a tab, then the digits.
+use Rattle.lines.proofs.PrintLaws.{field-written}
 use borrow.Author.Needs.{needs}
-use Rattle.formula_text.proofs.write.put_field.Statement.{statement}
-use Rattle.formula_text.proofs.write.put_field.Tie as tie
+use Rattle.lines.proofs.print.put_field.Statement.{statement}
+use Rattle.lines.proofs.print.put_field.Tie as tie
 
 put-byte-requires : tie.Need-put-byte-requires
 put-byte-requires c κs = search needs
@@ -14,7 +14,7 @@ same-length : tie.Need-same-length
 same-length c = search needs
 
 returns : tie.Need-returns
-returns c = search field-laws
+returns c = search (needs, field-written)
 
 pub put-field-spec : {M : Type 1} → statement M
 put-field-spec = tie.close (tie.spec put-byte-requires print-requires same-length returns)
