@@ -18,8 +18,9 @@ use Rattle.definitions.specs.Operations.{answer, controllerRefusal, localVerdic
 use Rattle.theorems.proofs.Choice.{or-else-none}
 use Rattle.theorems.proofs.NodeLaws.{accepted-rule}
 use Rattle.theorems.proofs.RuleNodes.{rule-some, rule-few}
-use Rattle.traces.specs.Places.{placesIn, Projected}
-use Rattle.traces.proofs.ProjectLaws.{projectable, local-places, own-mask}
+use Rattle.traces.proofs.CheckLaws.{own-mask}
+use Rattle.projection.specs.Places.{placesIn, Projected}
+use Rattle.projection.proofs.PlaceLaws.{projectable, local-places}
 use Rattle.evaluation.specs.declared.verdicts.Verdicts.{Verdicts}
 use Rattle.evaluation.specs.declared.verdicts.Verdicts.the-variants.{Refused}
 use Rattle.evaluation.specs.Traced.{traceOf}

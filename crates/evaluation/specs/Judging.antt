@@ -13,7 +13,7 @@ use Rattle.definitions.specs.Operations as operations
 use Rattle.definitions.specs.Operations.{Answer, answer, controllerRefusal, verdicts, localVerdicts, judgeRecordingAnswer, judgeRecordingRows}
 use Rattle.rows.specs.Marks.{markAt, marks, Whole}
 use Rattle.rows.specs.Lent.{rowAt}
-use Rattle.traces.specs.Places.{placesIn, Projectable}
+use Rattle.projection.specs.Places.{placesIn, Projectable}
 use Rattle.evaluation.specs.declared.verdicts.Verdicts.{Verdicts}
 use Rattle.evaluation.specs.declared.verdicts.Verdicts.the-variants.{Judged, Refused}
 use Rattle.evaluation.specs.Traced.{traceOf, everyAtom}

@@ -11,8 +11,8 @@ use super::verdicts::Verdicts;
 use super::verdicts::at_tops;
 use formulas::limits::Limits;
 use formulas::limits::Refusal;
+use projection::places::project_into;
 use traces::check::mask_at;
-use traces::project::project_into;
 
 // A place is a state without run marks.
 fn widen(words: &[u32], n: usize, places: &mut [u64])

@@ -25,13 +25,13 @@ use Rattle.theorems.proofs.Choice.{none-or-else}
 use Rattle.theorems.proofs.RuleNodes.{rule-nodes, rule-length, rule-some}
 use Rattle.theorems.proofs.RewrittenAccepted.{rewritten-size, rewritten-fits}
 use Rattle.theorems.proofs.ScheduleIndependence.{Accepted, verdict-agrees, local-judging}
-use Rattle.traces.specs.Places.{Projectable}
-use Rattle.traces.specs.Answers as projection
-use Rattle.traces.specs.Answers.{ProjectIs}
-use Rattle.traces.specs.declared.operation.Projection.{Projection}
-use Rattle.traces.specs.declared.operation.Projection.the-variants as projected
-use Rattle.traces.proofs.ProjectLaws.{projectable, local-places, few-local}
-use Rattle.traces.proofs.OperationLaws.{length-of}
+use Rattle.projection.specs.Places.{Projectable}
+use Rattle.projection.specs.Answers as projection
+use Rattle.projection.specs.Answers.{ProjectIs}
+use Rattle.projection.specs.declared.project.Projection.{Projection}
+use Rattle.projection.specs.declared.project.Projection.the-variants as projected
+use Rattle.projection.proofs.PlaceLaws.{projectable, local-places, few-local}
+use Rattle.projection.proofs.ProjectLaws.{length-of}
 use Rattle.evaluation.specs.Judging as evaluation
 use Rattle.evaluation.specs.declared.verdicts.Verdicts as evaluated
 use Rattle.evaluation.specs.declared.verdicts.Verdicts.the-variants as verdicts

@@ -14,8 +14,8 @@ use evaluation::verdicts;
 use formulas::limits::Limits;
 use judging::rewritten::Judgement;
 use judging::rewritten::judge_rewritten;
-use traces::operation::Projection;
-use traces::operation::project;
+use projection::project::Projection;
+use projection::project::project;
 
 // How many places the local trace has. An accepted recording is not refused.
 fn count_places(

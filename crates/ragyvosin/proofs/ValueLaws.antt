@@ -18,9 +18,9 @@ use Rattle.formula_text.specs.declared.write.RuleWritten.the-variants as writte
 use Rattle.trace_text.specs.Reading.{readAnswer as recordingRead}
 use Rattle.trace_text.specs.declared.read.RecordingRead.{RecordingRead}
 use Rattle.trace_text.specs.declared.read.RecordingRead.the-variants as recording
-use Rattle.traces.specs.Answers.{answerOf as projected}
-use Rattle.traces.specs.declared.operation.Projection.{Projection}
-use Rattle.traces.specs.declared.operation.Projection.the-variants as projection
+use Rattle.projection.specs.Answers.{answerOf as projected}
+use Rattle.projection.specs.declared.project.Projection.{Projection}
+use Rattle.projection.specs.declared.project.Projection.the-variants as projection
 use Rattle.evaluation.specs.Judging.{answerOf as judged}
 use Rattle.evaluation.specs.declared.verdicts.Verdicts.{Verdicts}
 use Rattle.evaluation.specs.declared.verdicts.Verdicts.the-variants as verdict

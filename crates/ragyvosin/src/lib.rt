@@ -8,7 +8,7 @@ ghost use Rattle.definitions.specs.Operations.{rewriteAnswer, rewriteTable, jud
 ghost use Rattle.formula_text.specs.Reading.{readAnswer as ruleRead};
 ghost use Rattle.formula_text.specs.Writing.{writeAnswer as ruleWritten};
 ghost use Rattle.trace_text.specs.Reading.{readAnswer as recordingRead};
-ghost use Rattle.traces.specs.Answers.{answerOf as projected};
+ghost use Rattle.projection.specs.Answers.{answerOf as projected};
 ghost use Rattle.evaluation.specs.Judging.{answerOf as judged};
 ghost use Rattle.rewriting.specs.Answers.{answerOf as rewritten};
 ghost use Rattle.ragyvosin.specs.Arguments.{ruleOf, recordingOf, tableOf};
@@ -16,9 +16,9 @@ ghost use Rattle.ragyvosin.specs.Parts.{placeIn, bytesIn};
 pub use evaluation::verdicts::Verdicts;
 pub use formula_text::read::RuleRead;
 pub use formula_text::write::RuleWritten;
+pub use projection::project::Projection;
 pub use rewriting::rewrite::Rewriting;
 pub use trace_text::read::RecordingRead;
-pub use traces::operation::Projection;
 
 pub mod c;
 mod values;
@@ -79,7 +79,7 @@ pub fn project(
     ensures { λ r. ⌜ projected r ≡ projectAnswer (recordingOf controllers count (now (masks .entry)) (now (states .entry))) c (now (places .entry)) ⌝ }
     ensures { λ _. ⌜ now (places .exit) ≡ projectPlaces (recordingOf controllers count (now (masks .entry)) (now (states .entry))) c (now (places .entry)) ⌝ }
 {
-    traces::operation::project(controllers, count, masks, states, c, places)
+    projection::project::project(controllers, count, masks, states, c, places)
 }
 
 // "judge a rule on its local trace (rule and recording, for the rule's controller)": weak and strong verdict

@@ -4,7 +4,7 @@ ghost use mathlib.Core.List.{_∷_};
 ghost use Rattle.formula_text.specs.Reading.{readAnswer as ruleRead};
 ghost use Rattle.formula_text.specs.Writing.{writeAnswer as ruleWritten};
 ghost use Rattle.trace_text.specs.Reading.{readAnswer as recordingRead};
-ghost use Rattle.traces.specs.Answers.{answerOf as projected};
+ghost use Rattle.projection.specs.Answers.{answerOf as projected};
 ghost use Rattle.evaluation.specs.Judging.{answerOf as judged};
 ghost use Rattle.rewriting.specs.Answers.{answerOf as rewritten};
 ghost use Rattle.ragyvosin.specs.Values.{heading};
@@ -12,9 +12,9 @@ use evaluation::verdicts::Verdicts;
 use formula_text::read::RuleRead;
 use formula_text::write::RuleWritten;
 use formulas::limits::Refusal;
+use projection::project::Projection;
 use rewriting::rewrite::Rewriting;
 use trace_text::read::RecordingRead;
-use traces::operation::Projection;
 
 pub fn lay_rule_read(answer: RuleRead, values: &mut [usize; 2]) -> u8
     ensures { λ r. ⌜ r ∷ now (values .exit) ≡ heading 2 (ruleRead answer) ⌝ }

@@ -15,7 +15,7 @@ use borrow.Author.Needs.{needs}
 use borrow.Author.Tests.{ne-eqb, lt-ltb, le-ltb, leb-true, leb-false, lt-leb, le-leb}
 use Rattle.definitions.specs.Limits.{maxControllers, maxStates, recordingLimits, masksMeet, recordingLines, lastMark, outputRule, noController, accepted}
 use Rattle.definitions.specs.Bounded.{pick, bitOf, within, orElse}
-use Rattle.definitions.specs.Recordings.{Recording, stateOf, atomsOf, marksOf, marked, outputBroken, stateRefusal, recordingHeadingRefusal, masksRefusal, statesRefusal, recordingLinesRefusal, recordingRefusal}
+use Rattle.definitions.specs.Recordings.{Recording, stateOf, atomsOf, marksOf, marked, maskOf, outputBroken, stateRefusal, recordingHeadingRefusal, masksRefusal, statesRefusal, recordingLinesRefusal, recordingRefusal}
 use Rattle.definitions.specs.Operations.{controllerRefusal}
 use Rattle.theorems.proofs.Choice.{accept-yes, both-true, refuse-no}
 use Rattle.theorems.proofs.Recursions.{some-cong}
@@ -124,6 +124,9 @@ module _ (C : ℕ) (masks : List ℕ) (seen c : ℕ) (inv : MasksLeft C masks se
 -- ---- the output rule
 pub mask-none : (masks : List ℕ) (c : ℕ) → length masks ≤ c → 0 ≡ getD masks c 0
 mask-none masks c h = sym (List·getD-eq-default masks 0 h)
+
+pub own-mask : (R : Recording) (c : ℕ) → c < R .controllers → getD (R .masks) c 0 ≡ maskOf R c
+own-mask R c h = sym (getD-take (R .controllers) (R .masks) c 0 h)
 
 pub marked-is : (c s marks : ℕ) → marks ≡ marksOf s → eqb (marks / 2 ^ c % 2) 1 ≡ marked c s
 unfolding bitOf

@@ -15,7 +15,7 @@ use Rattle.definitions.specs.Recordings.{Recording, atomsOf, marked, maskOf, re
 use Rattle.definitions.specs.Projection.{runStates, afterLast, placesOf, localTrace}
 use Rattle.theorems.proofs.Choice.{by-test}
 use Rattle.theorems.proofs.RecordingLaws.{Checked, checked, Recorded, recorded}
-use Rattle.traces.specs.Places.{placesIn, Projectable, Projected}
+use Rattle.projection.specs.Places.{placesIn, Projectable, Projected}
 
 -- ---- the states in which a component runs, one state more
 module _ (run : ℕ → Bool) where
@@ -196,9 +196,6 @@ projectable R c places h l room =
 pub local-places : (R : Recording) (c : ℕ) → placesIn (R .count) (maskOf R c) c (R .states) ≡ localTrace R c
 unfolding placesIn
 local-places R c = refl
-
-pub own-mask : (R : Recording) (c : ℕ) → c < R .controllers → getD (R .masks) c 0 ≡ maskOf R c
-own-mask R c h = sym (getD-take (R .controllers) (R .masks) c 0 h)
 
 -- an accepted recording has fewer runs of a component than states
 pub few-local : (N c : ℕ) (states places : List ℕ) → Projectable N c states places → length (runStates (runIn N c states) N) < N

@@ -1,8 +1,8 @@
--- `traces::operation::local_length` meets its contract.
+-- `projection::places::local_length` meets its contract.
 use borrow.Author.Needs.{needs}
-use Rattle.traces.proofs.OperationLaws.{project-laws}
-use Rattle.traces.proofs.operation.local_length.Statement.{statement}
-use Rattle.traces.proofs.operation.local_length.Tie as tie
+use Rattle.projection.proofs.ProjectLaws.{project-laws}
+use Rattle.projection.proofs.places.local_length.Statement.{statement}
+use Rattle.projection.proofs.places.local_length.Tie as tie
 
 add-column : tie.Need-add-column
 add-column c = search needs

@@ -1,31 +1,18 @@
 // Projection as an operation: the local trace of one controller of any recording, in lent space.
-ghost use mathlib.Core.Path.{_≡_};
-ghost use Prim.Native.Nat.{_+_};
-ghost use lib.ListN.{length};
-ghost use Rattle.traces.specs.Places.{runsIn, Countable};
-ghost use Rattle.traces.specs.Answers.{ProjectIs};
-use super::check::controller_refusal;
-use super::check::mask_at;
-use super::check::recording_refusal;
-use super::project::project_into;
+ghost use Rattle.projection.specs.Answers.{ProjectIs};
+use super::places::local_length;
+use super::places::project_into;
 use formulas::choice::or_else;
 use formulas::limits::Limits;
 use formulas::limits::Refusal;
 use rows::lent::clear_u32;
-use rows::row::Row;
+use traces::check::controller_refusal;
+use traces::check::mask_at;
+use traces::check::recording_refusal;
 
 pub enum Projection {
     Places(usize),
     Refused(u8),
-}
-
-// "one more than the number of run marks of that controller": they form a row, whose ones are counted.
-pub fn local_length(count: usize, c: usize, states: &[u64]) -> usize
-    requires { ⌜ Countable count c (now states) ⌝ }
-    ensures { λ r. ⌜ r ≡ length (runsIn count c (now (states .entry))) + 1 ⌝ }
-{
-    let run = Row::column(states, count, Limits::ATOMS + c);
-    run.total() as usize + 1
 }
 
 pub fn project(

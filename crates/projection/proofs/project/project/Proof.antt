@@ -1,8 +1,8 @@
--- `traces::operation::project` meets its contract.
+-- `projection::project::project` meets its contract.
 use borrow.Author.Needs.{needs}
-use Rattle.traces.proofs.OperationLaws.{project-laws}
-use Rattle.traces.proofs.operation.project.Statement.{statement}
-use Rattle.traces.proofs.operation.project.Tie as tie
+use Rattle.projection.proofs.ProjectLaws.{project-laws}
+use Rattle.projection.proofs.project.project.Statement.{statement}
+use Rattle.projection.proofs.project.project.Tie as tie
 
 returns : tie.Need-returns
 returns c = search project-laws

@@ -1,8 +1,13 @@
 // The local trace of one component.
-ghost use Rattle.traces.specs.Places.{Projectable, Projected, placesIn};
-use super::state::atoms_of;
-use super::state::runs;
+ghost use mathlib.Core.Path.{_≡_};
+ghost use Prim.Native.Nat.{_+_};
+ghost use lib.ListN.{length};
+ghost use Rattle.projection.specs.Places.{runsIn, placesIn, Countable, Projectable, Projected};
 use formulas::choice::pick_index;
+use formulas::limits::Limits;
+use rows::row::Row;
+use traces::state::atoms_of;
+use traces::state::runs;
 
 // Each word is written to the next place, and kept where the component runs: no branch that the marks decide.
 pub fn project_into(count: usize, mask: u32, c: usize, states: &[u64], places: &mut [u32]) -> usize
@@ -20,4 +25,13 @@ pub fn project_into(count: usize, mask: u32, c: usize, states: &[u64], places: &
     }
     places[placed] = atoms_of(states[next]) & mask;
     placed + 1
+}
+
+// "one more than the number of run marks of that controller": they form a row, whose ones are counted.
+pub fn local_length(count: usize, c: usize, states: &[u64]) -> usize
+    requires { ⌜ Countable count c (now states) ⌝ }
+    ensures { λ r. ⌜ r ≡ length (runsIn count c (now (states .entry))) + 1 ⌝ }
+{
+    let run = Row::column(states, count, Limits::ATOMS + c);
+    run.total() as usize + 1
 }

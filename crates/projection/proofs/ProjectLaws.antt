@@ -23,11 +23,11 @@ use Rattle.rows.specs.Marks.{marks, yesMarks, Made}
 use Rattle.rows.specs.declared.row.Row.{Row}
 use Rattle.rows.specs.Lent.{cleared}
 use Rattle.rows.proofs.WordLaws.{bit-shr}
-use Rattle.traces.specs.Places.{runsIn, placesIn, Projectable, Countable, Projected}
-use Rattle.traces.specs.Answers.{answerOf, ProjectIs}
-use Rattle.traces.specs.declared.operation.Projection.the-variants.{Places, Refused}
-use Rattle.traces.proofs.CheckLaws.{controller-of}
-use Rattle.traces.proofs.ProjectLaws.{projectable, local-places, own-mask, few-local}
+use Rattle.projection.specs.Places.{runsIn, placesIn, Projectable, Countable, Projected}
+use Rattle.projection.specs.Answers.{answerOf, ProjectIs}
+use Rattle.projection.specs.declared.project.Projection.the-variants.{Places, Refused}
+use Rattle.traces.proofs.CheckLaws.{own-mask, controller-of}
+use Rattle.projection.proofs.PlaceLaws.{projectable, local-places, few-local}
 
 -- ---- the run marks, counted
 

@@ -1,8 +1,8 @@
--- `traces::project::project_into` meets its contract.
+-- `projection::places::project_into` meets its contract.
 use Prim.Native.Nat.{_-_}
-use Rattle.traces.proofs.ProjectLaws.{Walked, walk-bounds, walk-laws, walk-next}
-use Rattle.traces.proofs.project.project_into.Statement.{statement}
-use Rattle.traces.proofs.project.project_into.Tie as tie
+use Rattle.projection.proofs.PlaceLaws.{Walked, walk-bounds, walk-laws, walk-next}
+use Rattle.projection.proofs.places.project_into.Statement.{statement}
+use Rattle.projection.proofs.places.project_into.Tie as tie
 
 abbrev Inv-loop : tie.InvT-loop
 Inv-loop count mask c states places₀ placed₀ next₀ k₀ places placed next k = Walked count c states places₀ places placed next k
