@@ -3,9 +3,9 @@ ghost use mathlib.Core.Path.{_≡_};
 ghost use Rattle.definitions.specs.Bounded.{orElse};
 ghost use Rattle.definitions.specs.Tables.{ruleRefusal, tableRefusal};
 ghost use Rattle.evaluation.specs.Judging.{traceRefusal};
-use formulas::check::rule_refusal;
-use formulas::check::table_refusal;
 use formulas::limits::Refusal;
+use table_check::rule_refusal;
+use table_check::table_refusal;
 use traces::check::controller_refusal;
 use traces::check::recording_refusal;
 

@@ -8,12 +8,14 @@ ghost use Rattle.definitions.specs.RuleText.{unknownForm, operandsForm, nodeFor
 ghost use Rattle.formulas.specs.Meaning.{Built};
 ghost use Rattle.formula_text.specs.NodeLines.{meant, cappedForm, oneOperand, lineAnswer};
 use super::word;
-use formulas::check;
+use formulas::kind::is_unknown;
+use formulas::kind::operand_count;
 use formulas::limits::Refusal;
 use formulas::node::Node;
 use lines::number;
 use lines::number::Field;
 use lines::scan;
+use node_check::node_refusal;
 
 // What the line of a node is, its operands read up to the largest number of a field.
 pub enum NodeLine {
@@ -104,7 +106,7 @@ fn known_line(kind: u8, s: &[u8], i: usize) -> NodeLine
     requires { ⌜ (kind ≤ kindNumber End) × (i ≡ before tab (now s)) ⌝ }
     ensures { λ r. ⌜ meant r ≡ cappedForm (operandsForm (kindOf kind) (now (s .entry))) ⌝ }
 {
-    let uses = check::operand_count(kind);
+    let uses = operand_count(kind);
     if uses == 0 {
         if i < s.len() {
             return NodeLine::Malformed;
@@ -142,7 +144,7 @@ pub fn node_line(s: &[u8]) -> NodeLine
 {
     let i = scan::until_byte(s, scan::TAB);
     let kind = word::kind_of_word(&s[..i]);
-    if check::is_unknown(kind) {
+    if is_unknown(kind) {
         return unknown_line(s, i);
     }
     known_line(kind, s, i)
@@ -155,7 +157,7 @@ pub fn read_node(i: usize, s: &[u8]) -> LineRead
 {
     match node_line(s) {
         NodeLine::Known(n) => {
-            let refusal = check::node_refusal(false, i, n);
+            let refusal = node_refusal(false, i, n);
             if refusal != Refusal::NONE {
                 return LineRead::Refused(refusal);
             }

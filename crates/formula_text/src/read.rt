@@ -8,7 +8,6 @@ ghost use Rattle.definitions.specs.RuleText.{ruleHeading, scanNodes};
 ghost use Rattle.formula_text.specs.Reading.{heading, headingAnswer, NodesScanned, RuleScanned, ReadRule};
 use super::node_line;
 use super::node_line::LineRead;
-use formulas::check;
 use formulas::choice;
 use formulas::limits::Limits;
 use formulas::limits::Refusal;
@@ -16,6 +15,7 @@ use lines::number;
 use lines::number::Field;
 use lines::scan;
 use rows::lent;
+use table_check::rule_heading_refusal;
 
 // Controller and node count of an accepted first line, or its refusal.
 pub enum HeadingRead {
@@ -55,7 +55,7 @@ fn heading_fields(s: &[u8]) -> HeadingRead
         let Field::Number(count) = number::decimal(scan::after(s, i)) else {
             return HeadingRead::Refused(Refusal::RULE_FORM);
         };
-        let refusal = check::rule_heading_refusal(controller as usize, count as usize);
+        let refusal = rule_heading_refusal(controller as usize, count as usize);
         if refusal != Refusal::NONE {
             return HeadingRead::Refused(refusal);
         }

@@ -6,13 +6,14 @@ ghost use Rattle.lines.specs.Printing.{Printed};
 ghost use Rattle.formulas.specs.Meaning.{meaning};
 ghost use Rattle.formula_text.specs.Writing.{headingLine, headingSize, WroteRule};
 use super::word;
-use formulas::check;
+use formulas::kind::operand_count;
 use formulas::limits::Limits;
 use formulas::limits::Refusal;
 use formulas::node::Node;
 use lines::print;
 use lines::scan;
 use rows::lent;
+use table_check::rule_refusal;
 
 // The length of the text, or the refusal.
 pub enum RuleWritten {
@@ -28,7 +29,7 @@ fn put_node(n: Node, at: usize, text: &mut [u8]) -> usize
     let kind = n.kind;
     let first = n.first;
     let second = n.second;
-    let uses = check::operand_count(kind);
+    let uses = operand_count(kind);
     let after_kind = word::put_kind(kind, at, text);
     if uses == 0 {
         return after_kind;
@@ -74,7 +75,7 @@ pub fn write_rule(controller: usize, count: usize, nodes: &[u32], text: &mut [u8
     if text.len() < Limits::RULE_BYTES {
         return RuleWritten::Refused(Refusal::LENT_SHORT);
     }
-    let refusal = check::rule_refusal(controller, count, nodes);
+    let refusal = rule_refusal(controller, count, nodes);
     if refusal != Refusal::NONE {
         lent::clear_u8(text, 0, Limits::RULE_BYTES);
         return RuleWritten::Refused(refusal);

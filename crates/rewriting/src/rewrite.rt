@@ -7,10 +7,10 @@ ghost use Rattle.rewriting.specs.Drafts.{Ruled};
 ghost use Rattle.rewriting.specs.Answers.{Tabled, Rewrote};
 use super::drafts::steps;
 use super::lists;
-use formulas::check::rule_refusal;
 use formulas::limits::Limits;
 use formulas::limits::Refusal;
 use rows::lent::clear_u32;
+use table_check::rule_refusal;
 
 // What a rewriting answers: the node count, the weak and the strong top; or the number of a refusal.
 pub enum Rewriting {
