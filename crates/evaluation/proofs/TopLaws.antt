@@ -13,8 +13,8 @@ use Rattle.definitions.specs.Readings.{Trace, Rows, noRows, rowsOf, verdict, pa
 use Rattle.definitions.specs.Operations.{answer, verdicts}
 use Rattle.rows.specs.declared.row.Row.{Row}
 use Rattle.rows.specs.Marks.{markAt, marks, Whole, Made}
-use Rattle.rows.specs.Lent.{rowAt}
-use Rattle.rows.proofs.LentLaws.{loaded, pairs-length, weak-words, strong-words}
+use Rattle.rows.specs.Stored.{rowAt}
+use Rattle.rows.proofs.StoredLaws.{loaded, pairs-length, weak-words, strong-words}
 use Rattle.evaluation.specs.declared.verdicts.Verdicts.{Verdicts}
 use Rattle.evaluation.specs.declared.verdicts.Verdicts.the-variants.{Judged}
 use Rattle.evaluation.specs.Traced.{traceOf}

@@ -17,9 +17,9 @@ use Rattle.definitions.specs.Operations as operations
 use Rattle.definitions.specs.Operations.{answer, tooShort, controllerRefusal, verdicts, judgeRecordingNumber, judgeRecordingAnswer, judgeRecordingRows}
 use Rattle.theorems.proofs.Choice.{both-true, accept-yes, or-else-none, pick-true, pick-false}
 use Rattle.theorems.proofs.RecordingLaws.{Checked, checked}
-use Rattle.rows.specs.Lent.{cleared}
-use Rattle.rows.proofs.LentLaws.{pairs-length}
-use Rattle.rows.proofs.LeftLaws.{laid-past, laid-begins, left-untouched, left-zeroed, left-filled}
+use Rattle.lent.specs.Space.{cleared}
+use Rattle.rows.proofs.StoredLaws.{pairs-length}
+use Rattle.lent.proofs.LeftLaws.{laid-past, laid-begins, left-untouched, left-zeroed, left-filled}
 use Rattle.evaluation.specs.declared.verdicts.Verdicts.{Verdicts}
 use Rattle.evaluation.specs.declared.verdicts.Verdicts.the-variants.{Refused}
 use Rattle.evaluation.specs.Traced.{traceOf, everyAtom}

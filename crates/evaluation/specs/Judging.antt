@@ -12,7 +12,7 @@ use Rattle.definitions.specs.Readings.{pairsWords}
 use Rattle.definitions.specs.Operations as operations
 use Rattle.definitions.specs.Operations.{Answer, answer, controllerRefusal, verdicts, localVerdicts, judgeRecordingAnswer, judgeRecordingRows}
 use Rattle.rows.specs.Marks.{markAt, marks, Whole}
-use Rattle.rows.specs.Lent.{rowAt}
+use Rattle.rows.specs.Stored.{rowAt}
 use Rattle.projection.specs.Places.{placesIn, Projectable}
 use Rattle.evaluation.specs.declared.verdicts.Verdicts.{Verdicts}
 use Rattle.evaluation.specs.declared.verdicts.Verdicts.the-variants.{Judged, Refused}

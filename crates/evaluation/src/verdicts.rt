@@ -3,7 +3,7 @@ ghost use mathlib.Core.Path.{_≡_};
 ghost use Rattle.evaluation.specs.Judging.{Topped, topsIn};
 use super::pair::Pair;
 use formulas::limits::Limits;
-use rows::lent::load;
+use rows::stored::load;
 
 pub enum Verdicts {
     // Weak, strong.

@@ -6,7 +6,7 @@ use super::verdicts::Verdicts;
 use super::verdicts::at_tops;
 use formulas::limits::Limits;
 use formulas::limits::Refusal;
-use rows::lent::clear_u64;
+use lent::clear_u64;
 
 // Over the whole recording every atom is read as recorded, so none is foreign. Only what no row covers is cleared.
 fn judge_states(

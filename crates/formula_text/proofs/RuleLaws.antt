@@ -23,8 +23,8 @@ use Rattle.theorems.proofs.FieldLaws.{next-back}
 use Rattle.theorems.proofs.Inversions.{Formed, parsed-must}
 use Rattle.theorems.proofs.RoundTrips.{read-count}
 use Rattle.theorems.proofs.LentSpace.{refused-answer, accepted-answer}
-use Rattle.rows.specs.Lent.{cleared}
-use Rattle.rows.proofs.LeftLaws.{laid-past, laid-begins, left-untouched, left-zeroed, left-filled}
+use Rattle.lent.specs.Space.{cleared}
+use Rattle.lent.proofs.LeftLaws.{laid-past, laid-begins, left-untouched, left-zeroed, left-filled}
 use Rattle.lines.proofs.PartLaws.{part-laws, line-closed, line-open, line-part, rest-after}
 use Rattle.formula_text.specs.Reading.{heading, headingAnswer, NodesScanned, RuleScanned, ReadRule}
 use Rattle.formula_text.specs.declared.read.HeadingRead as head

@@ -22,8 +22,8 @@ use Rattle.theorems.proofs.RefusalBounds.{rule-low}
 use Rattle.theorems.proofs.NodeLaws.{accepted-heading, accepted-rule}
 use Rattle.theorems.proofs.RoundTrips.{text-fits}
 use Rattle.theorems.proofs.LentSpace.{refused-answer, accepted-answer}
-use Rattle.rows.specs.Lent.{laid, cleared}
-use Rattle.rows.proofs.LeftLaws.{laid-past, laid-begins, left-untouched, left-zeroed, left-filled}
+use Rattle.lent.specs.Space.{laid, cleared}
+use Rattle.lent.proofs.LeftLaws.{laid-past, laid-begins, left-untouched, left-zeroed, left-filled}
 use Rattle.lines.specs.Printing.{laidAt, Printed}
 use Rattle.lines.proofs.PrintLaws.{printed-seq}
 use Rattle.formula_text.specs.Writing.{headingLine, headingSize, WroteRule}

@@ -10,7 +10,7 @@ use Rattle.definitions.specs.Tables.{ruleHeadingRefusal}
 use Rattle.definitions.specs.Lines.{Parsed, onParsed, Heading, Scan}
 use Rattle.definitions.specs.RuleText.{scanRule}
 use Rattle.definitions.specs.Operations.{Answer, readRuleAnswer, readRuleNodes}
-use Rattle.rows.specs.Lent.{laid}
+use Rattle.lent.specs.Space.{laid}
 use Rattle.formula_text.specs.declared.read.HeadingRead.{HeadingRead}
 use Rattle.formula_text.specs.declared.read.HeadingRead.the-variants as line
 use Rattle.formula_text.specs.declared.read.Stopped.{Stopped}

@@ -14,7 +14,6 @@ use formulas::limits::Refusal;
 use lines::number;
 use lines::number::Field;
 use lines::scan;
-use rows::lent;
 use table_check::rule_heading_refusal;
 
 // Controller and node count of an accepted first line, or its refusal.

@@ -12,7 +12,6 @@ use formulas::limits::Refusal;
 use formulas::node::Node;
 use lines::print;
 use lines::scan;
-use rows::lent;
 use table_check::rule_refusal;
 
 // The length of the text, or the refusal.

@@ -19,8 +19,8 @@ use Rattle.definitions.specs.RecordingText.{scanRecording, lineIn, jointNumber,
 use Rattle.definitions.specs.Operations.{left, tooShort, readJointNumber, readJointHeading, readJointNodes, readJointMasks, readJointStates, readJointPart}
 use Rattle.theorems.proofs.Choice.{by-test, both-false}
 use Rattle.theorems.proofs.RoundTrips.{read-count}
-use Rattle.rows.specs.Lent.{laid, cleared}
-use Rattle.rows.proofs.LeftLaws.{laid-past, laid-begins, left-untouched, left-zeroed, left-filled}
+use Rattle.lent.specs.Space.{laid, cleared}
+use Rattle.lent.proofs.LeftLaws.{laid-past, laid-begins, left-untouched, left-zeroed, left-filled}
 use Rattle.lines.proofs.PartLaws.{part-to-end}
 use Rattle.lines.proofs.ScanLaws.{before-le}
 use Rattle.formula_text.specs.Reading.{RuleScanned}

@@ -8,7 +8,6 @@ use formula_text::read::scan_rule;
 use formulas::limits::Limits;
 use formulas::limits::Refusal;
 use lines::scan;
-use rows::lent;
 use trace_text::read::scan_recording;
 
 // The number and, accepted, controller, node count, C and N; and the part handed back: of which text, from where, how long.

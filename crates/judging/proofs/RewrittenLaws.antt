@@ -22,7 +22,7 @@ use Rattle.theorems.proofs.LentSpace.{left-short, left-accepted, left-refused}
 use Rattle.theorems.proofs.RewrittenAccepted.{rewritten-nodes, rewritten-fits}
 use Rattle.theorems.proofs.ScheduleIndependence.{Accepted, local-judging, rewritten-judging}
 use Rattle.traces.proofs.CheckLaws.{own-mask}
-use Rattle.rows.specs.Lent.{cleared}
+use Rattle.lent.specs.Space.{cleared}
 use Rattle.evaluation.specs.Judging as judging
 use Rattle.evaluation.specs.Judging.{traceRefusal, WholeJudged}
 use Rattle.evaluation.specs.declared.verdicts.Verdicts.{Verdicts}

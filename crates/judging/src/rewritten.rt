@@ -5,10 +5,10 @@ use evaluation::verdicts::Verdicts;
 use evaluation::whole::judge_recording;
 use formulas::limits::Limits;
 use formulas::limits::Refusal;
+use lent::clear_u32;
+use lent::clear_u64;
 use rewriting::rewrite::Rewriting;
 use rewriting::rewrite::rewrite;
-use rows::lent::clear_u32;
-use rows::lent::clear_u64;
 use traces::check::mask_at;
 
 pub enum Judgement {

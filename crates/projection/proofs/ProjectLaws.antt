@@ -21,7 +21,7 @@ use Rattle.theorems.proofs.LentSpace.{left-short, left-accepted, left-refused}
 use Rattle.theorems.proofs.Tabulations.{tabulate-same}
 use Rattle.rows.specs.Marks.{marks, yesMarks, Made}
 use Rattle.rows.specs.declared.row.Row.{Row}
-use Rattle.rows.specs.Lent.{cleared}
+use Rattle.lent.specs.Space.{cleared}
 use Rattle.rows.proofs.WordLaws.{bit-shr}
 use Rattle.projection.specs.Places.{runsIn, placesIn, Projectable, Countable, Projected}
 use Rattle.projection.specs.Answers.{answerOf, ProjectIs}

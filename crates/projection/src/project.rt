@@ -5,7 +5,7 @@ use super::places::project_into;
 use formulas::choice::or_else;
 use formulas::limits::Limits;
 use formulas::limits::Refusal;
-use rows::lent::clear_u32;
+use lent::clear_u32;
 use traces::check::controller_refusal;
 use traces::check::mask_at;
 use traces::check::recording_refusal;

@@ -19,7 +19,7 @@ use Rattle.definitions.specs.Operations.{answer, left, rewrittenOf, sizeRefusal
 use Rattle.theorems.proofs.NodeLaws.{accepted-rule}
 use Rattle.theorems.proofs.RuleNodes.{rule-some, rule-few}
 use Rattle.theorems.proofs.RewrittenAccepted.{rewritten-fits}
-use Rattle.rows.specs.Lent.{cleared}
+use Rattle.lent.specs.Space.{cleared}
 use Rattle.rewriting.specs.declared.drafts.Draft.{Draft}
 use Rattle.rewriting.specs.declared.rewrite.Rewriting.{Rewriting}
 use Rattle.rewriting.specs.declared.rewrite.Rewriting.the-variants.{Rewritten, Refused}

@@ -9,7 +9,7 @@ use super::drafts::steps;
 use super::lists;
 use formulas::limits::Limits;
 use formulas::limits::Refusal;
-use rows::lent::clear_u32;
+use lent::clear_u32;
 use table_check::rule_refusal;
 
 // What a rewriting answers: the node count, the weak and the strong top; or the number of a refusal.

@@ -1,6 +1,5 @@
-pub mod LentLaws
+pub mod StoredLaws
 pub mod OperatorLaws
 pub mod RowLaws
 pub mod StateLaws
 pub mod WordLaws
-pub mod LeftLaws

@@ -1,4 +1,4 @@
-pub mod Lent
+pub mod Stored
 pub mod Lists
 pub mod Marks
 pub mod Words

@@ -20,7 +20,7 @@ use Rattle.theorems.proofs.Choice.{by-test, pick-true, pick-false}
 use Rattle.lines.proofs.PartLaws.{part-to-end, empty-yes, empty-no}
 use Rattle.traces.specs.Unions.{unionOf}
 use Rattle.trace_text.specs.Next.{refusalAt, seenRefusal, maskAnswer, stateAnswer, nextMask, nextState}
-use Rattle.rows.specs.Lent.{laid}
+use Rattle.lent.specs.Space.{laid}
 use Rattle.trace_text.specs.Reading.{LinesScanned}
 use Rattle.trace_text.specs.declared.next.MaskRead.{MaskRead}
 use Rattle.trace_text.specs.declared.next.MaskRead.the-variants as mask

@@ -15,8 +15,8 @@ use Rattle.definitions.specs.Lines.{newline, before, lineOf, restOf, Parsed, fo
 use Rattle.definitions.specs.RecordingText.{recordingHeading, recordingHeadingLineRefusal, scanMasks, scanStates, RecordingScan, recordingStop, recordingMasks, recordingStates, scanRecording}
 use Rattle.definitions.specs.Operations.{answer, tooShort, readRecordingNumber, readRecordingAnswer, readRecordingMasks, readRecordingStates}
 use Rattle.theorems.proofs.Choice.{by-test}
-use Rattle.rows.specs.Lent.{laid, cleared}
-use Rattle.rows.proofs.LeftLaws.{laid-past, laid-begins, left-untouched, left-zeroed, left-filled}
+use Rattle.lent.specs.Space.{laid, cleared}
+use Rattle.lent.proofs.LeftLaws.{laid-past, laid-begins, left-untouched, left-zeroed, left-filled}
 use Rattle.trace_text.specs.Forms.{heading}
 use Rattle.trace_text.specs.Next.{refusalAt, headingOf, headingAnswer, nextHeading}
 use Rattle.trace_text.specs.Reading.{Room, MaskRoom, StateRoom, LinesScanned, RecordingScanned, readAnswer, ReadRecording}

@@ -7,7 +7,7 @@ use Rattle.definitions.specs.Limits.{accepted, lentShort, maxControllers, maxSt
 use Rattle.definitions.specs.Lines.{Scan}
 use Rattle.definitions.specs.RecordingText.{scanRecording}
 use Rattle.definitions.specs.Operations.{Answer, readRecordingAnswer, readRecordingMasks, readRecordingStates}
-use Rattle.rows.specs.Lent.{laid}
+use Rattle.lent.specs.Space.{laid}
 use Rattle.trace_text.specs.declared.read.Stopped.{Stopped}
 use Rattle.trace_text.specs.declared.read.Scanned.{Scanned}
 use Rattle.trace_text.specs.declared.read.RecordingRead.{RecordingRead}

@@ -12,7 +12,6 @@ use formulas::choice::pick;
 use formulas::limits::Limits;
 use formulas::limits::Refusal;
 use lines::scan;
-use rows::lent;
 
 // How the reading of lines ended: the refusal or 0, and the place of the line that it ended at.
 pub struct Stopped {

@@ -1,7 +1,7 @@
 use borrow.Author.Needs.{needs}
-use Rattle.rows.specs.Lent.{rowAt}
-use Rattle.rows.proofs.lent.load.Statement.{statement}
-use Rattle.rows.proofs.lent.load.Tie as tie
+use Rattle.rows.specs.Stored.{rowAt}
+use Rattle.rows.proofs.stored.load.Statement.{statement}
+use Rattle.rows.proofs.stored.load.Tie as tie
 
 mul-t3 : tie.Need-mul-t3
 mul-t3 c = search needs

@@ -1,9 +1,9 @@
 use native.Mathlib.Omega.{arith}
 use lib.ListN.{length-set}
 use borrow.Author.Needs.{needs}
-use Rattle.rows.proofs.LentLaws.{lent-laws}
-use Rattle.rows.proofs.lent.store.Statement.{statement}
-use Rattle.rows.proofs.lent.store.Tie as tie
+use Rattle.rows.proofs.StoredLaws.{stored-laws}
+use Rattle.rows.proofs.stored.store.Statement.{statement}
+use Rattle.rows.proofs.stored.store.Tie as tie
 
 array-read-rows : tie.Need-array-read-rows
 array-read-rows c = search needs
@@ -39,7 +39,7 @@ same-length : tie.Need-same-length
 same-length c = search needs
 
 returns : tie.Need-returns
-returns c = search lent-laws
+returns c = search stored-laws
 
 pub store-spec : {M : Type 1} → statement M
 store-spec =

@@ -1,7 +1,7 @@
 use Prim.Native.Nat.{_-_}
-use Rattle.rows.proofs.LentLaws.{Clearing, lent-laws}
-use Rattle.rows.proofs.lent.clear_u32.Statement.{statement}
-use Rattle.rows.proofs.lent.clear_u32.Tie as tie
+use Rattle.lent.proofs.ClearLaws.{Clearing, clear-laws}
+use Rattle.lent.proofs.clear_u32.Statement.{statement}
+use Rattle.lent.proofs.clear_u32.Tie as tie
 
 abbrev Inv-loop : tie.InvT-loop
 Inv-loop words₀ from to i₀ words i = Clearing words₀ from to i words
@@ -10,28 +10,28 @@ abbrev μ-loop : tie.MeasureT-loop
 μ-loop words₀ from to i₀ words i = to - i
 
 loop-holds : tie.Need-loop-holds Inv-loop μ-loop
-loop-holds c = search lent-laws
+loop-holds c = search clear-laws
 
 mul-words : tie.Need-mul-words Inv-loop μ-loop
-mul-words c = search lent-laws
+mul-words c = search clear-laws
 
 slice-write-words : tie.Need-slice-write-words Inv-loop μ-loop
-slice-write-words c = search lent-laws
+slice-write-words c = search clear-laws
 
 add-i : tie.Need-add-i Inv-loop μ-loop
-add-i c = search lent-laws
+add-i c = search clear-laws
 
 loop-less : tie.Need-loop-less Inv-loop μ-loop
-loop-less c = search lent-laws
+loop-less c = search clear-laws
 
 loop-again : tie.Need-loop-again Inv-loop μ-loop
-loop-again c = search lent-laws
+loop-again c = search clear-laws
 
 same-length : tie.Need-same-length Inv-loop μ-loop
-same-length c = search lent-laws
+same-length c = search clear-laws
 
 returns : tie.Need-returns Inv-loop μ-loop
-returns c = search lent-laws
+returns c = search clear-laws
 
 pub clear-u32-spec : {M : Type 1} → statement M
 clear-u32-spec =
