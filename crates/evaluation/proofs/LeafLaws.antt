@@ -13,7 +13,8 @@ use Rattle.definitions.specs.Bounded.{bitOf, someOf, everyOf, every, tabulate}
 use Rattle.definitions.specs.Nodes.{node, kindOf}
 use Rattle.definitions.specs.Projection.{endAt}
 use Rattle.definitions.specs.Readings.{nodeRows, untilAt}
-use Rattle.rows.specs.Marks.{markAt, marks, lastAt, Made}
+use Rattle.mark_words.specs.Marks.{markAt, lastAt}
+use Rattle.rows.specs.Marks.{marks, Made}
 use Rattle.rows.specs.declared.row.Row.{Row}
 use Rattle.theorems.proofs.Tabulations.{tabulate-at, tabulate-same}
 use Rattle.rows.proofs.RowLaws.{not-on, until-on, last-on}

@@ -12,7 +12,8 @@ use Rattle.definitions.specs.Tables.{nodesIn}
 use Rattle.definitions.specs.Readings.{Trace, Rows, noRows, rowsOf, verdict, pairsWords}
 use Rattle.definitions.specs.Operations.{answer, verdicts}
 use Rattle.rows.specs.declared.row.Row.{Row}
-use Rattle.rows.specs.Marks.{markAt, marks, Whole, Made}
+use Rattle.mark_words.specs.Marks.{markAt}
+use Rattle.rows.specs.Marks.{marks, Whole, Made}
 use Rattle.rows.specs.Stored.{rowAt}
 use Rattle.rows.proofs.StoredLaws.{loaded, pairs-length, weak-words, strong-words}
 use Rattle.evaluation.specs.declared.verdicts.Verdicts.{Verdicts}

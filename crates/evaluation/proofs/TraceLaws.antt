@@ -14,8 +14,7 @@ use Rattle.definitions.specs.Recordings.{Recording, wordAt, runsAt}
 use Rattle.definitions.specs.Projection.{endAt}
 use Rattle.definitions.specs.Readings.{Trace, local, whole, reading, readFrom, Rows, nodeRows, rowsAfter, rowsOf, marksWord}
 use Rattle.theorems.proofs.Tabulations.{tabulate-same}
-use Rattle.rows.proofs.StateLaws.{bit-low}
-use Rattle.rows.proofs.WordLaws.{bit-shr, word-bit, word-full}
+use Rattle.mark_words.proofs.WordLaws.{bit-low, bit-shr, word-bit, word-full}
 use Rattle.evaluation.specs.Traced.{stateAtom, stateRun, traceOf, everyAtom}
 use Rattle.evaluation.proofs.LeafLaws.{every-same}
 use Rattle.evaluation.proofs.CheckedNodes.{Each, each-node, node-fit, rule-kind}

@@ -19,10 +19,11 @@ use Rattle.theorems.proofs.Choice.{accept-yes, or-else-none}
 use Rattle.theorems.proofs.RefusalBounds.{or-else-low, recording-low, controller-low}
 use Rattle.theorems.proofs.LentSpace.{left-short, left-accepted, left-refused}
 use Rattle.theorems.proofs.Tabulations.{tabulate-same}
-use Rattle.rows.specs.Marks.{marks, yesMarks, Made}
+use Rattle.mark_words.specs.Marks.{yesMarks}
+use Rattle.rows.specs.Marks.{marks, Made}
 use Rattle.rows.specs.declared.row.Row.{Row}
 use Rattle.lent.specs.Space.{cleared}
-use Rattle.rows.proofs.WordLaws.{bit-shr}
+use Rattle.mark_words.proofs.WordLaws.{bit-shr}
 use Rattle.projection.specs.Places.{runsIn, placesIn, Projectable, Countable, Projected}
 use Rattle.projection.specs.Answers.{answerOf, ProjectIs}
 use Rattle.projection.specs.declared.project.Projection.the-variants.{Places, Refused}

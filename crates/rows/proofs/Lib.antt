@@ -1,5 +1,2 @@
-pub mod StoredLaws
-pub mod OperatorLaws
 pub mod RowLaws
-pub mod StateLaws
-pub mod WordLaws
+pub mod StoredLaws

@@ -16,12 +16,13 @@ use Rattle.definitions.specs.Limits.{maxStates, wordMarks}
 use Rattle.definitions.specs.Bounded.{bit, bitOf, tabulate, tabulateFrom}
 use Rattle.definitions.specs.Readings.{marksWord, nextAt, untilAt, prevAt, sinceAt}
 use Rattle.rows.specs.declared.row.Row.{Row}
-use Rattle.rows.specs.Marks.{markAt, bitAt, marks, packed, yesMarks, lastAt, Whole, Made}
-use Rattle.rows.specs.Lists.{headD, orRow, nextRow, untilRow, prevRow, sinceRow, lastRow}
-use Rattle.rows.specs.Words.{gathered}
+use Rattle.rows.specs.Marks.{bitAt, marks, packed, Whole, Made}
+use Rattle.mark_words.specs.Marks.{markAt, yesMarks, lastAt}
+use Rattle.mark_words.specs.Lists.{headD, orRow, nextRow, untilRow, prevRow, sinceRow, lastRow}
+use Rattle.mark_words.specs.Words.{gathered}
 use Rattle.theorems.proofs.Tabulations.{tabulated, tabulate-length, tabulate-take, tabulate-drop}
-use Rattle.rows.proofs.OperatorLaws.{lt-or-le, same-list, until-length, until-is, since-length, since-is, prev-length, prev-is, next-length, next-is, last-length, last-is, not-is, or-length, or-is}
-use Rattle.rows.proofs.WordLaws.{half, word-digit, word-bit, word-fits, word-put, ones-word, zip, or-zip, take-zip, drop-zip, zip-length, word-and, word-or, word-not, and-cut, or-cons, and-cons}
+use Rattle.mark_words.proofs.OperatorLaws.{lt-or-le, same-list, until-length, until-is, since-length, since-is, prev-length, prev-is, next-length, next-is, last-length, last-is, not-is, or-length, or-is}
+use Rattle.mark_words.proofs.WordLaws.{half, word-digit, word-bit, word-fits, word-put, ones-word, zip, or-zip, take-zip, drop-zip, zip-length, word-and, word-or, word-not, and-cut, or-cons, and-cons}
 
 -- ---- the marks of a row
 

@@ -1,4 +1,3 @@
 // Rows of marks and their operators, computed on whole words, and rows in lent space.
 pub mod row;
 pub mod stored;
-pub mod word;

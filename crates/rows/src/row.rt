@@ -7,11 +7,13 @@ ghost use lib.ListN.{length, set, getD};
 ghost use Rattle.definitions.specs.Limits.{maxStates, wordMarks};
 ghost use Rattle.definitions.specs.Bounded.{tabulate, bitOf};
 ghost use Rattle.definitions.specs.Readings.{nextAt, untilAt, prevAt, sinceAt};
-ghost use Rattle.rows.specs.Marks.{markAt, marks, packed, yesMarks, lastAt, Whole, Made};
-use super::word::gather;
-use super::word::ones;
-use super::word::since_word;
-use super::word::until_word;
+ghost use Rattle.rows.specs.Marks.{marks, packed, Whole, Made};
+ghost use Rattle.mark_words.specs.Marks.{markAt, yesMarks, lastAt};
+use mark_words::WORD_MARKS;
+use mark_words::gather;
+use mark_words::ones;
+use mark_words::since_word;
+use mark_words::until_word;
 
 pub struct Row {
     pub words: [u64; 2],
@@ -19,12 +21,6 @@ pub struct Row {
 }
 
 impl Row {
-    // The most marks of a row.
-    pub const MARKS: usize = 128;
-
-    // The marks of one word.
-    pub const WORD: usize = 64;
-
     pub fn none(count: usize) -> Row
         requires { ⌜ count ≤ maxStates ⌝ }
         ensures { λ r. ⌜ Made r count (tabulate count (λ k. false)) ⌝ }
@@ -39,14 +35,14 @@ impl Row {
         requires { ⌜ count ≤ maxStates ⌝ }
         ensures { λ r. ⌜ Made r count (tabulate count (λ k. true)) ⌝ }
     {
-        if count <= Row::WORD {
+        if count <= WORD_MARKS {
             return Row {
                 words: [ones(count), 0],
                 count: count,
             };
         }
         Row {
-            words: [ones(Row::WORD), ones(count - Row::WORD)],
+            words: [ones(WORD_MARKS), ones(count - WORD_MARKS)],
             count: count,
         }
     }
@@ -56,7 +52,7 @@ impl Row {
         requires { ⌜ (n ≤ maxStates) × (n ≤ length (now states)) × (bit < wordMarks) ⌝ }
         ensures { λ r. ⌜ Made r n (tabulate n (λ k. bitOf (getD (now (states .entry)) k 0) bit)) ⌝ }
     {
-        if n <= Row::WORD {
+        if n <= WORD_MARKS {
             return Row {
                 words: [gather(states, 0, n, bit), 0],
                 count: n,
@@ -64,8 +60,8 @@ impl Row {
         }
         Row {
             words: [
-                gather(states, 0, Row::WORD, bit),
-                gather(states, Row::WORD, n, bit),
+                gather(states, 0, WORD_MARKS, bit),
+                gather(states, WORD_MARKS, n, bit),
             ],
             count: n,
         }
@@ -76,8 +72,8 @@ impl Row {
         ensures { λ r. ⌜ r ≡ markAt (marks self) i ⌝ }
     {
         let words = self.words;
-        let w = i / Row::WORD;
-        (words[w] >> (i % Row::WORD)) % 2 == 1
+        let w = i / WORD_MARKS;
+        (words[w] >> (i % WORD_MARKS)) % 2 == 1
     }
 
     // How many marks are yes.
@@ -95,8 +91,8 @@ impl Row {
         ensures { λ r. ⌜ ((l : List Bool) → self ≡ packed l → i < length l → r ≡ packed (set l i true)) ⌝ }
     {
         let mut words = self.words;
-        let w = i / Row::WORD;
-        words[w] = words[w] | (1u64 << (i % Row::WORD));
+        let w = i / WORD_MARKS;
+        words[w] = words[w] | (1u64 << (i % WORD_MARKS));
         Row {
             words: words,
             count: self.count,
@@ -168,7 +164,7 @@ impl Row {
         }
         let w = self.words;
         let moved = Row {
-            words: [(w[0] >> 1) | (w[1] << (Row::WORD - 1)), w[1] >> 1],
+            words: [(w[0] >> 1) | (w[1] << (WORD_MARKS - 1)), w[1] >> 1],
             count: n,
         };
         moved.with(n - 1, weak)
@@ -190,7 +186,7 @@ impl Row {
         let high = until_word(a[1], b[1] | (a[1] & k[1]));
         let low = until_word(
             a[0],
-            (b[0] | (a[0] & k[0])) | (a[0] & (high << (Row::WORD - 1))),
+            (b[0] | (a[0] & k[0])) | (a[0] & (high << (WORD_MARKS - 1))),
         );
         Row {
             words: [low, high],
@@ -208,7 +204,7 @@ impl Row {
         Row {
             words: [
                 (w[0] << 1) & f[0],
-                ((w[1] << 1) | (w[0] >> (Row::WORD - 1))) & f[1],
+                ((w[1] << 1) | (w[0] >> (WORD_MARKS - 1))) & f[1],
             ],
             count: self.count,
         }
@@ -221,7 +217,7 @@ impl Row {
         let a = self.words;
         let b = q.words;
         let low = since_word(a[0], b[0], 0);
-        let high = since_word(a[1], b[1], low >> (Row::WORD - 1));
+        let high = since_word(a[1], b[1], low >> (WORD_MARKS - 1));
         Row {
             words: [low, high],
             count: self.count,

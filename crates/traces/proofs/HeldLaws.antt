@@ -17,7 +17,7 @@ use Rattle.definitions.specs.Limits.{maxControllers}
 use Rattle.definitions.specs.Bounded.{pick, bitOf, someOf}
 use Rattle.definitions.specs.Recordings.{atomsOf, marksOf, marked, outputBroken}
 use Rattle.theorems.proofs.Recursions.{some-cong}
-use Rattle.rows.proofs.WordLaws.{bit-shr}
+use Rattle.mark_words.proofs.WordLaws.{bit-shr}
 use Rattle.traces.specs.Held.{heldWith, heldFrom, heldBy, heldEntries, heldTable, heldGroup, heldChanged}
 use Rattle.traces.proofs.MaskLaws.{and-or, some-atom}
 

@@ -1,8 +1,8 @@
 use native.Mathlib.Omega.{arith}
 use borrow.Author.Needs.{needs}
-use Rattle.rows.proofs.WordLaws.{full-shl}
-use Rattle.rows.proofs.word.ones.Statement.{statement}
-use Rattle.rows.proofs.word.ones.Tie as tie
+use Rattle.mark_words.proofs.WordLaws.{full-shl}
+use Rattle.mark_words.proofs.ones.Statement.{statement}
+use Rattle.mark_words.proofs.ones.Tie as tie
 
 returns : tie.Need-returns
 returns c = search needs

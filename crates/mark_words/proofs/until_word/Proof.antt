@@ -1,9 +1,9 @@
 use mir.Val.{Fits}
 use mir.Syntax.{w64}
 use borrow.Author.Needs.{needs}
-use Rattle.rows.proofs.WordLaws.{window-one, window-until}
-use Rattle.rows.proofs.word.until_word.Statement.{statement}
-use Rattle.rows.proofs.word.until_word.Tie as tie
+use Rattle.mark_words.proofs.WordLaws.{window-one, window-until}
+use Rattle.mark_words.proofs.until_word.Statement.{statement}
+use Rattle.mark_words.proofs.until_word.Tie as tie
 
 doubled-requires : tie.Need-doubled-requires
 doubled-requires c κs = search needs

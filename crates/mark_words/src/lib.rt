@@ -1,4 +1,4 @@
-// Words of marks: the operators on 64 places at once.
+// Words of marks: the operators on 64 places at once, a mark a bit, the first place lowest.
 ghost use mathlib.Core.Path.{_≡_};
 ghost use mathlib.Core.Bool.{Bool, true, false};
 ghost use mathlib.Core.List.{List};
@@ -7,9 +7,11 @@ ghost use lib.ListN.{length, replicate};
 ghost use Rattle.definitions.specs.Limits.{wordMarks};
 ghost use Rattle.definitions.specs.Bounded.{bit};
 ghost use Rattle.definitions.specs.Readings.{marksWord};
-ghost use Rattle.rows.specs.Lists.{untilRow, sinceRow};
-ghost use Rattle.rows.specs.Words.{Window, gathered};
-use super::row::Row;
+ghost use Rattle.mark_words.specs.Lists.{untilRow, sinceRow};
+ghost use Rattle.mark_words.specs.Words.{Window, gathered};
+
+// The marks of one word.
+pub const WORD_MARKS: usize = 64;
 
 // For each place: does q come within a reach of places with p at each before it, and is p at each place of the reach.
 pub struct Reach {
@@ -54,7 +56,7 @@ pub fn ones(n: usize) -> u64
     requires { ⌜ n ≤ wordMarks ⌝ }
     ensures { λ r. ⌜ r ≡ marksWord (replicate n true) ⌝ }
 {
-    if n == Row::WORD {
+    if n == WORD_MARKS {
         return u64::MAX;
     }
     (1u64 << n) - 1

@@ -2,9 +2,9 @@ use mathlib.Core.Path.{_∙_}
 use mir.Val.{Fits}
 use mir.Syntax.{w64}
 use borrow.Author.Needs.{needs}
-use Rattle.rows.proofs.WordLaws.{since-word}
-use Rattle.rows.proofs.word.since_word.Statement.{statement}
-use Rattle.rows.proofs.word.since_word.Tie as tie
+use Rattle.mark_words.proofs.WordLaws.{since-word}
+use Rattle.mark_words.proofs.since_word.Statement.{statement}
+use Rattle.mark_words.proofs.since_word.Tie as tie
 
 wrapping-add-u64-requires : tie.Need-wrapping-add-u64-requires
 wrapping-add-u64-requires c κs = search needs

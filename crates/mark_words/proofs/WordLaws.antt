@@ -11,17 +11,17 @@ use lib.Dec.{eqb}
 use borrow.Author.Needs.{needs}
 use mir.Val.{Fits}
 use mir.Syntax.{w64}
-use lib.Bits.{bitAnd, bitOr, bitXor, differ, and-step, or-step, xor-step, and-zero-r, or-zero-r, or-shr, and-shr, and-mod, xor-mod, and-le-l}
-use lib.ListN.{length, take, drop, getD, set, replicate, List·getD-eq-default}
+use lib.Bits.{bitAnd, bitOr, bitXor, differ, and-step, or-step, xor-step, and-zero-r, or-zero-r, or-shr, and-shr, and-mod, xor-mod, and-le-l, and-mask}
+use lib.ListN.{length, take, drop, getD, set, replicate, getD-replicate, List·getD-eq-default}
 use Rattle.definitions.specs.Limits.{wordMarks}
 use Rattle.definitions.specs.Bounded.{bit, bitOf, tabulateFrom}
 use Rattle.definitions.specs.Readings.{marksWord}
-use Rattle.rows.specs.declared.word.Reach.{Reach}
-use Rattle.rows.specs.Marks.{markAt, yesMarks}
-use Rattle.rows.specs.Lists.{orRow, untilRow, sinceRow}
-use Rattle.rows.specs.Words.{foundIn, heldIn, Window, gathered}
+use Rattle.mark_words.specs.declared.Reach.{Reach}
+use Rattle.mark_words.specs.Marks.{markAt, yesMarks}
+use Rattle.mark_words.specs.Lists.{orRow, untilRow, sinceRow}
+use Rattle.mark_words.specs.Words.{foundIn, heldIn, Window, gathered}
 use Rattle.theorems.proofs.Tabulations.{tabulate-length}
-use Rattle.rows.proofs.OperatorLaws.{and-join, until-at, until-length}
+use Rattle.mark_words.proofs.OperatorLaws.{and-join, until-at, until-length}
 
 -- ---- the marks of a word
 
@@ -338,6 +338,12 @@ word-full (suc n) = rw pow-suc (omega (arith, word-full n))
 
 pub full-shl : (n : ℕ) → n < wordMarks → 1 * 2 ^ n % 2 ^ 64 ≡ marksWord (replicate n true) + 1
 full-shl n h = rw one-mul (mod-eq-of-lt (pow-lt {i = n} {j = 64} h) ∙ word-full n)
+
+-- a bit below d is not cut off
+pub bit-low : (a d k : ℕ) → k < d → bitOf (a % 2 ^ d) k ≡ bitOf a k
+bit-low a d k h =
+    let m : 2 ^ d - 1 ≡ marksWord (replicate d true) = omega (arith, word-full d) in
+    rw (← and-mask a d, m, bit-and, word-bit, getD-replicate d k true false h) (and-true (bitOf a k))
 
 -- ---- a column, gathered from its end
 

@@ -13,8 +13,8 @@ use Rattle.definitions.specs.Bounded.{tabulate}
 use Rattle.definitions.specs.Readings.{nextAt, untilAt, prevAt, sinceAt}
 use Rattle.theorems.proofs.Recursions.{until-end, until-step, since-start, since-step}
 use Rattle.theorems.proofs.Tabulations.{tabulated}
-use Rattle.rows.specs.Marks.{markAt, lastAt}
-use Rattle.rows.specs.Lists.{headD, orRow, nextRow, untilRow, prevRow, sinceRow, lastRow}
+use Rattle.mark_words.specs.Marks.{markAt, lastAt}
+use Rattle.mark_words.specs.Lists.{headD, orRow, nextRow, untilRow, prevRow, sinceRow, lastRow}
 
 pub lt-or-le : (a b : ℕ) → (a < b) ⊎ (b ≤ a)
 lt-or-le a b = from (ltb a b) refl where

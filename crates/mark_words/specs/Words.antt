@@ -6,8 +6,8 @@ use Prim.Native.Nat.{ℕ, zero, suc, _-_}
 use lib.ListN.{getD}
 use Rattle.definitions.specs.Bounded.{bitOf, tabulateFrom}
 use Rattle.definitions.specs.Readings.{marksWord}
-use Rattle.rows.specs.declared.word.Reach.{Reach}
-use Rattle.rows.specs.Marks.{markAt}
+use Rattle.mark_words.specs.declared.Reach.{Reach}
+use Rattle.mark_words.specs.Marks.{markAt}
 
 -- q at one of the d places from k on, and p at each place before that one
 unfoldable pub foundIn : (ℕ → Bool) → (ℕ → Bool) → ℕ → ℕ → Bool

@@ -1,7 +1,7 @@
 use borrow.Author.Needs.{needs}
-use Rattle.rows.proofs.WordLaws.{window-more}
-use Rattle.rows.proofs.word.doubled.Statement.{statement}
-use Rattle.rows.proofs.word.doubled.Tie as tie
+use Rattle.mark_words.proofs.WordLaws.{window-more}
+use Rattle.mark_words.proofs.doubled.Statement.{statement}
+use Rattle.mark_words.proofs.doubled.Tie as tie
 
 shr-t4 : tie.Need-shr-t4
 shr-t4 c = search needs

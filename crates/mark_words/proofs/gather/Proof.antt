@@ -1,6 +1,6 @@
-use Rattle.rows.proofs.WordLaws.{Gathering, gather-laws}
-use Rattle.rows.proofs.word.gather.Statement.{statement}
-use Rattle.rows.proofs.word.gather.Tie as tie
+use Rattle.mark_words.proofs.WordLaws.{Gathering, gather-laws}
+use Rattle.mark_words.proofs.gather.Statement.{statement}
+use Rattle.mark_words.proofs.gather.Tie as tie
 
 abbrev Inv-loop : tie.InvT-loop
 Inv-loop states from to bit word₀ k₀ word k = Gathering states from to bit word k
