@@ -1,5 +1,6 @@
 // The nine operations of document 01: each answer and each lent slice is what the definition of its operation says, on every input.
 // `ruleRead` to `rewritten` list document 01's number and values for each case of an answer.
+// `same-verdicts-all-four-times` (proofs/SameVerdicts) says what these contracts give together: schedule independence.
 ghost use mathlib.Core.Path.{_≡_};
 ghost use mathlib.Core.Bool.{true, false};
 ghost use Rattle.definitions.specs.Operations.{readRuleAnswer, readRuleNodes, writeRuleAnswer, writeRuleText, readRecordingAnswer, readRecordingMasks, readRecordingStates};
@@ -19,9 +20,6 @@ pub use formula_text::write::RuleWritten;
 pub use projection::project::Projection;
 pub use rewriting::rewrite::Rewriting;
 pub use trace_text::read::RecordingRead;
-
-pub mod c;
-mod values;
 
 // "read a rule (controller, count, nodes)"
 pub fn read_rule(text: &[u8], nodes: &mut [u32]) -> RuleRead
