@@ -1,0 +1,38 @@
+-- `meanings` meets its contract.
+use borrow.Author.Needs.{needs}
+use Rattle.images.proofs.ImageLaws.{names-laws}
+use Rattle.images.proofs.image.meanings.Statement.{statement}
+use Rattle.images.proofs.image.meanings.Tie as tie
+
+sub-dot : tie.Need-sub-dot
+sub-dot c = search needs
+
+cast-dot : tie.Need-cast-dot
+cast-dot c = search needs
+
+reading-requires : tie.Need-reading-requires
+reading-requires c κs = search needs
+
+reading-requires-2 : tie.Need-reading-requires-2
+reading-requires-2 c κs = search needs
+
+reading-requires-3 : tie.Need-reading-requires-3
+reading-requires-3 c κs = search needs
+
+cast-g : tie.Need-cast-g
+cast-g c = search needs
+
+returns : tie.Need-returns
+returns c = search names-laws
+
+pub meanings-spec : {M : Type 1} → statement M
+meanings-spec =
+    tie.close
+    (tie.spec
+    sub-dot
+    cast-dot
+    reading-requires
+    reading-requires-2
+    reading-requires-3
+    cast-g
+    returns)
