@@ -12,7 +12,7 @@ use Rattle.definitions.specs.Limits.{maxTableNodes, lentShort, accepted, ruleLi
 use Rattle.definitions.specs.Bounded.{pick, orElse}
 use Rattle.definitions.specs.Nodes as words
 use Rattle.definitions.specs.Nodes.{nodeWord, nodeOf}
-use Rattle.definitions.specs.Tables.{Rule, nodesIn, nodeRefusal, nodesRefusal, ruleHeadingRefusal, ruleRefusal}
+use Rattle.definitions.specs.Tables.{Rule, nodesIn, nodeRefusal, nodesRefusal, ruleHeadingRefusal, ruleRefusal, ruleOf}
 use Rattle.definitions.specs.Rewriting as table
 use Rattle.definitions.specs.Rewriting.{emit, closing, closed, lastImage, rewriting}
 use Rattle.definitions.specs.Operations.{answer, left, rewrittenOf, sizeRefusal, rewriteNumber, rewriteAnswer, rewriteTable}
@@ -27,7 +27,7 @@ use Rattle.rewriting.specs.declared.rewrite.Tops.{Tops}
 use Rattle.rewriting.specs.Emission.{Room, Emitted, Holds}
 use Rattle.rewriting.specs.Parts.{meant}
 use Rattle.rewriting.specs.Drafts.{Ruled, Drawn, draftOf}
-use Rattle.rewriting.specs.Answers.{answerOf, Tabled, ruleOf, Rewrote}
+use Rattle.rewriting.specs.Answers.{answerOf, Tabled, Rewrote}
 use Rattle.rewriting.proofs.EmitLaws.{holds-more, map-length, seam-take, seam-drop}
 
 module _ (short : Bool) (mask count : ℕ) (ws o : List ℕ) (d : Draft) (o′ : List ℕ) (w : Drawn short mask count ws o d o′) where

@@ -1,5 +1,5 @@
 -- The images of one node of a rule: one law for each return.
-use mathlib.Core.Bool.{Bool, true, false, not, _&&_, _||_, cond}
+use mathlib.Core.Bool.{Bool, true, false, not, _&&_, _||_}
 use mathlib.Core.List.{List, [], _∷_}
 use mathlib.Core.Path.{_≡_, refl}
 use Prim.Native.Nat.{ℕ, _+_, _-_, _<_, _≤_, zero-le}
@@ -30,10 +30,12 @@ reading-strong weak i e = rw e
 pub ruleset reading-laws = (reading-weak, reading-strong)
 
 module _ (c : Bool) (es fs : List Emit) (o o′ : List ℕ) (at r : ℕ) where
-  pub choice-yes : c ≡ true → Emitted es o at r o′ → Emitted (cond c es fs) o at r o′
+  pub choice-yes : c ≡ true → Emitted es o at r o′ → Emitted (pick c es fs) o at r o′
+  unfolding pick
   choice-yes e h = rw e h
 
-  pub choice-no : c ≡ false → Emitted fs o at r o′ → Emitted (cond c es fs) o at r o′
+  pub choice-no : c ≡ false → Emitted fs o at r o′ → Emitted (pick c es fs) o at r o′
+  unfolding pick
   choice-no e h = rw e h
 
 pub ruleset choice-laws = (choice-yes, choice-no)
@@ -51,7 +53,7 @@ module _ (short own weak : Bool) (P Q : table.Image) (x a k : ℕ) (o o′ : Lis
   unfolding kindOf pick partOf
   part-true e h = rw e h
 
-  pub part-atom : k ≡ 1 → Emitted (cond own (itself weak Atom a) (foreignAtom weak x a)) o at r o′ → Part
+  pub part-atom : k ≡ 1 → Emitted (pick own (itself weak Atom a) (foreignAtom weak x a)) o at r o′ → Part
   unfolding kindOf pick partOf
   part-atom e h = rw e h
 
@@ -63,12 +65,12 @@ module _ (short own weak : Bool) (P Q : table.Image) (x a k : ℕ) (o o′ : Lis
   unfolding kindOf pick partOf
   part-or u v e f g h = rw (e, ← f, ← g) h
 
-  pub part-next : (u : ℕ) → k ≡ 4 → u ≡ imageOf weak P → Emitted (cond (short && P .tolerant) (shortNext weak u) (plainNext weak u)) o at r o′ → Part
+  pub part-next : (u : ℕ) → k ≡ 4 → u ≡ imageOf weak P → Emitted (pick (short && P .tolerant) (shortNext weak u) (plainNext weak u)) o at r o′ → Part
   unfolding kindOf pick partOf
   part-next u e f h = rw (e, ← f) h
 
   pub part-until : (u v : ℕ) → k ≡ 5 → u ≡ imageOf weak P → v ≡ imageOf weak Q
-      → Emitted (cond (short && (P .tolerant && Q .tolerant)) (shortUntil weak u v) (plainUntil weak at u v)) o at r o′ → Part
+      → Emitted (pick (short && (P .tolerant && Q .tolerant)) (shortUntil weak u v) (plainUntil weak at u v)) o at r o′ → Part
   unfolding kindOf pick partOf
   part-until u v e f g h = rw (e, ← f, ← g) h
 
@@ -109,9 +111,10 @@ tolerance own p q =
     refl (or-no own) (or-no p) refl refl refl refl refl refl refl
     (λ k h. rw (ne-eqb k 0 (λ e. omega arith), ne-eqb k 5 (λ e. omega arith), ne-eqb k 1 (λ e. omega arith), ne-eqb k 2 (λ e. omega arith), ne-eqb k 3 (λ e. omega arith)))
 
-cond-most : (c : Bool) (es fs : List Emit) (m : ℕ) → length es ≤ m → length fs ≤ m → length (cond c es fs) ≤ m
-cond-most true es fs m p q = p
-cond-most false es fs m p q = q
+pick-most : (c : Bool) (es fs : List Emit) (m : ℕ) → length es ≤ m → length fs ≤ m → length (pick c es fs) ≤ m
+unfolding pick
+pick-most true es fs m p q = p
+pick-most false es fs m p q = q
 
 by-weak : (weak : Bool) (f : Bool → List Emit) (m : ℕ) → length (f true) ≤ m → length (f false) ≤ m → length (f weak) ≤ m
 by-weak true f m p q = p
@@ -122,14 +125,14 @@ pub part-most : (short own weak : Bool) (P Q : table.Image) (x g a : ℕ) (K : K
 unfolding partOf
 part-most short own weak P Q x g a True = by-weak weak (λ w. itself w True 0) 6 (omega arith) (omega arith)
 part-most short own weak P Q x g a Atom =
-    cond-most own (itself weak Atom a) (foreignAtom weak x a) 6 (by-weak weak (λ w. itself w Atom a) 6 (omega arith) (omega arith)) (by-weak weak (λ w. foreignAtom w x a) 6 (omega arith) (omega arith))
+    pick-most own (itself weak Atom a) (foreignAtom weak x a) 6 (by-weak weak (λ w. itself w Atom a) 6 (omega arith) (omega arith)) (by-weak weak (λ w. foreignAtom w x a) 6 (omega arith) (omega arith))
 part-most short own weak P Q x g a Not = omega arith
 part-most short own weak P Q x g a Or = omega arith
 part-most short own weak P Q x g a Next =
-    cond-most (short && P .tolerant) (shortNext weak (imageOf weak P)) (plainNext weak (imageOf weak P)) 6
+    pick-most (short && P .tolerant) (shortNext weak (imageOf weak P)) (plainNext weak (imageOf weak P)) 6
     (by-weak weak (λ w. shortNext w (imageOf weak P)) 6 (omega arith) (omega arith)) (by-weak weak (λ w. plainNext w (imageOf weak P)) 6 (omega arith) (omega arith))
 part-most short own weak P Q x g a Until =
-    cond-most (short && (P .tolerant && Q .tolerant)) (shortUntil weak (imageOf weak P) (imageOf weak Q)) (plainUntil weak g (imageOf weak P) (imageOf weak Q)) 6
+    pick-most (short && (P .tolerant && Q .tolerant)) (shortUntil weak (imageOf weak P) (imageOf weak Q)) (plainUntil weak g (imageOf weak P) (imageOf weak Q)) 6
     (by-weak weak (λ w. shortUntil w (imageOf weak P) (imageOf weak Q)) 6 (omega arith) (omega arith))
     (by-weak weak (λ w. plainUntil w g (imageOf weak P) (imageOf weak Q)) 6 (omega arith) (omega arith))
 part-most short own weak P Q x g a Prev = omega arith

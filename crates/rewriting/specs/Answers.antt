@@ -4,7 +4,7 @@ use mathlib.Core.List.{List, [], _∷_}
 use mathlib.Core.Path.{_≡_}
 use Prim.Native.Nat.{ℕ, _≤_}
 use Rattle.definitions.specs.Limits.{accepted, maxTableNodes}
-use Rattle.definitions.specs.Tables.{Rule, nodesIn}
+use Rattle.definitions.specs.Tables.{Rule, nodesIn, ruleOf}
 use Rattle.definitions.specs.Rewriting.{rewriting}
 use Rattle.definitions.specs.Operations.{Answer, rewriteAnswer, rewriteTable}
 use Rattle.rewriting.specs.declared.rewrite.Rewriting.{Rewriting}
@@ -23,10 +23,6 @@ pub record Tabled (short : Bool) (mask count : ℕ) (ws o : List ℕ) (r : Tops)
   pub weak : r .weak ≡ (rewriting short mask (nodesIn count ws)) .weakTop
   pub strong : r .strong ≡ (rewriting short mask (nodesIn count ws)) .strongTop
   pub low : r .count ≤ maxTableNodes
-
--- the rule as tables
-abbrev pub ruleOf : ℕ → ℕ → List ℕ → Rule
-ruleOf controller count nodes = record { controller = controller; count = count; nodes = nodes }
 
 -- the whole answer and the whole lent table, on every input: "rewrite plain or short (rule and own mask, any 32 bits)"
 pub record Rewrote (short : Bool) (controller count : ℕ) (nodes : List ℕ) (mask : ℕ) (entry : List ℕ) (r : Rewriting) (exit : List ℕ) : Type 0 where

@@ -1,7 +1,7 @@
 // The images of one node of a rule, from the images of its operands.
-ghost use mathlib.Core.Bool.{cond};
 ghost use mathlib.Core.Path.{_≡_};
 ghost use Prim.Native.Nat.{_<_};
+ghost use Rattle.definitions.specs.Bounded.{pick};
 ghost use Rattle.definitions.specs.Nodes.{Atom, kindOf, operandSpan};
 ghost use Rattle.definitions.specs.Rewriting.{imageOf, itself, foreignAtom, plainNext, plainUntil, shortNext, shortUntil};
 ghost use Rattle.formulas.specs.Meaning.{meaning};
@@ -31,7 +31,7 @@ fn reading(i: Image, weak: bool) -> u16
 // An own or a foreign atom.
 fn atom(table: &mut [u32], at: usize, weak: bool, own: bool, x: u16, a: u16) -> usize
     requires { ⌜ (Room 3 at (now table)) × (x < operandSpan) × (a < operandSpan) ⌝ }
-    ensures { λ r. ⌜ Emitted (cond own (itself weak Atom a) (foreignAtom weak x a)) (now (table .entry)) at r (now (table .exit)) ⌝ }
+    ensures { λ r. ⌜ Emitted (pick own (itself weak Atom a) (foreignAtom weak x a)) (now (table .entry)) at r (now (table .exit)) ⌝ }
 {
     if own {
         return lists::own_atom(table, at, weak, a);
@@ -42,7 +42,7 @@ fn atom(table: &mut [u32], at: usize, weak: bool, own: bool, x: u16, a: u16) -> 
 // A short or a plain next.
 fn next(table: &mut [u32], at: usize, weak: bool, brief: bool, a: u16) -> usize
     requires { ⌜ (Room 5 at (now table)) × (a < operandSpan) ⌝ }
-    ensures { λ r. ⌜ Emitted (cond brief (shortNext weak a) (plainNext weak a)) (now (table .entry)) at r (now (table .exit)) ⌝ }
+    ensures { λ r. ⌜ Emitted (pick brief (shortNext weak a) (plainNext weak a)) (now (table .entry)) at r (now (table .exit)) ⌝ }
 {
     if brief {
         return lists::short_next(table, at, weak, a);
@@ -53,7 +53,7 @@ fn next(table: &mut [u32], at: usize, weak: bool, brief: bool, a: u16) -> usize
 // A short or a plain until.
 fn until(table: &mut [u32], at: usize, weak: bool, brief: bool, a: u16, b: u16) -> usize
     requires { ⌜ (Room 6 at (now table)) × (a < operandSpan) × (b < operandSpan) ⌝ }
-    ensures { λ r. ⌜ Emitted (cond brief (shortUntil weak a b) (plainUntil weak at a b)) (now (table .entry)) at r (now (table .exit)) ⌝ }
+    ensures { λ r. ⌜ Emitted (pick brief (shortUntil weak a b) (plainUntil weak at a b)) (now (table .entry)) at r (now (table .exit)) ⌝ }
 {
     if brief {
         return lists::short_until(table, at, weak, a, b);
