@@ -6,14 +6,14 @@ use lib.ListN.{length, getD, replicate}
 use Rattle.definitions.specs.Limits.{maxTableNodes}
 use Rattle.definitions.specs.Bounded.{pick, bitOf, orElse}
 use Rattle.definitions.specs.Nodes.{Node, kindOf, nodeWord}
-use Rattle.definitions.specs.Tables.{Rule, nodeRefusal, nodesRefusal, ruleHeadingRefusal, ruleRefusal, topsRefusal, tableRefusal}
-use Rattle.definitions.specs.Recordings.{Recording, stateOf, maskOf, stateRefusal, maskRefusal, masksRefusal, statesRefusal, recordingHeadingRefusal, recordingLinesRefusal, recordingRefusal}
-use Rattle.definitions.specs.Readings.{whole, verdict, rowsOf}
+use Rattle.definitions.specs.Tables.{Rule, ruleOf, nodeRefusal, nodesRefusal, ruleHeadingRefusal, ruleRefusal, topsRefusal, tableRefusal}
+use Rattle.definitions.specs.Recordings.{Recording, stateOf, maskOf, stateRefusal, maskRefusal, masksRefusal, statesRefusal, recordingHeadingRefusal, recordingLinesRefusal, recordingRefusal, controllerRefusal, recordingOf}
+use Rattle.definitions.specs.Readings.{whole, verdict, verdicts, rowsOf}
 use Rattle.definitions.specs.Rewriting.{rewriting}
 use Rattle.definitions.specs.Lines.{before, onParsed, decimalOn, decimal, hexDigit, hexOn, hexadecimal, same, letters, twoFields, worded, digitsBy, digits, nextRefusal}
 use Rattle.definitions.specs.RuleText.{wordKind, unknownForm, operandsForm, nodeForm, nodeLineRefusal, nodeLineWord, scanNodes, ruleHeading, ruleHeadingLineRefusal, scanRule, nodeText, nodesText, ruleText}
 use Rattle.definitions.specs.RecordingText.{recordingHeading, maskForm, stateForm, recordingHeadingLineRefusal, maskLineRefusal, stateLineRefusal, scanMasks, scanStates, scanRecording, jointNumber, jointPart}
-use Rattle.definitions.specs.Operations.{answer, left, controllerRefusal, judgeLocalNumber, judgeLocalAnswer, verdicts, rewrittenOf, sizeRefusal, rewriteNumber, rewriteAnswer, rewriteTable, judgeRecordingNumber, judgeRecordingAnswer, judgeRecordingRows, projectNumber, projectAnswer, projectPlaces}
+use Rattle.definitions.specs.Operations.{answer, left, judgeLocalNumber, judgeLocalAnswer, verdictValues, rewrittenOf, sizeRefusal, rewriteNumber, rewriteAnswer, rewriteTable, judgeRecordingNumber, judgeRecordingAnswer, judgeRecordingRows, projectNumber, projectAnswer, projectPlaces}
 use Rattle.definitions.specs.Operations.{readRuleNumber, readRuleAnswer, readRuleNodes, writeRuleNumber, writeRuleAnswer, writeRuleText, readRecordingNumber, readRecordingAnswer, readRecordingMasks, readRecordingStates}
 use Rattle.definitions.specs.Operations.{readJointNumber, readJointHeading, readJointNodes, readJointMasks, readJointStates, readJointPart}
 use Rattle.definitions.specs.Program.{ruleLength, afterSplit, refusedText, localText, ownText, rewrittenText, judgedText, textsOutput, programOutput}
@@ -25,7 +25,7 @@ computed = true
 
 -- a recording of as many states as are given
 abbrev pub recorded : List ℕ → List ℕ → Recording
-recorded masks states = record { controllers = length masks; count = length states; masks = masks; states = states }
+recorded masks states = recordingOf (length masks) (length states) masks states
 
 -- "R is that recording, controller 0"
 abbrev pub R : Recording
@@ -41,7 +41,7 @@ Z = still 0
 
 -- a rule of controller c
 abbrev pub ruleFor : ℕ → List Node → Rule
-ruleFor c ns = record { controller = c; count = length ns; nodes = map nodeWord ns }
+ruleFor c ns = ruleOf c (length ns) (map nodeWord ns)
 
 -- a rule of controller 0
 abbrev pub rule : List Node → Rule
@@ -62,7 +62,7 @@ pub record Judged : Type 0 where
 abbrev pub rewritten : Bool → Rule → Recording → List ℕ
 rewritten short r M =
     let w = rewrittenOf short r (maskOf M (r .controller)) in
-    length (w .nodes) ∷ verdicts (whole M (r .controller)) (w .nodes) (w .weakTop) (w .strongTop)
+    length (w .nodes) ∷ verdictValues (verdicts (whole M (r .controller)) (w .nodes) (w .weakTop) (w .strongTop))
 
 abbrev pub judged : Rule → Recording → Judged
 judged r M = record { own = (judgeLocalAnswer r M) .values; plain = rewritten false r M; short = rewritten true r M }

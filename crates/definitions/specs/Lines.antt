@@ -1,6 +1,6 @@
 -- "Texts": bytes, lines, fields, decimal and hexadecimal forms, and printed numbers.
 use Prim.Native.Nat.{ℕ, zero, suc, _+_, _-_, _*_, _/_, _%_}
-use mathlib.Core.Bool.{Bool, true, false, not, _&&_, _||_, cond}
+use mathlib.Core.Bool.{Bool, true, false, not, _&&_, _||_}
 use mathlib.Core.List.{List, [], _∷_, _++_}
 use Prim.Native.String.{String, len, charAt}
 use Prim.Native.Char.{code}
@@ -32,7 +32,7 @@ carriageReturn = 13
 -- how many bytes stand before the first byte b; all of them where there is none
 unfoldable pub before : ℕ → List ℕ → ℕ
 before b [] = 0
-before b (x ∷ t) = cond (eqb x b) 0 (suc (before b t))
+before b (x ∷ t) = pick (eqb x b) 0 (suc (before b t))
 
 -- nothing is left of a text
 abbrev pub isEmpty : List ℕ → Bool

@@ -10,7 +10,7 @@ use Rattle.definitions.specs.Nodes.{Node}
 use Rattle.definitions.specs.Tables.{nodesIn}
 use Rattle.definitions.specs.Recordings.{Recording, maskOf}
 use Rattle.definitions.specs.Projection.{localTrace}
-use Rattle.definitions.specs.Readings.{Trace, local, whole, verdict}
+use Rattle.definitions.specs.Readings.{Trace, whole, Verdicts, verdicts, localVerdicts}
 use Rattle.definitions.specs.Rewriting.{Rewritten, rewriting}
 use Rattle.definitions.specs.Lines.{bytes, tab, newline, before, isClosed, lineOf, restOf, same, digits}
 use Rattle.definitions.specs.RuleText.{RuleScan, scanRule}
@@ -70,8 +70,8 @@ abbrev pub bytesOf : List ℕ → List ℕ → Part → List ℕ
 bytesOf rule recording p = take (p .count) (drop (p .from) (pick (p .ofRule) rule recording))
 
 -- "(weak, strong ..)", closed by byte 10
-abbrev pub verdictsText : Trace → List Node → ℕ → ℕ → List ℕ
-verdictsText t ns weakTop strongTop = yesNo (verdict t ns weakTop true) ++ (tab ∷ (yesNo (verdict t ns strongTop false) ++ (newline ∷ [])))
+abbrev pub verdictsText : Verdicts → List ℕ
+verdictsText v = yesNo (v .weak) ++ (tab ∷ (yesNo (v .strong) ++ (newline ∷ [])))
 
 -- "`local 3` (places)"
 unfoldable pub localText : ℕ → List ℕ
@@ -79,11 +79,11 @@ localText L = localWord ++ (tab ∷ (digits L ++ (newline ∷ [])))
 
 -- "`own yes no` (weak, strong on the local trace)"
 unfoldable pub ownText : List Node → ℕ → List ℕ → List ℕ
-ownText ns mask places = ownWord ++ (tab ∷ verdictsText (local mask places) ns (length ns - 1) (length ns - 1))
+ownText ns mask places = ownWord ++ (tab ∷ verdictsText (localVerdicts ns mask places))
 
 -- "`plain 55 yes no` (nodes, weak, strong)", and so for `short`
 unfoldable pub rewrittenText : List ℕ → Trace → Rewritten → List ℕ
-rewrittenText word t w = word ++ (tab ∷ (digits (length (w .nodes)) ++ (tab ∷ verdictsText t (w .nodes) (w .weakTop) (w .strongTop))))
+rewrittenText word t w = word ++ (tab ∷ (digits (length (w .nodes)) ++ (tab ∷ verdictsText (verdicts t (w .nodes) (w .weakTop) (w .strongTop)))))
 
 -- what is printed of an accepted rule and recording; "for 12 and 14 an empty line field"
 unfoldable pub judgedText : ℕ → List Node → Recording → List ℕ

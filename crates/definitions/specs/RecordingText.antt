@@ -3,10 +3,10 @@ use Prim.Native.Nat.{ℕ, zero, suc, _+_, _-_}
 use mathlib.Core.Bool.{Bool, true, false, not, _&&_, _||_}
 use mathlib.Core.List.{List, [], _∷_, _++_}
 use lib.ListN.{length}
-use lib.Dec.{eqb, ltb}
+use lib.Dec.{eqb}
 use Rattle.definitions.specs.Limits.{accepted, recordingForm, recordingLines, noController, lentShort}
 use Rattle.definitions.specs.Bounded.{pick}
-use Rattle.definitions.specs.Recordings.{stateOf, stateRefusal, maskRefusal, recordingHeadingRefusal}
+use Rattle.definitions.specs.Recordings.{stateOf, stateRefusal, maskRefusal, recordingHeadingRefusal, controllerRefusal}
 use Rattle.definitions.specs.Lines.{bytes, newline, before, isEmpty, lineOf, restOf, Parsed, formed, malformed, onParsed, decimal, hexadecimal, Heading, twoFields, worded, nextRefusal, Scan, stop, more}
 use Rattle.definitions.specs.RuleText.{RuleScan, scanRule}
 
@@ -115,12 +115,12 @@ lineIn ofRule text rest = record { ofRule = ofRule; from = length text - length 
 abbrev pub emptyStart : Part
 emptyStart = record { ofRule = true; from = 0; count = 0 }
 
--- "The joint reading takes the rule text, then the recording text"; "joining: 11 rule's controller not below C"
+-- "The joint reading takes the rule text, then the recording text"; then "joining"
 unfoldable pub jointNumber : List ℕ → List ℕ → ℕ
 jointNumber rule recording =
     pick (eqb ((scanRule rule) .number) accepted)
     (pick (eqb ((scanRecording recording) .number) accepted)
-    (pick (ltb ((scanRule rule) .controller) ((scanRecording recording) .controllers)) accepted noController)
+    (controllerRefusal ((scanRecording recording) .controllers) ((scanRule rule) .controller))
     ((scanRecording recording) .number))
     ((scanRule rule) .number)
 

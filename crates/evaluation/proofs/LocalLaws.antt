@@ -10,11 +10,11 @@ use lib.Seq.{take-at, drop-at, drop-drop, take-suc, set-split, length-take-le}
 use borrow.Author.Needs.{needs}
 use Rattle.definitions.specs.Limits.{accepted, maxStates, maxRuleNodes, pairWords}
 use Rattle.definitions.specs.Bounded.{orElse}
-use Rattle.definitions.specs.Tables.{Rule, ruleRefusal, nodesIn}
-use Rattle.definitions.specs.Recordings.{Recording, maskOf, recordingRefusal}
+use Rattle.definitions.specs.Tables.{Rule, ruleRefusal, nodesIn, ruleOf}
+use Rattle.definitions.specs.Recordings.{Recording, recordingOf, maskOf, recordingRefusal, controllerRefusal}
 use Rattle.definitions.specs.Projection.{localTrace}
-use Rattle.definitions.specs.Readings.{local, rowsOf, pairsWords}
-use Rattle.definitions.specs.Operations.{answer, controllerRefusal, localVerdicts, judgeLocalNumber, judgeLocalAnswer}
+use Rattle.definitions.specs.Readings.{local, rowsOf, pairsWords, localVerdicts}
+use Rattle.definitions.specs.Operations.{verdictValues, answer, judgeLocalNumber, judgeLocalAnswer}
 use Rattle.theorems.proofs.Choice.{or-else-none}
 use Rattle.theorems.proofs.NodeLaws.{accepted-rule}
 use Rattle.theorems.proofs.RuleNodes.{rule-some, rule-few}
@@ -30,7 +30,7 @@ use Rattle.evaluation.proofs.TableLaws.{nodes-length}
 use Rattle.evaluation.proofs.CheckedNodes.{nodes-fit, nodes-there}
 use Rattle.evaluation.proofs.TraceLaws.{local-rows}
 use Rattle.evaluation.proofs.TopLaws.{topped, tops-answer, same-verdicts}
-use Rattle.evaluation.proofs.WholeLaws.{recordingOf, answer-refused, accepted-controller}
+use Rattle.evaluation.proofs.WholeLaws.{answer-refused, accepted-controller}
 
 -- ---- places widened
 
@@ -116,13 +116,10 @@ module _ (c count : ℕ) (nodes : List ℕ) (mask n : ℕ) (states words places 
 
 -- ---- the check, and the answers
 
-abbrev pub ruleOf : ℕ → ℕ → List ℕ → Rule
-ruleOf controller count nodes = record { controller = controller; count = count; nodes = nodes }
-
 pub local-refused : (r : Rule) (R : Recording) (e : ℕ) → e ≡ orElse (ruleRefusal r) (traceRefusal R (r .controller)) → (e ≡ 0 → ⊥) → answerOf (Refused e) ≡ judgeLocalAnswer r R
 unfolding judgeLocalAnswer judgeLocalNumber
 local-refused r R e v some =
-    rw (← v) (answer-refused e (localVerdicts (nodesIn (r .count) (r .nodes)) (maskOf R (r .controller)) (localTrace R (r .controller))) some)
+    rw (← v) (answer-refused e (verdictValues (localVerdicts (nodesIn (r .count) (r .nodes)) (maskOf R (r .controller)) (localTrace R (r .controller)))) some)
 
 pub local-ready : (controller count : ℕ) (nodes : List ℕ) (C n : ℕ) (masks states words places rows : List ℕ) (e : ℕ)
     → e ≡ orElse (ruleRefusal (ruleOf controller count nodes)) (traceRefusal (recordingOf C n masks states) controller) → e ≡ 0
@@ -132,11 +129,11 @@ local-ready controller count nodes C n masks states words places rows e v z w p 
     let r : Rule = ruleOf controller count nodes in
     let R : Recording = recordingOf C n masks states in
     let a = or-else-none (ruleRefusal r) (traceRefusal R controller) (sym v ∙ z) in
-    let b = or-else-none (recordingRefusal R) (controllerRefusal R controller) (a .1) in
+    let b = or-else-none (recordingRefusal R) (controllerRefusal C controller) (a .1) in
     record {
       some = rule-some r (a .0);
       rule = (accepted-rule r (a .0)) .1;
-      projectable = projectable R controller words (b .0) (accepted-controller R controller (b .1)) (omega arith);
+      projectable = projectable R controller words (b .0) (accepted-controller C controller (b .1)) (omega arith);
       wordsRoom = w;
       placesRoom = p;
       rowsRoom = omega (arith, rule-few r (a .0));
@@ -147,11 +144,11 @@ pub local-judged : (r : Rule) (R : Recording) (e mask : ℕ) (v : Verdicts) → 
 unfolding judgeLocalAnswer judgeLocalNumber
 local-judged r R e mask v x z m a =
     let p = or-else-none (ruleRefusal r) (traceRefusal R (r .controller)) (sym x ∙ z) in
-    let q = or-else-none (recordingRefusal R) (controllerRefusal R (r .controller)) (p .1) in
-    let own : mask ≡ maskOf R (r .controller) = m ∙ own-mask R (r .controller) (accepted-controller R (r .controller) (q .1)) in
+    let q = or-else-none (recordingRefusal R) (controllerRefusal (R .controllers) (r .controller)) (p .1) in
+    let own : mask ≡ maskOf R (r .controller) = m ∙ own-mask R (r .controller) (accepted-controller (R .controllers) (r .controller) (q .1)) in
     let same : placesIn (R .count) mask (r .controller) (R .states) ≡ localTrace R (r .controller) =
     ap (λ (w : ℕ). placesIn (R .count) w (r .controller) (R .states)) own ∙ local-places R (r .controller) in
-    a ∙ ap₂ answer (sym z ∙ x) (ap₂ (localVerdicts (nodesIn (r .count) (r .nodes))) own same)
+    a ∙ ap₂ answer (sym z ∙ x) (ap₂ (λ (m : ℕ) (places : List ℕ). verdictValues (localVerdicts (nodesIn (r .count) (r .nodes)) m places)) own same)
 
 pub ruleset widen-laws = (needs, widening-none, widening-length, widening-room, widening-more, widening-done)
 

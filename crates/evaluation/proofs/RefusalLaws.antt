@@ -1,5 +1,5 @@
 -- Refusals in order.
-use mathlib.Core.Path.{_≡_, refl, sym, _∙_}
+use mathlib.Core.Path.{_≡_, sym, _∙_}
 use Prim.Native.Nat.{ℕ, _<_}
 use native.Mathlib.Omega.{arith}
 use borrow.Author.Needs.{needs}
@@ -7,8 +7,7 @@ use borrow.Author.Tests.{eq-eqb, ne-eqb}
 use Rattle.definitions.specs.Limits.{lentShort, tooManyNodes}
 use Rattle.definitions.specs.Bounded.{pick, orElse}
 use Rattle.definitions.specs.Tables.{Table, tableRefusal}
-use Rattle.definitions.specs.Recordings.{Recording, recordingRefusal}
-use Rattle.definitions.specs.Operations.{controllerRefusal}
+use Rattle.definitions.specs.Recordings.{Recording, recordingRefusal, controllerRefusal}
 use Rattle.theorems.proofs.RefusalBounds.{or-else-low, table-low, recording-low, controller-low}
 use Rattle.evaluation.specs.Judging.{traceRefusal}
 
@@ -22,8 +21,8 @@ pub refuse-second : (z r a b : ℕ) → z ≡ a → z ≡ 0 → r ≡ b → r �
 unfolding orElse pick
 refuse-second z r a b e n s = rw (eq-eqb a 0 (sym e ∙ n)) s
 
-pub refuse-controller : (R : Recording) (c z r : ℕ) → z ≡ recordingRefusal R → z ≡ 0 → ((S : Recording) → S .controllers ≡ R .controllers → r ≡ controllerRefusal S c) → r ≡ traceRefusal R c
-refuse-controller R c z r e n f = refuse-second z r (recordingRefusal R) (controllerRefusal R c) e n (f R refl)
+pub refuse-controller : (R : Recording) (c z r : ℕ) → z ≡ recordingRefusal R → z ≡ 0 → r ≡ controllerRefusal (R .controllers) c → r ≡ traceRefusal R c
+refuse-controller R c z r e n f = refuse-second z r (recordingRefusal R) (controllerRefusal (R .controllers) c) e n f
 
 pub ruleset refusal-laws = (needs, refuse-first, refuse-second, refuse-controller)
 
@@ -33,5 +32,5 @@ pub judge-low : (t : Table) (R : Recording) (c : ℕ) → orElse (tableRefusal t
 judge-low t R c =
     let low : orElse (tableRefusal t) (traceRefusal R c) < tooManyNodes
     = or-else-low (tableRefusal t) (traceRefusal R c) tooManyNodes (table-low t)
-    (or-else-low (recordingRefusal R) (controllerRefusal R c) tooManyNodes (recording-low R) (controller-low R c)) in
+    (or-else-low (recordingRefusal R) (controllerRefusal (R .controllers) c) tooManyNodes (recording-low R) (controller-low (R .controllers) c)) in
     omega arith

@@ -9,8 +9,8 @@ use borrow.Author.Needs.{needs}
 use Rattle.definitions.specs.Limits.{pairWords, accepted}
 use Rattle.definitions.specs.Nodes.{Node}
 use Rattle.definitions.specs.Tables.{nodesIn}
-use Rattle.definitions.specs.Readings.{Trace, Rows, noRows, rowsOf, verdict, pairsWords}
-use Rattle.definitions.specs.Operations.{answer, verdicts}
+use Rattle.definitions.specs.Readings.{Trace, Rows, noRows, rowsOf, verdict, pairsWords, verdicts}
+use Rattle.definitions.specs.Operations.{verdictValues, answer}
 use Rattle.rows.specs.declared.row.Row.{Row}
 use Rattle.mark_words.specs.Marks.{markAt}
 use Rattle.rows.specs.Marks.{marks, Whole, Made}
@@ -69,12 +69,13 @@ module _ (nodes : List ℕ) (count : ℕ) (states : List ℕ) (n c own : ℕ) (e
     strong = strong-made .whole;
   }
 
-  pub tops-answer : (r : Verdicts) → r ≡ topsIn l weakTop strongTop → answerOf r ≡ answer accepted (verdicts (traceOf states n c own) (nodesIn count nodes) weakTop strongTop)
+  pub tops-answer : (r : Verdicts) → r ≡ topsIn l weakTop strongTop → answerOf r ≡ answer accepted (verdictValues (verdicts (traceOf states n c own) (nodesIn count nodes) weakTop strongTop))
   unfolding answerOf topsIn verdict
   tops-answer r e = rw (e, weak-made .marked, strong-made .marked)
 
 -- the same rows give the same verdicts
-pub same-verdicts : (t u : Trace) (ns : List Node) (weakTop strongTop : ℕ) → rowsOf t ns ≡ rowsOf u ns → verdicts t ns weakTop strongTop ≡ verdicts u ns weakTop strongTop
+pub same-verdicts : (t u : Trace) (ns : List Node) (weakTop strongTop : ℕ) → rowsOf t ns ≡ rowsOf u ns →
+    verdictValues (verdicts t ns weakTop strongTop) ≡ verdictValues (verdicts u ns weakTop strongTop)
 unfolding verdict
 same-verdicts t u ns weakTop strongTop e = rw e
 

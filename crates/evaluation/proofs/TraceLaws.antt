@@ -7,7 +7,7 @@ use native.Mathlib.Omega.{arith}
 use lib.ListN.{length, take, getD, replicate, getD-replicate, List·getD-append}
 use lib.Seq.{getD-take}
 use Rattle.definitions.specs.Limits.{atomCount}
-use Rattle.definitions.specs.Bounded.{bitOf, tabulate}
+use Rattle.definitions.specs.Bounded.{pick, bitOf, tabulate}
 use Rattle.definitions.specs.Nodes.{Kind, True, Atom, Not, Or, Next, Until, Prev, Since, Run, End, Unknown, Node}
 use Rattle.definitions.specs.Tables.{isRewritten, nodesRefusal, nodesIn}
 use Rattle.definitions.specs.Recordings.{Recording, wordAt, runsAt}
@@ -88,6 +88,7 @@ module _ (R : Recording) (c : ℕ) where
   states = R .states
 
   atom-recorded : (a : ℕ) → a < atomCount → (weak : Bool) (i : ℕ) → i < R .count → bitOf (wordAt R i) a ≡ stateAtom states (R .count) everyAtom a weak i
+  unfolding pick
   atom-recorded a h weak i l =
       bit-low (getD (take (R .count) states) i 0) atomCount a h ∙ rw (every-own a h, getD-take (R .count) states i 0 l)
 

@@ -2,7 +2,7 @@
 use mathlib.Core.Path.{_≡_, refl, sym, ap, _∙_}
 use mathlib.Core.Bool.{true, _&&_}
 use mathlib.Core.List.{List, _++_}
-use Prim.Native.Nat.{ℕ, _+_, _*_, _-_, _<_, _≤_}
+use Prim.Native.Nat.{ℕ, _*_, _<_, _≤_}
 use native.Mathlib.Omega.{arith}
 use lib.Dec.{ltb, leb}
 use lib.ListN.{length, drop, length-take}
@@ -10,11 +10,11 @@ use borrow.Author.Needs.{needs}
 use borrow.Author.Tests.{ltb-true, leb-true, lt-ltb, le-ltb, ne-eqb}
 use Rattle.definitions.specs.Limits.{accepted, lentShort, noController, ruleLimits, maxRowWords, maxTableNodes, pairWords}
 use Rattle.definitions.specs.Bounded.{pick, orElse, within}
-use Rattle.definitions.specs.Tables.{Table, nodesRefusal, topsRefusal, tableRefusal, nodesIn}
-use Rattle.definitions.specs.Recordings.{Recording, recordingRefusal}
-use Rattle.definitions.specs.Readings.{whole, rowsOf, pairsWords}
+use Rattle.definitions.specs.Tables.{Table, nodesRefusal, topsRefusal, tableRefusal, nodesIn, tableOf}
+use Rattle.definitions.specs.Recordings.{Recording, recordingRefusal, controllerRefusal, recordingOf}
+use Rattle.definitions.specs.Readings.{whole, rowsOf, pairsWords, verdicts}
 use Rattle.definitions.specs.Operations as operations
-use Rattle.definitions.specs.Operations.{answer, tooShort, controllerRefusal, verdicts, judgeRecordingNumber, judgeRecordingAnswer, judgeRecordingRows}
+use Rattle.definitions.specs.Operations.{verdictValues, answer, tooShort, judgeRecordingNumber, judgeRecordingAnswer, judgeRecordingRows}
 use Rattle.theorems.proofs.Choice.{both-true, accept-yes, or-else-none, pick-true, pick-false}
 use Rattle.theorems.proofs.RecordingLaws.{Checked, checked}
 use Rattle.lent.specs.Space.{cleared}
@@ -78,15 +78,9 @@ accepted-table t h =
       strongBelow = ltb-true (t .strongTop) (t .count) (tops .1);
     }
 
-pub accepted-controller : (R : Recording) (c : ℕ) → controllerRefusal R c ≡ 0 → c < R .controllers
+pub accepted-controller : (C c : ℕ) → controllerRefusal C c ≡ 0 → c < C
 unfolding controllerRefusal
-accepted-controller R c h = ltb-true c (R .controllers) (accept-yes (ltb c (R .controllers)) noController (omega arith) h)
-
-abbrev pub tableOf : ℕ → List ℕ → ℕ → ℕ → Table
-tableOf count nodes weakTop strongTop = record { count = count; nodes = nodes; weakTop = weakTop; strongTop = strongTop }
-
-abbrev pub recordingOf : ℕ → ℕ → List ℕ → List ℕ → Recording
-recordingOf C n masks states = record { controllers = C; count = n; masks = masks; states = states }
+accepted-controller C c h = ltb-true c C (accept-yes (ltb c C) noController (omega arith) h)
 
 pub whole-ready : (count : ℕ) (nodes : List ℕ) (weakTop strongTop C n : ℕ) (masks states : List ℕ) (c : ℕ) (rows : List ℕ) (e : ℕ)
     → maxRowWords ≤ length rows → e ≡ orElse (tableRefusal (tableOf count nodes weakTop strongTop)) (traceRefusal (recordingOf C n masks states) c) → e ≡ 0
@@ -95,7 +89,7 @@ whole-ready count nodes weakTop strongTop C n masks states c rows e room v z =
     let t : Table = tableOf count nodes weakTop strongTop in
     let R : Recording = recordingOf C n masks states in
     let p = or-else-none (tableRefusal t) (traceRefusal R c) (sym v ∙ z) in
-    let q = or-else-none (recordingRefusal R) (controllerRefusal R c) (p .1) in
+    let q = or-else-none (recordingRefusal R) (controllerRefusal (R .controllers) c) (p .1) in
     let A : AcceptedTable t = accepted-table t (p .0) in
     let K : Checked R = checked R (q .0) in
     record {
@@ -104,7 +98,7 @@ whole-ready count nodes weakTop strongTop C n masks states c rows e room v z =
         fit = nodes-fit true count nodes (A .nodes);
         few = K .fewStates;
         there = omega (arith, K .states, length-take n states);
-        controller = omega (arith, K .fewControllers, accepted-controller R c (q .1));
+        controller = omega (arith, K .fewControllers, accepted-controller C c (q .1));
         room = omega (arith, A .few);
       };
       weakBelow = A .weakBelow;
@@ -121,7 +115,7 @@ module _ (t : Table) (R : Recording) (c : ℕ) (entry : List ℕ) where
   whole-short h =
       let number : judgeRecordingNumber t R c entry ≡ lentShort = pick-true (tooShort maxRowWords entry) lentShort (orElse (tableRefusal t) (traceRefusal R c)) (lt-ltb (length entry) maxRowWords h) in
       record {
-        answered = rw number (answer-refused lentShort (verdicts (whole R c) (nodesIn (t .count) (t .nodes)) (t .weakTop) (t .strongTop)) (λ z. omega arith));
+        answered = rw number (answer-refused lentShort (verdictValues (verdicts (whole R c) (nodesIn (t .count) (t .nodes)) (t .weakTop) (t .strongTop))) (λ z. omega arith));
         rows = rw number (left-untouched lentShort maxRowWords (pairsWords (rowsOf (whole R c) (nodesIn (t .count) (t .nodes)))) entry refl);
       }
 
@@ -133,7 +127,7 @@ module _ (t : Table) (R : Recording) (c : ℕ) (entry : List ℕ) where
     pub whole-refused : (e ≡ 0 → ⊥) → (exit : List ℕ) → exit ≡ cleared entry 0 maxRowWords → WholeJudged t R c entry (Refused e) exit
     unfolding judgeRecordingAnswer judgeRecordingRows
     whole-refused some exit x = record {
-      answered = rw number-is (answer-refused e (verdicts (whole R c) (nodesIn (t .count) (t .nodes)) (t .weakTop) (t .strongTop)) some);
+      answered = rw number-is (answer-refused e (verdictValues (verdicts (whole R c) (nodesIn (t .count) (t .nodes)) (t .weakTop) (t .strongTop))) some);
       rows = rw number-is (left-zeroed e maxRowWords (pairsWords (rowsOf (whole R c) (nodesIn (t .count) (t .nodes)))) entry entry exit refl (omega (arith, judge-low t R c)) some x);
     }
 

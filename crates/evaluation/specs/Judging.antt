@@ -7,10 +7,10 @@ use lib.ListN.{length}
 use Rattle.definitions.specs.Limits.{accepted, maxStates, maxRowWords, maxTableNodes, pairWords}
 use Rattle.definitions.specs.Bounded.{bit, orElse}
 use Rattle.definitions.specs.Tables.{Table, nodesIn, nodesRefusal}
-use Rattle.definitions.specs.Recordings.{Recording, recordingRefusal}
-use Rattle.definitions.specs.Readings.{pairsWords}
+use Rattle.definitions.specs.Recordings.{Recording, recordingRefusal, controllerRefusal}
+use Rattle.definitions.specs.Readings.{pairsWords, verdicts, localVerdicts}
 use Rattle.definitions.specs.Operations as operations
-use Rattle.definitions.specs.Operations.{Answer, answer, controllerRefusal, verdicts, localVerdicts, judgeRecordingAnswer, judgeRecordingRows}
+use Rattle.definitions.specs.Operations.{Answer, answer, verdictValues, judgeRecordingAnswer, judgeRecordingRows}
 use Rattle.mark_words.specs.Marks.{markAt}
 use Rattle.rows.specs.Marks.{marks, Whole}
 use Rattle.rows.specs.Stored.{rowAt}
@@ -27,7 +27,7 @@ answerOf (Refused number) = answer number []
 
 -- the recording, then the controller
 abbrev pub traceRefusal : Recording → ℕ → ℕ
-traceRefusal R c = orElse (recordingRefusal R) (controllerRefusal R c)
+traceRefusal R c = orElse (recordingRefusal R) (controllerRefusal (R .controllers) c)
 
 -- the weak row of one node and the strong row of another
 pub record Topped (rows : List ℕ) (weakTop strongTop : ℕ) : Type 0 where
@@ -50,7 +50,7 @@ pub record WholeReady (nodes : List ℕ) (count weakTop strongTop : ℕ) (states
 
 -- the verdicts over the states, and the rows laid with zeros after them
 pub record WholeDone (nodes : List ℕ) (count weakTop strongTop : ℕ) (states : List ℕ) (n c : ℕ) (entry : List ℕ) (r : Verdicts) (exit : List ℕ) : Type 0 where
-  pub answered : answerOf r ≡ answer accepted (verdicts (traceOf states n c everyAtom) (nodesIn count nodes) weakTop strongTop)
+  pub answered : answerOf r ≡ answer accepted (verdictValues (verdicts (traceOf states n c everyAtom) (nodesIn count nodes) weakTop strongTop))
   pub laid : exit ≡ operations.left accepted maxRowWords (pairsWords (rowsTo nodes count states n c everyAtom)) entry
 
 -- what judging the whole recording answers and leaves in lent space
@@ -69,4 +69,4 @@ pub record LocalReady (c count : ℕ) (nodes : List ℕ) (n : ℕ) (states words
 
 -- the verdicts of a rule on its local trace
 abbrev pub placedAnswer : ℕ → ℕ → List ℕ → ℕ → ℕ → List ℕ → Answer
-placedAnswer c count nodes mask n states = answer accepted (localVerdicts (nodesIn count nodes) mask (placesIn n mask c states))
+placedAnswer c count nodes mask n states = answer accepted (verdictValues (localVerdicts (nodesIn count nodes) mask (placesIn n mask c states)))

@@ -3,6 +3,8 @@ ghost use mathlib.Core.Path.{_≡_};
 ghost use mathlib.Core.List.{_++_};
 ghost use Prim.Native.Nat.{_≤_};
 ghost use lib.ListN.{length, take, drop};
+ghost use Rattle.definitions.specs.Recordings.{recordingOf};
+ghost use Rattle.definitions.specs.Tables.{ruleOf};
 ghost use Rattle.definitions.specs.Operations.{judgeLocalAnswer};
 ghost use Rattle.evaluation.specs.Judging.{answerOf, LocalReady, placedAnswer};
 use super::evaluate::evaluate;
@@ -55,7 +57,7 @@ pub fn judge_local(
     masks: &[u32],
     states: &[u64],
 ) -> Verdicts
-    ensures { λ r. ⌜ answerOf r ≡ judgeLocalAnswer (record { controller = controller; count = count; nodes = now (nodes .entry) }) (record { controllers = controllers; count = «states_count»; masks = now (masks .entry); states = now (states .entry) }) ⌝ }
+    ensures { λ r. ⌜ answerOf r ≡ judgeLocalAnswer (ruleOf controller count (now (nodes .entry))) (recordingOf controllers «states_count» (now (masks .entry)) (now (states .entry))) ⌝ }
 {
     let refusal = local_refusal(
         controller,

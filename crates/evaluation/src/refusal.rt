@@ -1,7 +1,8 @@
 // The refusals of the two judges, in order, 0 for none.
 ghost use mathlib.Core.Path.{_≡_};
+ghost use Rattle.definitions.specs.Recordings.{recordingOf};
 ghost use Rattle.definitions.specs.Bounded.{orElse};
-ghost use Rattle.definitions.specs.Tables.{ruleRefusal, tableRefusal};
+ghost use Rattle.definitions.specs.Tables.{ruleRefusal, tableRefusal, ruleOf, tableOf};
 ghost use Rattle.evaluation.specs.Judging.{traceRefusal};
 use formulas::limits::Refusal;
 use table_check::rule_refusal;
@@ -17,7 +18,7 @@ fn trace_refusal(
     states: &[u64],
     c: usize,
 ) -> u8
-    ensures { λ r. ⌜ r ≡ traceRefusal (record { controllers = controllers; count = «states_count»; masks = now (masks .entry); states = now (states .entry) }) c ⌝ }
+    ensures { λ r. ⌜ r ≡ traceRefusal (recordingOf controllers «states_count» (now (masks .entry)) (now (states .entry))) c ⌝ }
 {
     let recording = recording_refusal(controllers, states_count, masks, states);
     if recording != Refusal::NONE {
@@ -38,7 +39,7 @@ pub fn whole_refusal(
     states: &[u64],
     c: usize,
 ) -> u8
-    ensures { λ r. ⌜ r ≡ orElse (tableRefusal (record { count = count; nodes = now (nodes .entry); weakTop = «weak_top»; strongTop = «strong_top» })) (traceRefusal (record { controllers = controllers; count = «states_count»; masks = now (masks .entry); states = now (states .entry) }) c) ⌝ }
+    ensures { λ r. ⌜ r ≡ orElse (tableRefusal (tableOf count (now (nodes .entry)) «weak_top» «strong_top»)) (traceRefusal (recordingOf controllers «states_count» (now (masks .entry)) (now (states .entry))) c) ⌝ }
 {
     let table = table_refusal(count, nodes, weak_top, strong_top);
     if table != Refusal::NONE {
@@ -57,7 +58,7 @@ pub fn local_refusal(
     masks: &[u32],
     states: &[u64],
 ) -> u8
-    ensures { λ r. ⌜ r ≡ orElse (ruleRefusal (record { controller = controller; count = count; nodes = now (nodes .entry) })) (traceRefusal (record { controllers = controllers; count = «states_count»; masks = now (masks .entry); states = now (states .entry) }) controller) ⌝ }
+    ensures { λ r. ⌜ r ≡ orElse (ruleRefusal (ruleOf controller count (now (nodes .entry)))) (traceRefusal (recordingOf controllers «states_count» (now (masks .entry)) (now (states .entry))) controller) ⌝ }
 {
     let rule = rule_refusal(controller, count, nodes);
     if rule != Refusal::NONE {

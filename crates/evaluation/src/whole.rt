@@ -1,4 +1,6 @@
 // Judging the whole recording.
+ghost use Rattle.definitions.specs.Tables.{tableOf};
+ghost use Rattle.definitions.specs.Recordings.{recordingOf};
 ghost use Rattle.evaluation.specs.Judging.{WholeReady, WholeDone, WholeJudged};
 use super::evaluate::evaluate;
 use super::refusal::whole_refusal;
@@ -41,7 +43,7 @@ pub fn judge_recording(
     c: usize,
     rows: &mut [u64],
 ) -> Verdicts
-    ensures { λ r. ⌜ WholeJudged (record { count = count; nodes = now (nodes .entry); weakTop = «weak_top»; strongTop = «strong_top» }) (record { controllers = controllers; count = «states_count»; masks = now (masks .entry); states = now (states .entry) }) c (now (rows .entry)) r (now (rows .exit)) ⌝ }
+    ensures { λ r. ⌜ WholeJudged (tableOf count (now (nodes .entry)) «weak_top» «strong_top») (recordingOf controllers «states_count» (now (masks .entry)) (now (states .entry))) c (now (rows .entry)) r (now (rows .exit)) ⌝ }
 {
     if rows.len() < Limits::ROW_WORDS {
         return Verdicts::Refused(Refusal::LENT_SHORT);

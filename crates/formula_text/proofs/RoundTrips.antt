@@ -8,7 +8,7 @@ use lib.ListN.{length, take, drop, replicate}
 use lib.Seq.{take-at}
 use Rattle.definitions.specs.Limits.{maxRuleNodes, maxRuleBytes}
 use Rattle.definitions.specs.Bounded.{pick}
-use Rattle.definitions.specs.Tables.{Rule}
+use Rattle.definitions.specs.Tables.{Rule, ruleOf}
 use Rattle.definitions.specs.RuleText.{scanRule}
 use Rattle.definitions.specs.Operations.{Answer, answer, textOf, readRuleNumber, readRuleAnswer, readRuleNodes, writeRuleNumber, writeRuleAnswer, writeRuleText}
 use Rattle.theorems.proofs.LentSpace.{left-accepted}
@@ -52,9 +52,6 @@ pub record TextBack (text buffer : List ℕ) (w : RuleWritten) (buffer′ : List
   pub length-is : w ≡ written.Length (length text)
   pub holds : buffer′ ≡ text ++ (replicate (maxRuleBytes - length text) 0 ++ drop maxRuleBytes buffer)
 
-abbrev ruleOf : ℕ → ℕ → List ℕ → Rule
-ruleOf c n ws = record { controller = c; count = n; nodes = ws }
-
 -- the table of an accepted text
 record TableOf (text nodes nodes′ : List ℕ) (c n : ℕ) : Type 0 where
   fine : readRuleNumber text nodes ≡ 0
@@ -76,7 +73,7 @@ table-of text nodes nodes′ c n r =
 
 -- "an accepted text is written back byte for byte"
 pub text-back : (text nodes nodes′ buffer buffer′ : List ℕ) (c n : ℕ) (w : RuleWritten) → ReadRule text nodes (read.Rule c n) nodes′
-    → maxRuleBytes ≤ length buffer → WroteRule (record { controller = c; count = n; nodes = nodes′ }) buffer w buffer′ → TextBack text buffer w buffer′
+    → maxRuleBytes ≤ length buffer → WroteRule (ruleOf c n nodes′) buffer w buffer′ → TextBack text buffer w buffer′
 text-back text nodes nodes′ buffer buffer′ c n w r h s =
     let t = table-of text nodes nodes′ c n r in
     let b = theorem.accepted-text-comes-back text nodes buffer (t .fine) h in
@@ -110,7 +107,7 @@ module _ (rule : Rule) (buffer buffer′ : List ℕ) (l : ℕ) (w : WroteRule ru
       ∙ take-at (textOf rule) (replicate (maxRuleBytes - length (textOf rule)) 0 ++ drop maxRuleBytes buffer) l long
 
 -- "read again it is that table"
-pub table-back : (c n : ℕ) (ws buffer buffer′ nodes nodes′ : List ℕ) (l : ℕ) (r : RuleRead) → WroteRule (record { controller = c; count = n; nodes = ws }) buffer (written.Length l) buffer′
+pub table-back : (c n : ℕ) (ws buffer buffer′ nodes nodes′ : List ℕ) (l : ℕ) (r : RuleRead) → WroteRule (ruleOf c n ws) buffer (written.Length l) buffer′
     → maxRuleNodes ≤ length nodes → ReadRule (take l buffer′) nodes r nodes′ → TableBack c n ws nodes r nodes′
 table-back c n ws buffer buffer′ nodes nodes′ l r w h s =
     let rule = ruleOf c n ws in

@@ -13,7 +13,7 @@ use mir.Val.{Fits}
 use Rattle.definitions.specs.Limits.{maxControllers, maxRuleNodes, maxRuleBytes, lentShort}
 use Rattle.definitions.specs.Bounded.{pick}
 use Rattle.definitions.specs.Nodes.{nodeOf}
-use Rattle.definitions.specs.Tables.{Rule, nodeRefusal, nodesRefusal, ruleRefusal}
+use Rattle.definitions.specs.Tables.{Rule, nodeRefusal, nodesRefusal, ruleRefusal, ruleOf}
 use Rattle.definitions.specs.Lines.{tab, newline, digits}
 use Rattle.definitions.specs.RuleText.{ruleWord, nodesText, ruleText}
 use Rattle.definitions.specs.Operations.{textOf, writeRuleNumber, writeRuleAnswer, writeRuleText}
@@ -50,7 +50,7 @@ heading-size c n =
 
 module _ (c n : ℕ) (ws o : List ℕ) where
   abbrev rule : Rule
-  rule = record { controller = c; count = n; nodes = ws }
+  rule = ruleOf c n ws
 
   number-short : length o < maxRuleBytes → writeRuleNumber rule o ≡ lentShort
   unfolding writeRuleNumber pick
@@ -60,17 +60,17 @@ module _ (c n : ℕ) (ws o : List ℕ) where
   unfolding writeRuleNumber pick
   number-checked h = rw (le-ltb (length o) maxRuleBytes h)
 
-  pub write-short : length o < maxRuleBytes → WroteRule (record { controller = c; count = n; nodes = ws }) o (Refused lentShort) o
+  pub write-short : length o < maxRuleBytes → WroteRule (ruleOf c n ws) o (Refused lentShort) o
   unfolding writeRuleAnswer writeRuleText
   write-short h =
       let e = number-short h in
       record { answered = rw e (refused-answer lentShort _ (λ q. omega arith)); text = left-untouched (writeRuleNumber rule o) maxRuleBytes (textOf rule) o e }
 
-  module _ (long : maxRuleBytes ≤ length o) (k : ℕ) (ks : k ≡ ruleRefusal (record { controller = c; count = n; nodes = ws })) where
+  module _ (long : maxRuleBytes ≤ length o) (k : ℕ) (ks : k ≡ ruleRefusal (ruleOf c n ws)) where
     is : writeRuleNumber rule o ≡ k
     is = number-checked long ∙ sym ks
 
-    pub write-refused : (k ≡ 0 → ⊥) → (o′ : List ℕ) → o′ ≡ cleared o 0 maxRuleBytes → WroteRule (record { controller = c; count = n; nodes = ws }) o (Refused k) o′
+    pub write-refused : (k ≡ 0 → ⊥) → (o′ : List ℕ) → o′ ≡ cleared o 0 maxRuleBytes → WroteRule (ruleOf c n ws) o (Refused k) o′
     unfolding writeRuleAnswer writeRuleText
     write-refused z o′ e = record {
       answered = rw is (refused-answer k _ z);
@@ -120,7 +120,7 @@ module _ (c n : ℕ) (ws o : List ℕ) where
           unfolding laidAt
           over = let m : 0 + length (textOf rule) ≡ length (textOf rule) = omega arith in whole .lies ∙ rw m
 
-          pub write-accepted : (o‴ : List ℕ) → o‴ ≡ cleared o″ e maxRuleBytes → WroteRule (record { controller = c; count = n; nodes = ws }) o (Length e) o‴
+          pub write-accepted : (o‴ : List ℕ) → o‴ ≡ cleared o″ e maxRuleBytes → WroteRule (ruleOf c n ws) o (Length e) o‴
           unfolding writeRuleAnswer writeRuleText
           write-accepted o‴ x =
               let l : length (textOf rule) ≡ e = omega (arith, whole .next) in

@@ -1,6 +1,7 @@
 // The writer of a rule text.
 ghost use Prim.Native.Nat.{_+_, _≤_};
 ghost use lib.ListN.{length};
+ghost use Rattle.definitions.specs.Tables.{ruleOf};
 ghost use Rattle.definitions.specs.RuleText.{nodeText, nodesText};
 ghost use Rattle.lines.specs.Printing.{Printed};
 ghost use Rattle.formulas.specs.Meaning.{meaning};
@@ -69,7 +70,7 @@ fn put_heading(controller: u32, count: u32, text: &mut [u8]) -> usize
 
 // Writes the text of a rule into `text`.
 pub fn write_rule(controller: usize, count: usize, nodes: &[u32], text: &mut [u8]) -> RuleWritten
-    ensures { λ r. ⌜ WroteRule (record { controller = controller; count = count; nodes = now (nodes .entry) }) (now (text .entry)) r (now (text .exit)) ⌝ }
+    ensures { λ r. ⌜ WroteRule (ruleOf controller count (now (nodes .entry))) (now (text .entry)) r (now (text .exit)) ⌝ }
 {
     if text.len() < Limits::RULE_BYTES {
         return RuleWritten::Refused(Refusal::LENT_SHORT);

@@ -1,5 +1,5 @@
 -- The images of one node of a rule: one law for each return.
-use mathlib.Core.Bool.{Bool, true, false, not, _&&_, _||_, cond}
+use mathlib.Core.Bool.{Bool, true, false, not, _&&_, _||_}
 use mathlib.Core.List.{List, [], _∷_}
 use mathlib.Core.Path.{_≡_, refl, sym, ap, _∙_}
 use Prim.Native.Nat.{ℕ, zero, suc, _+_, _-_, _<_, _≤_}
@@ -128,21 +128,21 @@ module _ (u v w x n at j : ℕ) where
   abbrev Laid : List Emit → List words.Node
   Laid es = laid (naming j u v w at x n) at (rowsOf es)
 
-  next-emits : (c weak : Bool) → emitted j at (cond c (table.shortNext weak u) (table.plainNext weak u)) ≡ Laid (formOf (pick c 9 4) weak)
+  next-emits : (c weak : Bool) → emitted j at (pick c (table.shortNext weak u) (table.plainNext weak u)) ≡ Laid (formOf (pick c 9 4) weak)
   unfolding pick forms
   next-emits true true = refl
   next-emits true false = refl
   next-emits false true = refl
   next-emits false false = refl
 
-  until-emits : (c weak : Bool) → emitted j at (cond c (table.shortUntil weak u v) (table.plainUntil weak at u v)) ≡ Laid (formOf (pick c 10 5) weak)
+  until-emits : (c weak : Bool) → emitted j at (pick c (table.shortUntil weak u v) (table.plainUntil weak at u v)) ≡ Laid (formOf (pick c 10 5) weak)
   unfolding pick forms
   until-emits true true = refl
   until-emits true false = refl
   until-emits false true = refl
   until-emits false false = refl
 
-  atom-emits : (own weak : Bool) → emitted j at (cond own (table.itself weak words.Atom n) (table.foreignAtom weak x n)) ≡ Laid (formOf (pick own 8 1) weak)
+  atom-emits : (own weak : Bool) → emitted j at (pick own (table.itself weak words.Atom n) (table.foreignAtom weak x n)) ≡ Laid (formOf (pick own 8 1) weak)
   unfolding pick forms
   atom-emits true true = refl
   atom-emits true false = refl

@@ -1,5 +1,5 @@
 -- The images of one node of a rule, from those of its operands: `part` and `tolerantOf` of the definitions with the operands' images looked up.
-use mathlib.Core.Bool.{Bool, true, false, not, _&&_, cond}
+use mathlib.Core.Bool.{Bool, true, false, not, _&&_}
 use mathlib.Core.List.{List, [], _∷_}
 use mathlib.Core.Path.{_≡_}
 use Prim.Native.Nat.{ℕ, _+_, _-_, _<_, _≤_}
@@ -29,12 +29,12 @@ pub record Named (weak : Bool) (at x number : ℕ) (P Q : table.Image) (r : List
 -- `part` of the definitions: `own` is whether the atom is own, P and Q are the operands' images
 unfoldable pub partOf : Bool → Bool → table.Image → table.Image → ℕ → ℕ → Bool → Kind → ℕ → List Emit
 partOf short own P Q x g weak True a = itself weak True 0
-partOf short own P Q x g weak Atom a = cond own (itself weak Atom a) (foreignAtom weak x a)
+partOf short own P Q x g weak Atom a = pick own (itself weak Atom a) (foreignAtom weak x a)
 partOf short own P Q x g weak Not a = one Not (# (imageOf (not weak) P)) ∷ []
 partOf short own P Q x g weak Or a = two Or (# (imageOf weak P)) (# (imageOf weak Q)) ∷ []
-partOf short own P Q x g weak Next a = cond (short && P .tolerant) (shortNext weak (imageOf weak P)) (plainNext weak (imageOf weak P))
+partOf short own P Q x g weak Next a = pick (short && P .tolerant) (shortNext weak (imageOf weak P)) (plainNext weak (imageOf weak P))
 partOf short own P Q x g weak Until a =
-    cond (short && (P .tolerant && Q .tolerant)) (shortUntil weak (imageOf weak P) (imageOf weak Q)) (plainUntil weak g (imageOf weak P) (imageOf weak Q))
+    pick (short && (P .tolerant && Q .tolerant)) (shortUntil weak (imageOf weak P) (imageOf weak Q)) (plainUntil weak g (imageOf weak P) (imageOf weak Q))
 partOf short own P Q x g weak Prev a = plainPrev (imageOf weak P)
 partOf short own P Q x g weak Since a = plainSince g (imageOf weak P) (imageOf weak Q)
 partOf short own P Q x g weak Run a = []

@@ -15,6 +15,7 @@ use Rattle.definitions.specs.Limits.{lentShort, noController, maxRuleNodes, max
 use Rattle.definitions.specs.Bounded.{pick}
 use Rattle.definitions.specs.Lines.{newline, before}
 use Rattle.definitions.specs.RuleText.{scanRule}
+use Rattle.definitions.specs.Recordings.{controllerRefusal}
 use Rattle.definitions.specs.RecordingText.{scanRecording, lineIn, jointNumber, jointPart}
 use Rattle.definitions.specs.Operations.{left, tooShort, readJointNumber, readJointHeading, readJointNodes, readJointMasks, readJointStates, readJointPart}
 use Rattle.theorems.proofs.Choice.{by-test, both-false}
@@ -94,7 +95,7 @@ module _ (rule recording : List ℕ) where
     module _ (a : (scanRecording recording) .number ≡ 0) where
       module _ (h : (scanRecording recording) .controllers ≤ (scanRule rule) .controller) where
         joining-number : jointNumber rule recording ≡ noController
-        unfolding jointNumber pick
+        unfolding jointNumber controllerRefusal pick
         joining-number = rw (e, a, le-ltb ((scanRule rule) .controller) ((scanRecording recording) .controllers) h)
 
         joining-part : jointPart rule recording ≡ lineIn true rule rule
@@ -103,7 +104,7 @@ module _ (rule recording : List ℕ) where
 
       module _ (h : (scanRule rule) .controller < (scanRecording recording) .controllers) where
         accepted-number : jointNumber rule recording ≡ 0
-        unfolding jointNumber pick
+        unfolding jointNumber controllerRefusal pick
         accepted-number = rw (e, a, lt-ltb ((scanRule rule) .controller) ((scanRecording recording) .controllers) h)
 
         accepted-part : jointPart rule recording ≡ lineIn false recording ((scanRecording recording) .rest)

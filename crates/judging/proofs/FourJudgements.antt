@@ -1,21 +1,21 @@
 -- Demand 3 for the code, from the contracts alone: four judgements over two recordings, and the two local ones.
-use mathlib.Core.Path.{_≡_, sym, ap, _∙_}
+use mathlib.Core.Path.{_≡_, sym, _∙_}
 use Prim.Native.Nat.{ℕ, _≤_}
 use mathlib.Core.Bool.{Bool, true, false}
-use mathlib.Core.List.{List, [], _∷_}
+use mathlib.Core.List.{List, _∷_}
 use lib.ListN.{length}
-use borrow.Author.Tests.{lt-ltb, le-ltb}
+use borrow.Author.Tests.{le-ltb}
 use Rattle.definitions.specs.Limits.{accepted, maxTableNodes, maxRowWords}
-use Rattle.definitions.specs.Bounded.{pick, orElse}
-use Rattle.theorems.proofs.Choice.{none-or-else}
-use Rattle.definitions.specs.Tables.{Rule, ruleRefusal, nodesIn}
-use Rattle.definitions.specs.Recordings.{Recording, recordingRefusal, maskOf}
+use Rattle.definitions.specs.Bounded.{pick}
+use Rattle.definitions.specs.Tables.{Rule, nodesIn}
+use Rattle.definitions.specs.Recordings.{Recording, maskOf}
 use Rattle.definitions.specs.Projection.{localTrace}
-use Rattle.definitions.specs.Operations.{answer, controllerRefusal, judgeLocalNumber, judgeLocalAnswer, localVerdicts}
-use Rattle.theorems.proofs.ScheduleIndependence.{Accepted, local-judging, local-judging-same}
+use Rattle.definitions.specs.Readings.{localVerdicts}
+use Rattle.definitions.specs.Operations.{answer, judgeLocalAnswer, verdictValues}
+use Rattle.theorems.proofs.ScheduleIndependence.{Accepted, local-judging, local-judging-same, local-accepted}
 use Rattle.evaluation.specs.Judging as evaluation
 use Rattle.evaluation.specs.declared.verdicts.Verdicts.{Verdicts}
-use Rattle.judging.specs.Rewritten.{answerOf, rewrittenFor, localValues, numberOf, Judgements}
+use Rattle.judging.specs.Rewritten.{answerOf, rewrittenFor, numberOf, Judgements}
 use Rattle.judging.specs.declared.rewritten.Judgement.{Judgement}
 
 -- a call of `judge_rewritten` with lent space of full size, and what its contract says of it
@@ -30,14 +30,7 @@ pub record Call (short : Bool) (r : Rule) (R : Recording) (j : Judgement) : Type
 
 -- the verdicts of the rule on its own local trace
 abbrev own : Rule → Recording → List ℕ
-own r R = localVerdicts (nodesIn (r .count) (r .nodes)) (maskOf R (r .controller)) (localTrace R (r .controller))
-
--- an accepted rule and recording are not refused
-local-accepted : (r : Rule) (R : Recording) → Accepted r R → judgeLocalNumber r R ≡ 0
-unfolding judgeLocalNumber controllerRefusal pick
-local-accepted r R A =
-    none-or-else (ruleRefusal r) (orElse (recordingRefusal R) (controllerRefusal R (r .controller))) (A .rule)
-    (none-or-else (recordingRefusal R) (controllerRefusal R (r .controller)) (A .recording) (rw (lt-ltb (r .controller) (R .controllers) (A .controller))))
+own r R = verdictValues (localVerdicts (nodesIn (r .count) (r .nodes)) (maskOf R (r .controller)) (localTrace R (r .controller)))
 
 -- such a call answers the node count of the rewritten rule and the rule's own verdicts
 call-answers : (short : Bool) (r : Rule) (R : Recording) (j : Judgement) → Accepted r R → Call short r R j →
@@ -65,7 +58,7 @@ pub code-schedule-independence : (r : Rule) (R S : Recording) → Accepted r R �
     Call false r R plainR → Call true r R shortR → Call false r S plainS → Call true r S shortS →
     evaluation.answerOf localR ≡ judgeLocalAnswer r R → evaluation.answerOf localS ≡ judgeLocalAnswer r S →
     FourJudgements r R S plainR shortR plainS shortS localR localS
-    (localVerdicts (nodesIn (r .count) (r .nodes)) (maskOf R (r .controller)) (localTrace R (r .controller)))
+    (verdictValues (localVerdicts (nodesIn (r .count) (r .nodes)) (maskOf R (r .controller)) (localTrace R (r .controller))))
 code-schedule-independence r R S A B places mask p s q t l m cp cs cq ct el em =
     let same : own r S ≡ own r R = rw (places, mask) in
     record {

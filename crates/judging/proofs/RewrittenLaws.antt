@@ -4,18 +4,18 @@ use Prim.Native.Nat.{ℕ, _-_, _≤_, _<_}
 use native.Mathlib.Omega.{arith}
 use mathlib.Core.Bool.{Bool, true, false, _||_, or-true}
 use mathlib.Core.List.{List, [], _∷_, _++_, map}
-use lib.ListN.{length, take, drop, getD, replicate}
+use lib.ListN.{length, drop, getD, replicate}
 use borrow.Author.Needs.{needs}
 use borrow.Author.Tests.{lt-ltb, le-ltb, ltb-true, ne-eqb}
 use lib.Dec.{ltb, eqb}
 use Rattle.definitions.specs.Limits.{accepted, lentShort, noController, tooManyNodes, maxTableNodes, maxRowWords}
-use Rattle.definitions.specs.Bounded.{pick, orElse, bit}
+use Rattle.definitions.specs.Bounded.{pick, orElse}
 use Rattle.definitions.specs.Nodes.{nodeWord}
-use Rattle.definitions.specs.Tables.{Rule, Table, ruleRefusal, tableRefusal, nodesIn}
-use Rattle.definitions.specs.Recordings.{Recording, recordingRefusal, maskOf}
+use Rattle.definitions.specs.Tables.{Rule, Table, ruleRefusal, nodesIn, tableOf}
+use Rattle.definitions.specs.Recordings.{Recording, recordingRefusal, maskOf, controllerRefusal}
 use Rattle.definitions.specs.Projection.{localTrace}
-use Rattle.definitions.specs.Readings.{whole, rowsOf, pairsWords}
-use Rattle.definitions.specs.Operations.{Answer, answer, left, tooShort, controllerRefusal, sizeRefusal, judgeLocalNumber, judgeLocalAnswer, localVerdicts, rewrittenOf, rewriteNumber, rewriteAnswer, rewriteTable, answeredTable, judgeRecordingNumber, judgeRecordingAnswer, judgeRecordingRows}
+use Rattle.definitions.specs.Readings.{localVerdicts}
+use Rattle.definitions.specs.Operations.{Answer, answer, tooShort, sizeRefusal, judgeLocalNumber, rewrittenOf, rewriteNumber, rewriteAnswer, rewriteTable, answeredTable, judgeRecordingNumber, judgeRecordingAnswer, judgeRecordingRows, verdictValues}
 use Rattle.theorems.proofs.Choice.{accept-yes, or-else-none, none-or-else}
 use Rattle.theorems.proofs.RefusalBounds.{or-else-low, rule-low, recording-low, controller-low}
 use Rattle.theorems.proofs.LentSpace.{left-short, left-accepted, left-refused}
@@ -31,7 +31,7 @@ use Rattle.rewriting.specs.Answers as rewriting
 use Rattle.rewriting.specs.Answers.{Rewrote}
 use Rattle.rewriting.specs.declared.rewrite.Rewriting.{Rewriting}
 use Rattle.rewriting.specs.declared.rewrite.Rewriting.the-variants as written
-use Rattle.judging.specs.Rewritten.{answerOf, Judgeable, rewrittenFor, localValues, Lent, JudgedLocally, numberOf, Judgements}
+use Rattle.judging.specs.Rewritten.{answerOf, Judgeable, rewrittenFor, JudgedLocally, numberOf, Judgements}
 use Rattle.judging.specs.declared.rewritten.Judgement.{Judgement}
 use Rattle.judging.specs.declared.rewritten.Judgement.the-variants.{Judged, Refused}
 
@@ -87,7 +87,7 @@ module _ (short : Bool) (r : Rule) (R : Recording) (table rows : List ℕ) (J : 
       values-same = ap (λ (a : Answer). a .values) (w .answered) ∙ values-are
 
       abbrev given : Table
-      given = record { count = n; nodes = table′; weakTop = wt; strongTop = st }
+      given = tableOf n table′ wt st
 
       given-is : given ≡ answeredTable short r (maskOf R (r .controller)) table
       given-is =
@@ -96,7 +96,7 @@ module _ (short : Bool) (r : Rule) (R : Recording) (table rows : List ℕ) (J : 
 
       -- the judge answers what judging on the local trace answers
       judged-locally : judgeRecordingAnswer given R (r .controller) rows
-          ≡ answer accepted (localVerdicts (nodesIn (r .count) (r .nodes)) (maskOf R (r .controller)) (localTrace R (r .controller)))
+          ≡ answer accepted (verdictValues (localVerdicts (nodesIn (r .count) (r .nodes)) (maskOf R (r .controller)) (localTrace R (r .controller))))
       judged-locally =
           ap (λ (t : Table). judgeRecordingAnswer t R (r .controller) rows) given-is
           ∙ (rewritten-judging short r R table rows both (J .fullTable) (J .fullRows) ∙ local-judging r R both)
@@ -138,7 +138,7 @@ module _ (short : Bool) (r : Rule) (R : Recording) (table rows : List ℕ) (J : 
   arm-unwritten number e = not-written short r R table rows J mask me table′ number (rw e at rewrote)
 
   module _ (n wt st : ℕ) (e : w ≡ written.Rewritten n wt st) (v : Verdicts) (rows′ : List ℕ)
-      (answered : WholeJudged (record { count = n; nodes = table′; weakTop = wt; strongTop = st }) R (r .controller) rows v rows′) where
+      (answered : WholeJudged (tableOf n table′ wt st) R (r .controller) rows v rows′) where
     pub arm-unjudged : (number : ℕ) → v ≡ verdict.Refused number → JudgedLocally short r R table rows (Refused number) table′ rows′
     arm-unjudged number f = not-judged short r R table rows J mask me table′ n wt st (rw e at rewrote) rows′ number (rw f at answered)
 
@@ -175,7 +175,7 @@ module _ (short : Bool) (r : Rule) (R : Recording) (table rows : List ℕ) where
     number-low =
         let l : orElse (ruleRefusal r) (traceRefusal R (r .controller)) < tooManyNodes
         = or-else-low (ruleRefusal r) (traceRefusal R (r .controller)) tooManyNodes (rule-low r)
-        (or-else-low (recordingRefusal R) (controllerRefusal R (r .controller)) tooManyNodes (recording-low R) (controller-low R (r .controller))) in
+        (or-else-low (recordingRefusal R) (controllerRefusal (R .controllers) (r .controller)) tooManyNodes (recording-low R) (controller-low (R .controllers) (r .controller))) in
         rw e (omega arith)
 
     pub refused : (table′ rows′ : List ℕ) → (number ≡ 0 → ⊥) → table′ ≡ cleared table 0 maxTableNodes → rows′ ≡ cleared rows 0 maxRowWords →
@@ -194,7 +194,7 @@ module _ (short : Bool) (r : Rule) (R : Recording) (table rows : List ℕ) where
       unfolding controllerRefusal
       ready =
           let p = or-else-none (ruleRefusal r) (traceRefusal R (r .controller)) (sym e ∙ z) in
-          let q = or-else-none (recordingRefusal R) (controllerRefusal R (r .controller)) (p .1) in
+          let q = or-else-none (recordingRefusal R) (controllerRefusal (R .controllers) (r .controller)) (p .1) in
           record {
             rule = p .0;
             recording = q .0;

@@ -10,9 +10,9 @@ use Rattle.definitions.specs.Nodes.{nodeWord}
 use Rattle.definitions.specs.Tables.{Rule, ruleRefusal, nodesIn}
 use Rattle.definitions.specs.Recordings.{Recording, recordingRefusal, maskOf}
 use Rattle.definitions.specs.Projection.{localTrace}
-use Rattle.definitions.specs.Readings.{whole, rowsOf, pairsWords}
+use Rattle.definitions.specs.Readings.{whole, rowsOf, pairsWords, localVerdicts}
 use Rattle.definitions.specs.Rewriting.{Rewritten}
-use Rattle.definitions.specs.Operations.{Answer, answer, left, tooShort, judgeLocalNumber, localVerdicts, rewrittenOf}
+use Rattle.definitions.specs.Operations.{Answer, answer, left, tooShort, judgeLocalNumber, rewrittenOf, verdictValues}
 use Rattle.judging.specs.declared.rewritten.Judgement.{Judgement}
 use Rattle.judging.specs.declared.rewritten.Judgement.the-variants.{Judged, Refused}
 
@@ -37,7 +37,7 @@ rewrittenFor short r R = rewrittenOf short r (maskOf R (r .controller))
 abbrev pub localValues : Bool → Rule → Recording → List ℕ
 localValues short r R =
     length ((rewrittenFor short r R) .nodes)
-    ∷ localVerdicts (nodesIn (r .count) (r .nodes)) (maskOf R (r .controller)) (localTrace R (r .controller))
+    ∷ verdictValues (localVerdicts (nodesIn (r .count) (r .nodes)) (maskOf R (r .controller)) (localTrace R (r .controller)))
 
 -- what an answer with its number leaves in the two lent slices
 pub record Lent (short : Bool) (r : Rule) (R : Recording) (number : ℕ) (table rows table′ rows′ : List ℕ) : Type 0 where

@@ -1,4 +1,6 @@
 // Demand 3 in code: rewrite into a lent table, judge the whole recording by it. The verdicts are those of the rule on its own local trace.
+ghost use Rattle.definitions.specs.Recordings.{recordingOf};
+ghost use Rattle.definitions.specs.Tables.{ruleOf};
 ghost use Rattle.judging.specs.Rewritten.{Judgeable, JudgedLocally, Judgements};
 use evaluation::refusal::local_refusal;
 use evaluation::verdicts::Verdicts;
@@ -30,8 +32,8 @@ fn judge_accepted(
     table: &mut [u32],
     rows: &mut [u64],
 ) -> Judgement
-    requires { ⌜ Judgeable (record { controller = controller; count = count; nodes = now nodes }) (record { controllers = controllers; count = «states_count»; masks = now masks; states = now states }) (now table) (now rows) ⌝ }
-    ensures { λ r. ⌜ JudgedLocally short (record { controller = controller; count = count; nodes = now (nodes .entry) }) (record { controllers = controllers; count = «states_count»; masks = now (masks .entry); states = now (states .entry) }) (now (table .entry)) (now (rows .entry)) r (now (table .exit)) (now (rows .exit)) ⌝ }
+    requires { ⌜ Judgeable (ruleOf controller count (now nodes)) (recordingOf controllers «states_count» (now masks) (now states)) (now table) (now rows) ⌝ }
+    ensures { λ r. ⌜ JudgedLocally short (ruleOf controller count (now (nodes .entry))) (recordingOf controllers «states_count» (now (masks .entry)) (now (states .entry))) (now (table .entry)) (now (rows .entry)) r (now (table .exit)) (now (rows .exit)) ⌝ }
 {
     let mask = mask_at(masks, controller);
     let rewriting = rewrite(short, controller, count, nodes, mask, table);
@@ -71,7 +73,7 @@ pub fn judge_rewritten(
     table: &mut [u32],
     rows: &mut [u64],
 ) -> Judgement
-    ensures { λ r. ⌜ Judgements short (record { controller = controller; count = count; nodes = now (nodes .entry) }) (record { controllers = controllers; count = «states_count»; masks = now (masks .entry); states = now (states .entry) }) (now (table .entry)) (now (rows .entry)) r (now (table .exit)) (now (rows .exit)) ⌝ }
+    ensures { λ r. ⌜ Judgements short (ruleOf controller count (now (nodes .entry))) (recordingOf controllers «states_count» (now (masks .entry)) (now (states .entry))) (now (table .entry)) (now (rows .entry)) r (now (table .exit)) (now (rows .exit)) ⌝ }
 {
     if table.len() < Limits::TABLE_NODES {
         return Judgement::Refused(Refusal::LENT_SHORT);

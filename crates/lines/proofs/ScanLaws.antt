@@ -10,12 +10,13 @@ use native.Mathlib.Numerals.{add-one}
 use lib.Dec.{eqb}
 use borrow.Author.Needs.{needs}
 use borrow.Author.Tests.{eq-eqb, ne-eqb, le-leb, lt-leb}
+use Rattle.definitions.specs.Bounded.{pick}
 use Rattle.definitions.specs.Lines.{before, same, letters}
 use Rattle.theorems.proofs.Choice.{by-test}
 use Rattle.lines.specs.Parts.{Located}
 
 pub before-le : (b : ℕ) (s : List ℕ) → before b s ≤ length s
-unfolding before
+unfolding before pick
 before-le b [] = omega arith
 before-le b (x ∷ t) = by-test (eqb x b) (λ e. rw (e, before) (omega arith)) (λ e. rw (e, before) (omega (arith, before-le b t)))
 
@@ -37,13 +38,13 @@ module _ (b : ℕ) (s : List ℕ) (i : ℕ) (inv : Passed b s i) where
 
   module _ (h : i < length s) where
     pub passed-hit : getD s i 0 ≡ b → Located b s i
-    unfolding before
+    unfolding before pick
     passed-hit e =
         let z : before b (drop i s) ≡ 0 = rw (drop-cons s i 0 h, eq-eqb _ _ e, before) in
         record { place = omega (arith, inv .left, z); within = inv .within }
 
     pub passed-next : (getD s i 0 ≡ b → ⊥) → Passed b s (i + 1)
-    unfolding before
+    unfolding before pick
     passed-next e =
         let z : before b (drop i s) ≡ suc (before b (drop (suc i) s)) = rw (drop-cons s i 0 h, ne-eqb _ _ e, before) in
         record { within = omega arith; left = rw add-one (omega (arith, inv .left, z)) }

@@ -1,5 +1,5 @@
 -- The operators by recursion on the marks are the readings, which document 01 says by "some" and "every" over places.
-use mathlib.Core.Bool.{Bool, true, false, not, _&&_, _||_, cond, and-false, or-false}
+use mathlib.Core.Bool.{Bool, true, false, not, _&&_, _||_, and-false, or-false}
 use mathlib.Core.List.{List, [], _∷_, map}
 use mathlib.Core.Logic.{_⊎_, ⊎-elim, inl, inr}
 use mathlib.Core.Path.{_≡_, refl, sym, ap, _∙_}
@@ -9,7 +9,7 @@ use native.Mathlib.Omega.{arith}
 use lib.Dec.{ltb}
 use lib.ListN.{length, getD, replicate, length-map, length-replicate, getD-replicate, List·getD-eq-default}
 use borrow.Author.Tests.{ltb-true, ltb-false, lt-ltb, le-ltb}
-use Rattle.definitions.specs.Bounded.{tabulate}
+use Rattle.definitions.specs.Bounded.{pick, tabulate}
 use Rattle.definitions.specs.Readings.{nextAt, untilAt, prevAt, sinceAt}
 use Rattle.theorems.proofs.Recursions.{until-end, until-step, since-start, since-step}
 use Rattle.theorems.proofs.Tabulations.{tabulated}
@@ -145,7 +145,8 @@ next-end w (p ∷ x ∷ l) (suc k) h = next-end w (x ∷ l) k (omega arith)
 
 -- what holds before the last place and what holds there, told as one test
 by-place : (r : List Bool) (L : ℕ) (f : ℕ → Bool) (w : Bool) → ((k : ℕ) → suc k < L → markAt r k ≡ f k) → ((k : ℕ) → suc k ≡ L → markAt r k ≡ w)
-    → (i : ℕ) → i < L → markAt r i ≡ cond (ltb (suc i) L) (f i) w
+    → (i : ℕ) → i < L → markAt r i ≡ pick (ltb (suc i) L) (f i) w
+unfolding pick
 by-place r L f w before last i h =
     ⊎-elim
     (λ (x : suc i < L). before i x ∙ rw (lt-ltb (suc i) L x))

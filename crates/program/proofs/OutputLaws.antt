@@ -10,10 +10,12 @@ use lib.Seq.{take-at, length-take-le}
 use denote.Ref.{RefT}
 use borrow.Author.Needs.{needs}
 use borrow.Author.Tests.{ne-eqb, eq-eqb, lt-ltb, le-ltb}
+use Rattle.definitions.specs.Tables.{ruleOf}
 use Rattle.definitions.specs.Limits.{accepted, lentShort, noController, maxInputBytes, maxRuleNodes, maxControllers, maxStates}
 use Rattle.definitions.specs.Bounded.{pick}
 use Rattle.definitions.specs.Lines.{tab, newline, digits}
 use Rattle.definitions.specs.RuleText.{scanRule}
+use Rattle.definitions.specs.Recordings.{controllerRefusal}
 use Rattle.definitions.specs.RecordingText.{scanRecording, Part, jointNumber, jointPart}
 use Rattle.definitions.specs.Operations.{left, readJointNumber, readJointHeading, readJointNodes, readJointMasks, readJointStates, readJointPart}
 use Rattle.definitions.specs.Program.{refusedWord, refusedText, bytesOf, scanned, textsOutput, programOutput}
@@ -48,7 +50,7 @@ refused-length n line h l =
     )
 
 joint-low : (rule recording : List ℕ) → jointNumber rule recording < lentShort
-unfolding jointNumber
+unfolding jointNumber controllerRefusal
 joint-low rule recording =
     pick-low _ _ _ lentShort (pick-low _ _ _ lentShort (pick-low _ accepted noController lentShort (omega arith) (omega arith)) (scan-low recording)) (number-low rule)
 
@@ -158,7 +160,7 @@ module _ (x y r : RefT (List ℕ)) (nodes masks states nodes′ masks′ states�
     recording-is = rw (masks-held, states-held, controllers-are, states-are)
 
     rule-is : foundRule heading nodes′
-        ≡ record { controller = (scanRule (x .now)) .controller; count = (scanRule (x .now)) .count; nodes = (scanRule (x .now)) .words }
+        ≡ ruleOf ((scanRule (x .now)) .controller) ((scanRule (x .now)) .count) ((scanRule (x .now)) .words)
     rule-is = rw (nodes-held, controller-is, count-is)
 
     accepted-both : Accepted (foundRule heading nodes′) (foundRecording heading masks′ states′)

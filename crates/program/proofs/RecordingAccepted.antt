@@ -9,7 +9,7 @@ use lib.Seq.{take-all}
 use borrow.Author.Tests.{le-ltb, ltb-true}
 use Rattle.definitions.specs.Limits.{recordingForm, recordingLines, noController}
 use Rattle.definitions.specs.Bounded.{pick}
-use Rattle.definitions.specs.Recordings.{stateRefusal, recordingHeadingRefusal, maskRefusal, masksRefusal, statesRefusal, recordingLinesRefusal, recordingRefusal}
+use Rattle.definitions.specs.Recordings.{stateRefusal, recordingHeadingRefusal, maskRefusal, masksRefusal, statesRefusal, recordingLinesRefusal, recordingRefusal, recordingOf, controllerRefusal}
 use Rattle.definitions.specs.Lines.{lineOf, restOf, Parsed, formed, malformed, onParsed, Heading, nextRefusal, Scan}
 use Rattle.definitions.specs.RuleText.{scanRule}
 use Rattle.definitions.specs.RecordingText.{recordingHeading, maskForm, stateForm, recordingHeadingLineRefusal, maskLineRefusal, stateLineRefusal, numberOf, scanMasks, scanStates, RecordingScan, recordingStop, recordingMasks, recordingStates, scanRecording, jointNumber}
@@ -68,7 +68,7 @@ abbrev Accepts : RecordingScan → Type 0
 Accepts s = s .number ≡ 0 → Read s
 
 tables-fine : (C N : ℕ) (masks states : List ℕ) → recordingHeadingRefusal C N ≡ 0 → masksRefusal [] masks ≡ 0 → statesRefusal C N masks 0 0 states ≡ 0 →
-    length masks ≡ C → length states ≡ N → recordingRefusal (record { controllers = C; count = N; masks = masks; states = states }) ≡ 0
+    length masks ≡ C → length states ≡ N → recordingRefusal (recordingOf C N masks states) ≡ 0
 unfolding recordingRefusal recordingLinesRefusal pick
 tables-fine C N masks states h m s c n =
     let a : take C masks ≡ masks = take-all C masks (omega arith) in
@@ -121,7 +121,7 @@ pub record TextsAccepted (rule recording : List ℕ) : Type 0 where
   pub controller : (scanRule rule) .controller < (scanRecording recording) .controllers
 
 pub texts-accepted : (rule recording : List ℕ) → jointNumber rule recording ≡ 0 → TextsAccepted rule recording
-unfolding jointNumber
+unfolding jointNumber controllerRefusal
 texts-accepted rule recording e =
     let r : (scanRule rule) .number ≡ 0 = must-pass (λ n. n) ((scanRule rule) .number) _ ((scanRule rule) .number) refl e in
     let f = sym (passes ((scanRule rule) .number) _ ((scanRule rule) .number) r) ∙ e in

@@ -9,22 +9,22 @@ use lib.ListN.{length, getD, replicate, length-append, length-replicate}
 use mir.Syntax.{w32}
 use mir.Val.{Fits}
 use borrow.Author.Needs.{needs}
-use borrow.Author.Tests.{lt-ltb, le-ltb}
+use borrow.Author.Tests.{le-ltb}
 use Rattle.definitions.specs.Limits.{accepted, maxStates, maxTableNodes, maxRowWords}
 use Rattle.definitions.specs.Bounded.{pick, orElse, bit}
 use Rattle.definitions.specs.Nodes.{Node}
-use Rattle.definitions.specs.Tables.{Rule, ruleRefusal, nodesIn}
-use Rattle.definitions.specs.Recordings.{Recording, recordingRefusal, maskOf}
+use Rattle.definitions.specs.Tables.{Rule, nodesIn}
+use Rattle.definitions.specs.Recordings.{Recording, recordingRefusal, maskOf, controllerRefusal}
 use Rattle.definitions.specs.Projection.{localTrace}
-use Rattle.definitions.specs.Readings.{local, whole, verdict}
-use Rattle.definitions.specs.Rewriting.{topOf}
+use Rattle.definitions.specs.Readings.{local, whole, verdict, localVerdicts}
 use Rattle.definitions.specs.Lines.{tab, newline, digits}
-use Rattle.definitions.specs.Operations.{Answer, answer, controllerRefusal, sizeRefusal, projectNumber, projectAnswer, judgeLocalNumber, judgeLocalAnswer, localVerdicts}
+use Rattle.definitions.specs.Operations.{Answer, answer, sizeRefusal, projectNumber, projectAnswer, judgeLocalAnswer, verdictValues}
 use Rattle.definitions.specs.Program.{yesNo, localWord, ownWord, plainWord, shortWord, localText, ownText, rewrittenText, judgedText}
 use Rattle.theorems.proofs.Choice.{none-or-else}
 use Rattle.theorems.proofs.RuleNodes.{rule-nodes, rule-length, rule-some}
 use Rattle.theorems.proofs.RewrittenAccepted.{rewritten-size, rewritten-fits}
-use Rattle.theorems.proofs.ScheduleIndependence.{Accepted, verdict-agrees, local-judging}
+use Rattle.theorems.proofs.Faithful.{topOf}
+use Rattle.theorems.proofs.ScheduleIndependence.{Accepted, verdict-agrees, controller-accepted, local-accepted, local-judging}
 use Rattle.projection.specs.Places.{Projectable}
 use Rattle.projection.specs.Answers as projection
 use Rattle.projection.specs.Answers.{ProjectIs}
@@ -73,10 +73,6 @@ bit-same true false e = absurd (omega arith)
 bit-same false true e = absurd (omega arith)
 bit-same false false e = refl
 
-controller-accepted : (R : Recording) (c : ℕ) → c < R .controllers → controllerRefusal R c ≡ 0
-unfolding controllerRefusal pick
-controller-accepted R c h = rw (lt-ltb c (R .controllers) h)
-
 -- ---- `count_places`
 -- an accepted recording's local trace has at most as many places as there are states
 places-few : (R : Recording) (c : ℕ) → recordingRefusal R ≡ 0 → c < R .controllers → length (localTrace R c) ≤ maxStates
@@ -92,7 +88,7 @@ module _ (R : Recording) (c : ℕ) (places : List ℕ) (A : Recorded R c places)
   unfolding projectNumber pick
   projects =
       rw (le-ltb (length places) maxStates (A .room))
-      (none-or-else (recordingRefusal R) (controllerRefusal R c) (A .recording) (controller-accepted R c (A .controller)))
+      (none-or-else (recordingRefusal R) (controllerRefusal (R .controllers) c) (A .recording) (controller-accepted (R .controllers) c (A .controller)))
 
   answers : projection.answerOf p ≡ answer accepted (length (localTrace R c) ∷ [])
   unfolding projectAnswer
@@ -114,7 +110,7 @@ pub ruleset place-laws = (needs, places-are, places-fit, places-refused)
 
 -- ---- `judge_own`
 module _ (r : Rule) (R : Recording) (A : Accepted r R) (v : evaluated.Verdicts) (is : evaluation.answerOf v ≡ judgeLocalAnswer r R) where
-  own-answers : evaluation.answerOf v ≡ answer accepted (localVerdicts (nodesIn (r .count) (r .nodes)) (maskOf R (r .controller)) (localTrace R (r .controller)))
+  own-answers : evaluation.answerOf v ≡ answer accepted (verdictValues (localVerdicts (nodesIn (r .count) (r .nodes)) (maskOf R (r .controller)) (localTrace R (r .controller))))
   own-answers = is ∙ local-judging r R A
 
   pub own-judged : (w s : Bool) → v ≡ verdicts.Judged w s → OwnIs r R (record { weak = w; strong = s })
@@ -130,12 +126,6 @@ module _ (r : Rule) (R : Recording) (A : Accepted r R) (v : evaluated.Verdicts) 
 pub ruleset own-verdict-laws = (needs, own-judged, own-refused)
 
 -- ---- `judge_whole`
-local-accepted : (r : Rule) (R : Recording) → Accepted r R → judgeLocalNumber r R ≡ 0
-unfolding judgeLocalNumber
-local-accepted r R A =
-    none-or-else (ruleRefusal r) (orElse (recordingRefusal R) (controllerRefusal R (r .controller))) (A .rule)
-    (none-or-else (recordingRefusal R) (controllerRefusal R (r .controller)) (A .recording) (controller-accepted R (r .controller) (A .controller)))
-
 module _ (short : Bool) (r : Rule) (R : Recording) (table rows : List ℕ) (J : Judgeable r R table rows)
     (j : Judgement) (table′ rows′ : List ℕ) (is : Judgements short r R table rows j table′ rows′) where
   both-accepted : Accepted r R

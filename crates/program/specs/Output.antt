@@ -4,7 +4,7 @@ use Prim.Native.Nat.{ℕ, _+_, _≤_}
 use mathlib.Core.List.{List, _++_}
 use lib.ListN.{length, take, drop, getD}
 use Rattle.definitions.specs.Limits.{maxInputBytes, maxRuleNodes, maxControllers, maxStates}
-use Rattle.definitions.specs.Tables.{Rule, nodesIn}
+use Rattle.definitions.specs.Tables.{Rule, nodesIn, ruleOf}
 use Rattle.definitions.specs.Recordings.{Recording}
 use Rattle.definitions.specs.Program.{judgedText, programOutput}
 use Rattle.theorems.proofs.ScheduleIndependence.{Accepted}
@@ -25,7 +25,7 @@ pub record Room (rule recording nodes masks states text : List ℕ) : Type 0 whe
 
 -- the rule in lent space, by the heading: its number, controller, node count, C and N
 abbrev pub foundRule : List ℕ → List ℕ → Rule
-foundRule heading nodes = record { controller = getD heading 1 0; count = getD heading 2 0; nodes = take (getD heading 2 0) nodes }
+foundRule heading nodes = ruleOf (getD heading 1 0) (getD heading 2 0) (take (getD heading 2 0) nodes)
 
 -- the recording in lent space, by the heading
 abbrev pub foundRecording : List ℕ → List ℕ → List ℕ → Recording

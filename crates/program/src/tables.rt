@@ -1,6 +1,8 @@
 // The values that are printed of an accepted rule and recording: four operations on the tables that were read.
 ghost use mathlib.Core.Path.{_≡_};
 ghost use lib.ListN.{length};
+ghost use Rattle.definitions.specs.Recordings.{recordingOf};
+ghost use Rattle.definitions.specs.Tables.{ruleOf};
 ghost use Rattle.definitions.specs.Projection.{localTrace};
 ghost use Rattle.judging.specs.Rewritten.{Judgeable};
 ghost use Rattle.theorems.proofs.ScheduleIndependence.{Accepted};
@@ -26,8 +28,8 @@ fn count_places(
     c: usize,
     places: &mut [u32],
 ) -> u32
-    requires { ⌜ Recorded (record { controllers = controllers; count = «states_count»; masks = now masks; states = now states }) c (now places) ⌝ }
-    ensures { λ r. ⌜ r ≡ length (localTrace (record { controllers = controllers; count = «states_count»; masks = now (masks .entry); states = now (states .entry) }) c) ⌝ }
+    requires { ⌜ Recorded (recordingOf controllers «states_count» (now masks) (now states)) c (now places) ⌝ }
+    ensures { λ r. ⌜ r ≡ length (localTrace (recordingOf controllers «states_count» (now (masks .entry)) (now (states .entry))) c) ⌝ }
 {
     let projection = project(controllers, states_count, masks, states, c, places);
     match projection {
@@ -46,8 +48,8 @@ fn judge_own(
     masks: &[u32],
     states: &[u64],
 ) -> Verdicts
-    requires { ⌜ Accepted (record { controller = controller; count = count; nodes = now nodes }) (record { controllers = controllers; count = «states_count»; masks = now masks; states = now states }) ⌝ }
-    ensures { λ r. ⌜ OwnIs (record { controller = controller; count = count; nodes = now (nodes .entry) }) (record { controllers = controllers; count = «states_count»; masks = now (masks .entry); states = now (states .entry) }) r ⌝ }
+    requires { ⌜ Accepted (ruleOf controller count (now nodes)) (recordingOf controllers «states_count» (now masks) (now states)) ⌝ }
+    ensures { λ r. ⌜ OwnIs (ruleOf controller count (now (nodes .entry))) (recordingOf controllers «states_count» (now (masks .entry)) (now (states .entry))) r ⌝ }
 {
     let judged = judge_local(
         controller,
@@ -83,8 +85,8 @@ fn judge_whole(
     table: &mut [u32],
     rows: &mut [u64],
 ) -> Rewritten
-    requires { ⌜ Judgeable (record { controller = controller; count = count; nodes = now nodes }) (record { controllers = controllers; count = «states_count»; masks = now masks; states = now states }) (now table) (now rows) ⌝ }
-    ensures { λ r. ⌜ RewrittenIs short (record { controller = controller; count = count; nodes = now (nodes .entry) }) (record { controllers = controllers; count = «states_count»; masks = now (masks .entry); states = now (states .entry) }) r ⌝ }
+    requires { ⌜ Judgeable (ruleOf controller count (now nodes)) (recordingOf controllers «states_count» (now masks) (now states)) (now table) (now rows) ⌝ }
+    ensures { λ r. ⌜ RewrittenIs short (ruleOf controller count (now (nodes .entry))) (recordingOf controllers «states_count» (now (masks .entry)) (now (states .entry))) r ⌝ }
 {
     let judgement = judge_rewritten(
         short,
@@ -132,8 +134,8 @@ fn judge_rewritings(
     masks: &[u32],
     states: &[u64],
 ) -> Rewritings
-    requires { ⌜ Accepted (record { controller = controller; count = count; nodes = now nodes }) (record { controllers = controllers; count = «states_count»; masks = now masks; states = now states }) ⌝ }
-    ensures { λ r. ⌜ RewritingsAre (record { controller = controller; count = count; nodes = now (nodes .entry) }) (record { controllers = controllers; count = «states_count»; masks = now (masks .entry); states = now (states .entry) }) r ⌝ }
+    requires { ⌜ Accepted (ruleOf controller count (now nodes)) (recordingOf controllers «states_count» (now masks) (now states)) ⌝ }
+    ensures { λ r. ⌜ RewritingsAre (ruleOf controller count (now (nodes .entry))) (recordingOf controllers «states_count» (now (masks .entry)) (now (states .entry))) r ⌝ }
 {
     let mut table = [0u32; Limits::TABLE_NODES];
     let mut rows = [0u64; Limits::ROW_WORDS];
@@ -177,8 +179,8 @@ pub fn judge_tables(
     masks: &[u32],
     states: &[u64],
 ) -> Report
-    requires { ⌜ Accepted (record { controller = controller; count = count; nodes = now nodes }) (record { controllers = controllers; count = «states_count»; masks = now masks; states = now states }) ⌝ }
-    ensures { λ r. ⌜ ReportIs (record { controller = controller; count = count; nodes = now (nodes .entry) }) (record { controllers = controllers; count = «states_count»; masks = now (masks .entry); states = now (states .entry) }) r ⌝ }
+    requires { ⌜ Accepted (ruleOf controller count (now nodes)) (recordingOf controllers «states_count» (now masks) (now states)) ⌝ }
+    ensures { λ r. ⌜ ReportIs (ruleOf controller count (now (nodes .entry))) (recordingOf controllers «states_count» (now (masks .entry)) (now (states .entry))) r ⌝ }
 {
     let mut places = [0u32; Limits::STATES];
     let length = count_places(

@@ -3,7 +3,7 @@ use mathlib.Core.Path.{_≡_, refl, sym, ap, _∙_}
 use Prim.Native.Nat.{ℕ, zero, suc, _+_, _-_, _≤_, _<_}
 use native.Mathlib.Omega.{arith}
 use native.Mathlib.Numerals.{add-one}
-use mathlib.Core.Bool.{Bool, true, false, cond}
+use mathlib.Core.Bool.{Bool, true, false}
 use mathlib.Core.List.{List, [], _∷_, _++_, map, map-append, append-nil, append-assoc}
 use lib.Bits.{bitAnd}
 use lib.ListN.{length, take, drop, getD, set, length-append, length-map, length-set, length-take}
@@ -20,16 +20,19 @@ use Rattle.projection.specs.Places.{placesIn, Projectable, Projected}
 -- ---- the states in which a component runs, one state more
 module _ (run : ℕ → Bool) where
   runs-on : (k : ℕ) → run k ≡ true → runStates run (k + 1) ≡ runStates run k ++ (k ∷ [])
+  unfolding pick
   runs-on k r = rw (add-one k, r)
 
   runs-off : (k : ℕ) → run k ≡ false → runStates run (k + 1) ≡ runStates run k
+  unfolding pick
   runs-off k r = rw (add-one k, r, append-nil)
 
   few-runs : (k : ℕ) → length (runStates run k) ≤ k
+  unfolding pick
   few-runs zero = omega arith
   few-runs (suc k) = go (run k) (few-runs k)
     where
-      go : (b : Bool) → length (runStates run k) ≤ k → length (runStates run k ++ cond b (k ∷ []) []) ≤ suc k
+      go : (b : Bool) → length (runStates run k) ≤ k → length (runStates run k ++ pick b (k ∷ []) []) ≤ suc k
       go true h = omega (arith, length-append (runStates run k) (k ∷ []))
       go false h = rw append-nil (omega arith)
 
@@ -40,15 +43,17 @@ after-snoc (r ∷ s ∷ rs) n = after-snoc (s ∷ rs) n
 
 module _ (run : ℕ → Bool) where
   after-near : (k : ℕ) → afterLast (runStates run k) ≤ k
+  unfolding pick
   after-near zero = omega arith
   after-near (suc k) = go (run k) (after-near k)
     where
-      go : (b : Bool) → afterLast (runStates run k) ≤ k → afterLast (runStates run k ++ cond b (k ∷ []) []) ≤ suc k
+      go : (b : Bool) → afterLast (runStates run k) ≤ k → afterLast (runStates run k ++ pick b (k ∷ []) []) ≤ suc k
       go true h = rw (after-snoc (runStates run k) k) (omega arith)
       go false h = rw append-nil (omega arith)
 
   -- where the last state is idle, the last place is a state, and there are at most as many places as states
   last-is-off : (k : ℕ) → run k ≡ false → runStates run (suc k) ≡ runStates run k
+  unfolding pick
   last-is-off k r = rw (r, append-nil)
 
   after-in : (N : ℕ) → 0 < N → run (N - 1) ≡ false → afterLast (runStates run N) < N

@@ -2,7 +2,7 @@
 use mathlib.Core.Path.{_≡_, refl, sym, ap, _∙_}
 use Prim.Native.Nat.{ℕ, zero, suc, _+_, _-_, _≤_, _<_}
 use native.Mathlib.Omega.{arith}
-use mathlib.Core.Bool.{Bool, true, false, cond}
+use mathlib.Core.Bool.{Bool, true, false}
 use mathlib.Core.List.{List, [], _∷_, _++_, map, append-nil}
 use lib.ListN.{length, take, drop, getD, length-append, length-map}
 use lib.Bits.{bitAnd}
@@ -12,9 +12,9 @@ use lib.Dec.{ltb}
 use borrow.Author.Tests.{lt-ltb, le-ltb, ltb-true, ne-eqb}
 use Rattle.definitions.specs.Limits.{maxStates, atomCount, lentShort, noController, tooManyNodes}
 use Rattle.definitions.specs.Bounded.{pick, orElse, bit, bitOf, tabulate, tabulateFrom}
-use Rattle.definitions.specs.Recordings.{Recording, recordingRefusal, atomsOf, marked}
+use Rattle.definitions.specs.Recordings.{Recording, recordingRefusal, atomsOf, marked, controllerRefusal, recordingOf}
 use Rattle.definitions.specs.Projection.{runStates, afterLast, localTrace}
-use Rattle.definitions.specs.Operations.{answer, controllerRefusal, projectNumber, projectAnswer, projectPlaces}
+use Rattle.definitions.specs.Operations.{answer, projectNumber, projectAnswer, projectPlaces}
 use Rattle.theorems.proofs.Choice.{accept-yes, or-else-none}
 use Rattle.theorems.proofs.RefusalBounds.{or-else-low, recording-low, controller-low}
 use Rattle.theorems.proofs.LentSpace.{left-short, left-accepted, left-refused}
@@ -27,7 +27,7 @@ use Rattle.mark_words.proofs.WordLaws.{bit-shr}
 use Rattle.projection.specs.Places.{runsIn, placesIn, Projectable, Countable, Projected}
 use Rattle.projection.specs.Answers.{answerOf, ProjectIs}
 use Rattle.projection.specs.declared.project.Projection.the-variants.{Places, Refused}
-use Rattle.traces.proofs.CheckLaws.{own-mask, controller-of}
+use Rattle.traces.proofs.CheckLaws.{own-mask}
 use Rattle.projection.proofs.PlaceLaws.{projectable, local-places, few-local}
 
 -- ---- the run marks, counted
@@ -41,12 +41,13 @@ tabulate-snoc f zero k = let e : k + 0 ≡ k = omega arith in rw e
 tabulate-snoc f (suc n) k = let e : suc k + n ≡ k + suc n = omega arith in ap (λ (l : List Bool). f k ∷ l) (tabulate-snoc f n (suc k) ∙ rw e)
 
 run-marks : (run : ℕ → Bool) (n : ℕ) → yesMarks (tabulate n run) ≡ length (runStates run n)
+unfolding pick
 run-marks run zero = refl
 run-marks run (suc n) =
     let e : 0 + n ≡ n = omega arith in
     ap yesMarks (tabulate-snoc run n 0) ∙ (yes-snoc (tabulate n run) (run (0 + n)) ∙ rw (e, run-marks run n) (go (run n)))
   where
-    go : (b : Bool) → length (runStates run n) + bit b ≡ length (runStates run n ++ cond b (n ∷ []) [])
+    go : (b : Bool) → length (runStates run n) + bit b ≡ length (runStates run n ++ pick b (n ∷ []) [])
     go true = omega (arith, length-append (runStates run n) (n ∷ []))
     go false = rw append-nil (omega arith)
 
@@ -84,7 +85,7 @@ drop-past xs entry n h =
 
 module _ (C N : ℕ) (masks states : List ℕ) (c : ℕ) (entry : List ℕ) where
   abbrev R : Recording
-  R = record { controllers = C; count = N; masks = masks; states = states }
+  R = recordingOf C N masks states
 
   pub project-short : length entry < maxStates → ProjectIs R c entry (Refused lentShort) entry
   unfolding answerOf answer projectAnswer projectNumber projectPlaces pick
@@ -93,9 +94,9 @@ module _ (C N : ℕ) (masks states : List ℕ) (c : ℕ) (entry : List ℕ) wher
       record { answered = rw t; lent = rw t (sym (left-short maxStates (localTrace R c) entry)) }
 
   module _ (room : maxStates ≤ length entry) (a b r : ℕ) (ae : a ≡ recordingRefusal R)
-      (be : (Q : Recording) → Q .controllers ≡ C → b ≡ controllerRefusal Q c) (re : r ≡ orElse a b) where
-    joined : r ≡ orElse (recordingRefusal R) (controllerRefusal R c)
-    joined = rw (← ae, ← controller-of C N masks states c b be) re
+      (be : b ≡ controllerRefusal C c) (re : r ≡ orElse a b) where
+    joined : r ≡ orElse (recordingRefusal R) (controllerRefusal C c)
+    joined = rw (← ae, ← be) re
 
     number-is : projectNumber R c entry ≡ r
     unfolding projectNumber pick
@@ -103,8 +104,8 @@ module _ (C N : ℕ) (masks states : List ℕ) (c : ℕ) (entry : List ℕ) wher
 
     number-low : r < lentShort
     number-low =
-        let l : orElse (recordingRefusal R) (controllerRefusal R c) < tooManyNodes
-        = or-else-low (recordingRefusal R) (controllerRefusal R c) tooManyNodes (recording-low R) (controller-low R c) in
+        let l : orElse (recordingRefusal R) (controllerRefusal C c) < tooManyNodes
+        = or-else-low (recordingRefusal R) (controllerRefusal C c) tooManyNodes (recording-low R) (controller-low C c) in
         rw joined (omega arith)
 
     pub project-refused : (exit : List ℕ) → (r ≡ 0 → ⊥) → exit ≡ cleared entry 0 maxStates → ProjectIs R c entry (Refused r) exit
@@ -115,8 +116,8 @@ module _ (C N : ℕ) (masks states : List ℕ) (c : ℕ) (entry : List ℕ) wher
     }
 
     module _ (z : r ≡ 0) where
-      both : (recordingRefusal R ≡ 0) × (controllerRefusal R c ≡ 0)
-      both = or-else-none (recordingRefusal R) (controllerRefusal R c) (sym joined ∙ z)
+      both : (recordingRefusal R ≡ 0) × (controllerRefusal C c ≡ 0)
+      both = or-else-none (recordingRefusal R) (controllerRefusal C c) (sym joined ∙ z)
 
       below : c < C
       unfolding controllerRefusal

@@ -1,4 +1,5 @@
 // Projection as an operation: the local trace of one controller of any recording, in lent space.
+ghost use Rattle.definitions.specs.Recordings.{recordingOf};
 ghost use Rattle.projection.specs.Answers.{ProjectIs};
 use super::places::local_length;
 use super::places::project_into;
@@ -23,7 +24,7 @@ pub fn project(
     c: usize,
     places: &mut [u32],
 ) -> Projection
-    ensures { λ r. ⌜ ProjectIs (record { controllers = controllers; count = count; masks = now (masks .entry); states = now (states .entry) }) c (now (places .entry)) r (now (places .exit)) ⌝ }
+    ensures { λ r. ⌜ ProjectIs (recordingOf controllers count (now (masks .entry)) (now (states .entry))) c (now (places .entry)) r (now (places .exit)) ⌝ }
 {
     if places.len() < Limits::STATES {
         return Projection::Refused(Refusal::LENT_SHORT);

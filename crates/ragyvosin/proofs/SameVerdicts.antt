@@ -7,7 +7,7 @@ use native.Mathlib.Omega.{arith}
 use lib.ListN.{length, getD}
 use Rattle.definitions.specs.Limits.{accepted, maxTableNodes, maxRowWords}
 use Rattle.definitions.specs.Bounded.{pick, bit}
-use Rattle.definitions.specs.Tables.{Rule, Table, nodesIn}
+use Rattle.definitions.specs.Tables.{Rule, Table, tableOf, nodesIn}
 use Rattle.definitions.specs.Recordings.{Recording, maskOf}
 use Rattle.definitions.specs.Projection.{localTrace}
 use Rattle.definitions.specs.Readings.{local, verdict}
@@ -18,7 +18,6 @@ use Rattle.evaluation.specs.declared.verdicts.Verdicts.{Verdicts}
 use Rattle.evaluation.specs.declared.verdicts.Verdicts.the-variants.{Judged, Refused}
 use Rattle.rewriting.specs.Answers.{answerOf as rewritten}
 use Rattle.rewriting.specs.declared.rewrite.Rewriting.{Rewriting}
-use Rattle.ragyvosin.specs.Arguments.{tableOf}
 
 -- "the table, count and tops that a rewriting answered"
 abbrev pub tableBy : Rewriting → List ℕ → Table

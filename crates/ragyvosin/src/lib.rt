@@ -3,6 +3,8 @@
 // `same-verdicts-all-four-times` (proofs/SameVerdicts) says what these contracts give together: schedule independence.
 ghost use mathlib.Core.Path.{_≡_};
 ghost use mathlib.Core.Bool.{true, false};
+ghost use Rattle.definitions.specs.Tables.{ruleOf, tableOf};
+ghost use Rattle.definitions.specs.Recordings.{recordingOf};
 ghost use Rattle.definitions.specs.Operations.{readRuleAnswer, readRuleNodes, writeRuleAnswer, writeRuleText, readRecordingAnswer, readRecordingMasks, readRecordingStates};
 ghost use Rattle.definitions.specs.Operations.{readJointHeading, readJointNodes, readJointMasks, readJointStates, readJointPart, projectAnswer, projectPlaces, judgeLocalAnswer};
 ghost use Rattle.definitions.specs.Operations.{rewriteAnswer, rewriteTable, judgeRecordingAnswer, judgeRecordingRows};
@@ -12,7 +14,6 @@ ghost use Rattle.trace_text.specs.Reading.{readAnswer as recordingRead};
 ghost use Rattle.projection.specs.Answers.{answerOf as projected};
 ghost use Rattle.evaluation.specs.Judging.{answerOf as judged};
 ghost use Rattle.rewriting.specs.Answers.{answerOf as rewritten};
-ghost use Rattle.ragyvosin.specs.Arguments.{ruleOf, recordingOf, tableOf};
 ghost use Rattle.ragyvosin.specs.Parts.{placeIn, bytesIn};
 pub use evaluation::verdicts::Verdicts;
 pub use formula_text::read::RuleRead;

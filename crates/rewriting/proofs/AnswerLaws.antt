@@ -11,7 +11,7 @@ use Rattle.definitions.specs.Limits.{maxTableNodes, lentShort, accepted}
 use Rattle.definitions.specs.Bounded.{pick, orElse}
 use Rattle.definitions.specs.Nodes as words
 use Rattle.definitions.specs.Nodes.{nodeWord}
-use Rattle.definitions.specs.Tables.{Rule, nodesIn, ruleRefusal}
+use Rattle.definitions.specs.Tables.{Rule, nodesIn, ruleRefusal, ruleOf}
 use Rattle.definitions.specs.Rewriting as table
 use Rattle.definitions.specs.Rewriting.{emit, closing, closed, lastImage, rewriting}
 use Rattle.definitions.specs.Operations.{answer, rewrittenOf, sizeRefusal, rewriteNumber, rewriteAnswer, rewriteTable}
@@ -28,7 +28,7 @@ use Rattle.rewriting.specs.declared.rewrite.Tops.{Tops}
 use Rattle.images.specs.Emission.{Emitted}
 use Rattle.images.specs.Images.{meant}
 use Rattle.rewriting.specs.Drafts.{Ruled, Drawn, draftOf}
-use Rattle.rewriting.specs.Answers.{Tabled, TableOf, ruleOf, Rewrote}
+use Rattle.rewriting.specs.Answers.{Tabled, TableOf, Rewrote}
 use Rattle.images.proofs.EmitLaws.{holds-more, map-length, seam-take, seam-drop}
 
 module _ (short : Bool) (mask count : ℕ) (ws o : List ℕ) (d : Draft) (o′ : List ℕ) (w : Drawn short mask count ws o d o′) where

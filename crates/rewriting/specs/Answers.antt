@@ -5,7 +5,7 @@ use mathlib.Core.Path.{_≡_}
 use Prim.Native.Nat.{ℕ, _≤_}
 use lib.ListN.{length}
 use Rattle.definitions.specs.Limits.{accepted, maxTableNodes}
-use Rattle.definitions.specs.Tables.{Rule, nodesIn}
+use Rattle.definitions.specs.Tables.{Rule, nodesIn, ruleOf}
 use Rattle.definitions.specs.Nodes.{nodeWord}
 use Rattle.definitions.specs.Rewriting as table
 use Rattle.definitions.specs.Rewriting.{rewriting}
@@ -33,10 +33,6 @@ pub record TableOf (T : table.Rewritten) (o : List ℕ) (r : Tops) (o′ : List 
   pub count : r .count ≡ length (T .nodes)
   pub weak : r .weak ≡ T .weakTop
   pub strong : r .strong ≡ T .strongTop
-
--- the rule as tables
-abbrev pub ruleOf : ℕ → ℕ → List ℕ → Rule
-ruleOf controller count nodes = record { controller = controller; count = count; nodes = nodes }
 
 -- the whole answer and the whole lent table, on every input: "rewrite plain or short (rule and own mask, any 32 bits)"
 pub record Rewrote (short : Bool) (controller count : ℕ) (nodes : List ℕ) (mask : ℕ) (entry : List ℕ) (r : Rewriting) (exit : List ℕ) : Type 0 where

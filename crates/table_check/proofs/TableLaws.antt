@@ -14,7 +14,7 @@ use native.Mathlib.Numerals.{add-one}
 use Rattle.definitions.specs.Limits.{maxTableNodes, accepted, ruleLimits, ruleLines}
 use Rattle.definitions.specs.Bounded.{pick, within, orElse}
 use Rattle.definitions.specs.Nodes.{nodeOf}
-use Rattle.definitions.specs.Tables.{nodeRefusal, nodesRefusal, ruleHeadingRefusal, ruleRefusal, topsRefusal, tableRefusal}
+use Rattle.definitions.specs.Tables.{nodeRefusal, nodesRefusal, ruleHeadingRefusal, ruleRefusal, topsRefusal, tableRefusal, ruleOf, tableOf}
 use Rattle.formulas.specs.Meaning.{meaning, OfWord}
 use Rattle.formulas.specs.declared.node.Node.{Node}
 
@@ -65,12 +65,12 @@ pub ruleset node-laws = (needs, left-start, left-missing, left-refused, left-nex
 
 module _ (controller count : ℕ) (ws : List ℕ) where
   pub rule-heading : (k : ℕ) → k ≡ ruleHeadingRefusal controller count → (k ≡ 0 → ⊥) →
-      k ≡ ruleRefusal (record { controller = controller; count = count; nodes = ws })
+      k ≡ ruleRefusal (ruleOf controller count ws)
   unfolding ruleRefusal
   rule-heading k e z = rw (← e) (sym (or-first k _ z))
 
   pub rule-nodes : (k r : ℕ) → k ≡ ruleHeadingRefusal controller count → k ≡ 0 → r ≡ nodesRefusal false 0 count ws →
-      r ≡ ruleRefusal (record { controller = controller; count = count; nodes = ws })
+      r ≡ ruleRefusal (ruleOf controller count ws)
   unfolding ruleRefusal
   rule-nodes k r e z n = rw (← e) (n ∙ sym (or-second k _ z))
 
@@ -78,18 +78,18 @@ pub ruleset rule-laws = (needs, rule-heading, rule-nodes)
 
 module _ (count : ℕ) (ws : List ℕ) (weak strong : ℕ) where
   pub table-heading : (k : ℕ) → k ≡ pick (within 1 maxTableNodes count) accepted ruleLimits → (k ≡ 0 → ⊥) →
-      k ≡ tableRefusal (record { count = count; nodes = ws; weakTop = weak; strongTop = strong })
+      k ≡ tableRefusal (tableOf count ws weak strong)
   unfolding tableRefusal
   table-heading k e z = rw (← e) (sym (or-first k _ z))
 
   pub table-nodes : (k r : ℕ) → k ≡ pick (within 1 maxTableNodes count) accepted ruleLimits → k ≡ 0 → r ≡ nodesRefusal true 0 count ws → (r ≡ 0 → ⊥) →
-      r ≡ tableRefusal (record { count = count; nodes = ws; weakTop = weak; strongTop = strong })
+      r ≡ tableRefusal (tableOf count ws weak strong)
   unfolding tableRefusal
   table-nodes k r e z n y = rw (← e, ← n) (sym (or-second k _ z ∙ or-first r _ y))
 
   pub table-tops : (k r t : ℕ) → k ≡ pick (within 1 maxTableNodes count) accepted ruleLimits → k ≡ 0 → r ≡ nodesRefusal true 0 count ws → r ≡ 0 →
       t ≡ pick (ltb weak count && ltb strong count) accepted ruleLimits →
-      t ≡ tableRefusal (record { count = count; nodes = ws; weakTop = weak; strongTop = strong })
+      t ≡ tableRefusal (tableOf count ws weak strong)
   unfolding tableRefusal topsRefusal
   table-tops k r t e z n y h = rw (← e, ← n) (h ∙ sym (or-second k _ z ∙ or-second r _ y))
 

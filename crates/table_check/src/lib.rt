@@ -1,6 +1,6 @@
 // The check of a rule's table and of the judge's: the first refusal that is met, 0 for none.
 ghost use mathlib.Core.Path.{_≡_};
-ghost use Rattle.definitions.specs.Tables.{nodesRefusal, ruleHeadingRefusal, ruleRefusal, tableRefusal};
+ghost use Rattle.definitions.specs.Tables.{nodesRefusal, ruleHeadingRefusal, ruleRefusal, tableRefusal, ruleOf, tableOf};
 use formulas::choice::pick;
 use formulas::limits::Limits;
 use formulas::limits::Refusal;
@@ -35,7 +35,7 @@ pub fn rule_heading_refusal(controller: usize, count: usize) -> u8
 
 // The heading, then the nodes.
 pub fn rule_refusal(controller: usize, count: usize, nodes: &[u32]) -> u8
-    ensures { λ r. ⌜ r ≡ ruleRefusal (record { controller = controller; count = count; nodes = now (nodes .entry) }) ⌝ }
+    ensures { λ r. ⌜ r ≡ ruleRefusal (ruleOf controller count (now (nodes .entry))) ⌝ }
 {
     let heading = rule_heading_refusal(controller, count);
     if heading != Refusal::NONE {
@@ -46,7 +46,7 @@ pub fn rule_refusal(controller: usize, count: usize, nodes: &[u32]) -> u8
 
 // The count, then the nodes, then the tops.
 pub fn table_refusal(count: usize, nodes: &[u32], weak_top: usize, strong_top: usize) -> u8
-    ensures { λ r. ⌜ r ≡ tableRefusal (record { count = count; nodes = now (nodes .entry); weakTop = «weak_top»; strongTop = «strong_top» }) ⌝ }
+    ensures { λ r. ⌜ r ≡ tableRefusal (tableOf count (now (nodes .entry)) «weak_top» «strong_top») ⌝ }
 {
     let some = (1 <= count) & (count <= Limits::TABLE_NODES);
     let heading = pick(some, Refusal::NONE, Refusal::RULE_LIMITS);

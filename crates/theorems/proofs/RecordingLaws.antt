@@ -1,18 +1,17 @@
 -- What the acceptance of a recording says of each of its states.
-use mathlib.Core.Path.{_≡_, refl, sym, ap, _∙_}
-use Prim.Native.Nat.{ℕ, zero, suc, _+_, _-_, _*_, _/_, _%_, _^_, _≤_, _<_}
+use mathlib.Core.Path.{_≡_, refl}
+use Prim.Native.Nat.{ℕ, zero, suc, _+_, _-_, _/_, _^_, _≤_, _<_}
 use native.Mathlib.Omega.{arith}
-use native.Mathlib.Numerals.{add-one}
 use native.Mathlib.Nat.{zero-div}
-use mathlib.Core.Bool.{Bool, true, false, not, _&&_, _||_, true≢false}
+use mathlib.Core.Bool.{Bool, false, not, _&&_, _||_}
 use mathlib.Core.List.{List, [], _∷_}
 use lib.ListN.{length, take, getD, length-take, List·getD-eq-default}
 use lib.Dec.{eqb, ltb, leb}
 use lib.Bits.{bitAnd}
-use borrow.Author.Tests.{ltb-true, ltb-false, leb-true, eqb-true, lt-ltb, eq-eqb, not-false, not-true}
+use borrow.Author.Tests.{ltb-false, leb-true, eqb-true, lt-ltb, eq-eqb, not-false}
 use Rattle.definitions.specs.Limits.{maxControllers, maxStates, recordingLimits, recordingLines, outputRule, lastMark, accepted}
-use Rattle.definitions.specs.Bounded.{pick, bitOf, within, orElse, someOf}
-use Rattle.definitions.specs.Recordings.{Recording, atomsOf, marksOf, marked, masksOf, statesOf, maskOf, stateAt, wordAt, runsAt, outputBroken, stateRefusal, recordingHeadingRefusal, masksRefusal, statesRefusal, recordingLinesRefusal, recordingRefusal}
+use Rattle.definitions.specs.Bounded.{pick, bitOf, within, orElse}
+use Rattle.definitions.specs.Recordings.{Recording, atomsOf, marksOf, marked, masksOf, statesOf, maskOf, wordAt, runsAt, outputBroken, stateRefusal, recordingHeadingRefusal, masksRefusal, statesRefusal, recordingLinesRefusal, recordingRefusal}
 use Rattle.theorems.proofs.Choice.{both-true, both-false, refuse-no, accept-yes, or-else-none, some-no}
 
 pub bit-zero : (a : ℕ) → bitOf 0 a ≡ false

@@ -15,8 +15,7 @@ use borrow.Author.Needs.{needs}
 use borrow.Author.Tests.{ne-eqb, lt-ltb, le-ltb, leb-true, leb-false, lt-leb, le-leb}
 use Rattle.definitions.specs.Limits.{maxControllers, maxStates, recordingLimits, masksMeet, recordingLines, lastMark, outputRule, noController, accepted}
 use Rattle.definitions.specs.Bounded.{pick, bitOf, within, orElse}
-use Rattle.definitions.specs.Recordings.{Recording, stateOf, atomsOf, marksOf, marked, maskOf, outputBroken, stateRefusal, recordingHeadingRefusal, masksRefusal, statesRefusal, recordingLinesRefusal, recordingRefusal}
-use Rattle.definitions.specs.Operations.{controllerRefusal}
+use Rattle.definitions.specs.Recordings.{Recording, stateOf, atomsOf, marksOf, marked, maskOf, outputBroken, stateRefusal, recordingHeadingRefusal, masksRefusal, statesRefusal, recordingLinesRefusal, recordingRefusal, controllerRefusal, recordingOf}
 use Rattle.theorems.proofs.Choice.{accept-yes, both-true, refuse-no}
 use Rattle.theorems.proofs.Recursions.{some-cong}
 use Rattle.traces.specs.Unions.{unionOf, unionRefusal, unionsRefusal}
@@ -285,7 +284,7 @@ states-own C N masks k before (s ∷ ss) = rw (state-own C N masks k before s, s
 -- ---- the whole recording
 module _ (C N : ℕ) (masks states : List ℕ) where
   abbrev recorded : Recording
-  recorded = record { controllers = C; count = N; masks = masks; states = states }
+  recorded = recordingOf C N masks states
 
   pub lines-is : (short r : ℕ) → short ≡ pick (ltb (length states) N) recordingLines accepted → r ≡ pick (ltb (length masks) C) recordingLines short → r ≡ recordingLinesRefusal recorded
   unfolding recordingLinesRefusal
@@ -304,14 +303,9 @@ module _ (C N : ℕ) (masks states : List ℕ) where
       sym (rw (← e, or-else-go heading _ z, ← m, ← t, ← l, ← o, ← f))
 
 -- ---- a controller of the recording
-pub controller-is : (C c r : ℕ) → r ≡ pick (ltb c C) accepted noController → (R : Recording) → R .controllers ≡ C → r ≡ controllerRefusal R c
+pub controller-is : (C c r : ℕ) → r ≡ pick (ltb c C) accepted noController → r ≡ controllerRefusal C c
 unfolding controllerRefusal
-controller-is C c r e R h = rw h e
-
--- the same for a recording given by its tables, as callers need it
-pub controller-of : (C N : ℕ) (masks states : List ℕ) (c r : ℕ) → ((R : Recording) → R .controllers ≡ C → r ≡ controllerRefusal R c) →
-    r ≡ controllerRefusal (record { controllers = C; count = N; masks = masks; states = states }) c
-controller-of C N masks states c r e = e (record { controllers = C; count = N; masks = masks; states = states }) refl
+controller-is C c r e = e
 
 -- what each function's returns and turns are answered with
 pub ruleset test-laws = (pick-yes, pick-no, or-else-is, heading-is, mask-is)

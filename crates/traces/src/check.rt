@@ -6,8 +6,7 @@ ghost use Prim.Native.Nat.{_^_, _≤_};
 ghost use lib.Dec.{ltb};
 ghost use lib.ListN.{take, getD};
 ghost use Rattle.definitions.specs.Limits.{maxControllers};
-ghost use Rattle.definitions.specs.Recordings.{Recording, stateOf, outputBroken, stateRefusal, recordingHeadingRefusal, masksRefusal, statesRefusal, recordingLinesRefusal, recordingRefusal};
-ghost use Rattle.definitions.specs.Operations.{controllerRefusal};
+ghost use Rattle.definitions.specs.Recordings.{Recording, stateOf, outputBroken, stateRefusal, recordingHeadingRefusal, masksRefusal, statesRefusal, recordingLinesRefusal, recordingRefusal, controllerRefusal, recordingOf};
 ghost use Rattle.traces.specs.Unions.{unionRefusal};
 ghost use Rattle.traces.specs.Turns.{InTurn, stepRefusal, lastRefusal};
 use super::held::held_atoms;
@@ -162,7 +161,7 @@ pub fn states_refusal(controllers: usize, count: usize, masks: &[u32], states: &
 
 // Fewer masks or states than the heading says.
 fn lines_refusal(controllers: usize, count: usize, masks: &[u32], states: &[u64]) -> u8
-    ensures { λ r. ⌜ r ≡ recordingLinesRefusal (record { controllers = controllers; count = count; masks = now (masks .entry); states = now (states .entry) }) ⌝ }
+    ensures { λ r. ⌜ r ≡ recordingLinesRefusal (recordingOf controllers count (now (masks .entry)) (now (states .entry))) ⌝ }
 {
     let short = pick(
         states.len() < count,
@@ -174,7 +173,7 @@ fn lines_refusal(controllers: usize, count: usize, masks: &[u32], states: &[u64]
 
 // A refused heading ends it: the shifts of the states need C within its limit.
 pub fn recording_refusal(controllers: usize, count: usize, masks: &[u32], states: &[u64]) -> u8
-    ensures { λ r. ⌜ r ≡ recordingRefusal (record { controllers = controllers; count = count; masks = now (masks .entry); states = now (states .entry) }) ⌝ }
+    ensures { λ r. ⌜ r ≡ recordingRefusal (recordingOf controllers count (now (masks .entry)) (now (states .entry))) ⌝ }
 {
     let heading = heading_refusal(controllers, count);
     if heading != Refusal::NONE {
@@ -187,9 +186,9 @@ pub fn recording_refusal(controllers: usize, count: usize, masks: &[u32], states
     or_else(meeting, late)
 }
 
-// Of the recording only the number of controllers decides.
+// "a controller not below C is 11"
 pub fn controller_refusal(controllers: usize, c: usize) -> u8
-    ensures { λ r. ⌜ ((R : Recording) → R .controllers ≡ controllers → r ≡ controllerRefusal R c) ⌝ }
+    ensures { λ r. ⌜ r ≡ controllerRefusal controllers c ⌝ }
 {
     pick(c < controllers, Refusal::NONE, Refusal::NO_CONTROLLER)
 }
