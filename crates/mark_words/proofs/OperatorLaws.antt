@@ -13,8 +13,8 @@ use Rattle.definitions.specs.Bounded.{pick, tabulate}
 use Rattle.definitions.specs.Readings.{nextAt, untilAt, prevAt, sinceAt}
 use Rattle.theorems.proofs.Recursions.{until-end, until-step, since-start, since-step}
 use Rattle.theorems.proofs.Tabulations.{tabulated}
-use Rattle.mark_words.specs.Marks.{markAt, lastAt}
-use Rattle.mark_words.specs.Lists.{headD, orRow, nextRow, untilRow, prevRow, sinceRow, lastRow}
+use Rattle.mark_words.specs.Marks.{markAt}
+use Rattle.mark_words.specs.Lists.{headD, zip, lastOnly, nextRow, untilRow, prevRow, sinceRow}
 
 pub lt-or-le : (a b : ℕ) → (a < b) ⊎ (b ≤ a)
 lt-or-le a b = from (ltb a b) refl where
@@ -158,30 +158,7 @@ next-is w l =
     tabulated (nextRow w l) (length l) (nextAt w (length l) (markAt l)) (next-length w l)
     (by-place (nextRow w l) (length l) (λ k. markAt l (suc k)) w (next-on w l) (next-end w l))
 
-pub last-length : (w : Bool) (l : List Bool) → length (lastRow w l) ≡ length l
-last-length w [] = refl
-last-length w (p ∷ []) = refl
-last-length w (p ∷ x ∷ l) = ap suc (last-length w (x ∷ l))
-
-last-on : (w : Bool) (l : List Bool) (k : ℕ) → suc k < length l → markAt (lastRow w l) k ≡ markAt l k
-last-on w [] k h = absurd (not-suc-le-zero h)
-last-on w (p ∷ []) k h = absurd (omega arith)
-last-on w (p ∷ x ∷ l) zero h = refl
-last-on w (p ∷ x ∷ l) (suc k) h = last-on w (x ∷ l) k (le-of-suc-le-suc h)
-
-last-end : (w : Bool) (l : List Bool) (k : ℕ) → suc k ≡ length l → markAt (lastRow w l) k ≡ w
-last-end w [] k h = absurd (omega arith)
-last-end w (p ∷ []) zero h = refl
-last-end w (p ∷ []) (suc k) h = absurd (omega arith)
-last-end w (p ∷ x ∷ l) zero h = absurd (omega arith)
-last-end w (p ∷ x ∷ l) (suc k) h = last-end w (x ∷ l) k (omega arith)
-
-pub last-is : (w : Bool) (l : List Bool) → lastRow w l ≡ tabulate (length l) (lastAt w (length l) (markAt l))
-last-is w l =
-    tabulated (lastRow w l) (length l) (lastAt w (length l) (markAt l)) (last-length w l)
-    (by-place (lastRow w l) (length l) (markAt l) w (last-on w l) (last-end w l))
-
--- ---- not and or, place by place
+-- ---- marks joined place by place
 
 map-at : (f : Bool → Bool) (l : List Bool) (k : ℕ) → k < length l → markAt (map f l) k ≡ f (markAt l k)
 map-at f [] k h = absurd (not-suc-le-zero h)
@@ -191,17 +168,48 @@ map-at f (x ∷ l) (suc k) h = map-at f l k (le-of-suc-le-suc h)
 pub not-is : (l : List Bool) → map not l ≡ tabulate (length l) (λ k. not (markAt l k))
 not-is l = tabulated (map not l) (length l) (λ k. not (markAt l k)) (length-map l not) (map-at not l)
 
-pub or-length : (ps qs : List Bool) → length ps ≡ length qs → length (orRow ps qs) ≡ length ps
-or-length [] qs h = refl
-or-length (p ∷ ps) [] h = sym h
-or-length (p ∷ ps) (q ∷ qs) h = ap suc (or-length ps qs (omega arith))
+pub zip-length : (f : Bool → Bool → Bool) (ps qs : List Bool) → length ps ≡ length qs → length (zip f ps qs) ≡ length ps
+zip-length f [] qs h = refl
+zip-length f (p ∷ ps) [] h = sym h
+zip-length f (p ∷ ps) (q ∷ qs) h = ap suc (zip-length f ps qs (omega arith))
 
-or-at : (ps qs : List Bool) (k : ℕ) → length ps ≡ length qs → k < length ps → markAt (orRow ps qs) k ≡ (markAt ps k || markAt qs k)
-or-at [] qs k h l = absurd (not-suc-le-zero l)
-or-at (p ∷ ps) [] k h l = absurd (omega arith)
-or-at (p ∷ ps) (q ∷ qs) zero h l = refl
-or-at (p ∷ ps) (q ∷ qs) (suc k) h l = or-at ps qs k (omega arith) (le-of-suc-le-suc l)
+zip-at : (f : Bool → Bool → Bool) (ps qs : List Bool) (k : ℕ) → length ps ≡ length qs → k < length ps → markAt (zip f ps qs) k ≡ f (markAt ps k) (markAt qs k)
+zip-at f [] qs k h l = absurd (not-suc-le-zero l)
+zip-at f (p ∷ ps) [] k h l = absurd (omega arith)
+zip-at f (p ∷ ps) (q ∷ qs) zero h l = refl
+zip-at f (p ∷ ps) (q ∷ qs) (suc k) h l = zip-at f ps qs k (omega arith) (le-of-suc-le-suc l)
 
-pub or-is : (ps qs : List Bool) → length ps ≡ length qs → orRow ps qs ≡ tabulate (length ps) (λ k. markAt ps k || markAt qs k)
-or-is ps qs h =
-    tabulated (orRow ps qs) (length ps) (λ k. markAt ps k || markAt qs k) (or-length ps qs h) (λ i l. or-at ps qs i h l)
+pub zip-is : (f : Bool → Bool → Bool) (ps qs : List Bool) → length ps ≡ length qs → zip f ps qs ≡ tabulate (length ps) (λ k. f (markAt ps k) (markAt qs k))
+zip-is f ps qs h =
+    tabulated (zip f ps qs) (length ps) (λ k. f (markAt ps k) (markAt qs k)) (zip-length f ps qs h) (λ i l. zip-at f ps qs i h l)
+
+-- ---- the last place
+
+pub only-length : (w : Bool) (n : ℕ) → length (lastOnly w n) ≡ n
+only-length w zero = refl
+only-length w (suc zero) = refl
+only-length w (suc (suc n)) = ap suc (only-length w (suc n))
+
+only-before : (w : Bool) (n k : ℕ) → suc k < n → markAt (lastOnly w n) k ≡ false
+only-before w zero k h = absurd (omega arith)
+only-before w (suc zero) k h = absurd (omega arith)
+only-before w (suc (suc n)) zero h = refl
+only-before w (suc (suc n)) (suc k) h = only-before w (suc n) k (le-of-suc-le-suc h)
+
+only-last : (w : Bool) (n k : ℕ) → suc k ≡ n → markAt (lastOnly w n) k ≡ w
+only-last w zero k h = absurd (omega arith)
+only-last w (suc zero) zero h = refl
+only-last w (suc zero) (suc k) h = absurd (omega arith)
+only-last w (suc (suc n)) zero h = absurd (omega arith)
+only-last w (suc (suc n)) (suc k) h = only-last w (suc n) k (omega arith)
+
+pub only-at : (w : Bool) (n k : ℕ) → k < n → markAt (lastOnly w n) k ≡ pick (ltb (suc k) n) false w
+only-at w n = by-place (lastOnly w n) n (λ k. false) w (only-before w n) (only-last w n)
+
+no-either : (z : Bool) → pick z false false ≡ false
+unfolding pick
+no-either true = refl
+no-either false = refl
+
+pub only-none : (n : ℕ) → lastOnly false n ≡ tabulate n (λ k. false)
+only-none n = tabulated (lastOnly false n) n (λ k. false) (only-length false n) (λ i h. only-at false n i h ∙ no-either (ltb (suc i) n))

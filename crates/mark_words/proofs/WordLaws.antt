@@ -18,7 +18,7 @@ use Rattle.definitions.specs.Bounded.{bit, bitOf, tabulateFrom}
 use Rattle.definitions.specs.Readings.{marksWord}
 use Rattle.mark_words.specs.declared.Reach.{Reach}
 use Rattle.mark_words.specs.Marks.{markAt, yesMarks}
-use Rattle.mark_words.specs.Lists.{orRow, untilRow, sinceRow}
+use Rattle.mark_words.specs.Lists.{zip, lastOnly, untilRow, sinceRow}
 use Rattle.mark_words.specs.Words.{foundIn, heldIn, Window, gathered}
 use Rattle.theorems.proofs.Tabulations.{tabulate-length}
 use Rattle.mark_words.proofs.OperatorLaws.{and-join, until-at, until-length}
@@ -59,23 +59,6 @@ pub ones-word : (l : List Bool) → ones (marksWord l) ≡ yesMarks l
 unfolding ones onesIn
 ones-word [] = refl
 ones-word (b ∷ l) = ones-step (marksWord (b ∷ l)) ∙ rw (low b l, half b l, ones-word l)
-
-max-zero : (b : Bool) → max (bit b) 0 ≡ bit b
-max-zero true = refl
-max-zero false = refl
-
-max-one : (b : Bool) → max (bit b) 1 ≡ 1
-max-one true = refl
-max-one false = refl
-
--- putting a mark is an `or` with its power of two
-pub word-put : (l : List Bool) (k : ℕ) → k < length l → bitOr (marksWord l) (2 ^ k) ≡ marksWord (set l k true)
-word-put [] k h = absurd (not-suc-le-zero h)
-word-put (b ∷ l) zero h = or-step (marksWord (b ∷ l)) 1 ∙ rw (half b l, low b l, max-one, or-zero-r)
-word-put (b ∷ l) (suc k) h =
-    let e1 : 2 ^ suc k / 2 ≡ 2 ^ k = rw pow-suc (omega arith) in
-    let e2 : 2 ^ suc k % 2 ≡ 0 = rw pow-suc (omega arith) in
-    or-step (marksWord (b ∷ l)) (2 ^ suc k) ∙ rw (half b l, low b l, e1, e2, max-zero, word-put l k (le-of-suc-le-suc h))
 
 -- ---- a word operation on one mark more
 
@@ -232,16 +215,6 @@ window-until ps qs w fits h le v =
 
 -- ---- marks joined place by place
 
-abbrev pub zip : (Bool → Bool → Bool) → List Bool → List Bool → List Bool
-zip f [] b = []
-zip f (x ∷ a) [] = []
-zip f (x ∷ a) (y ∷ b) = f x y ∷ zip f a b
-
-pub or-zip : (a b : List Bool) → zip _||_ a b ≡ orRow a b
-or-zip [] b = refl
-or-zip (x ∷ a) [] = refl
-or-zip (x ∷ a) (y ∷ b) = ap (λ (l : List Bool). (x || y) ∷ l) (or-zip a b)
-
 zip-nil : (f : Bool → Bool → Bool) (a : List Bool) → zip f a [] ≡ []
 zip-nil f [] = refl
 zip-nil f (x ∷ a) = refl
@@ -257,11 +230,6 @@ drop-zip f zero a b = refl
 drop-zip f (suc n) [] b = refl
 drop-zip f (suc n) (x ∷ a) [] = sym (zip-nil f (drop n a))
 drop-zip f (suc n) (x ∷ a) (y ∷ b) = drop-zip f n a b
-
-pub zip-length : (f : Bool → Bool → Bool) (a b : List Bool) → length a ≡ length b → length (zip f a b) ≡ length a
-zip-length f [] b h = refl
-zip-length f (x ∷ a) [] h = sym h
-zip-length f (x ∷ a) (y ∷ b) h = ap suc (zip-length f a b (omega arith))
 
 pub word-and : (a b : List Bool) → bitAnd (marksWord a) (marksWord b) ≡ marksWord (zip _&&_ a b)
 word-and [] b = refl
@@ -338,6 +306,32 @@ word-full (suc n) = rw pow-suc (omega (arith, word-full n))
 
 pub full-shl : (n : ℕ) → n < wordMarks → 1 * 2 ^ n % 2 ^ 64 ≡ marksWord (replicate n true) + 1
 full-shl n h = rw one-mul (mod-eq-of-lt (pow-lt {i = n} {j = 64} h) ∙ word-full n)
+
+-- ---- no mark but the last
+
+pub last-none : (n : ℕ) → marksWord (lastOnly false n) ≡ 0
+last-none zero = refl
+last-none (suc zero) = refl
+last-none (suc (suc n)) = omega (arith, last-none (suc n))
+
+pub last-one : (n : ℕ) → marksWord (lastOnly true (suc n)) ≡ 2 ^ n
+last-one zero = refl
+last-one (suc n) = rw pow-suc (omega (arith, last-one n))
+
+pub word-last-none : (n : ℕ) (w : Bool) → n ≡ 0 → 0 ≡ marksWord (lastOnly w n)
+word-last-none n w e = rw e
+
+pub word-last-no : (n : ℕ) (w : Bool) → w ≡ false → 0 ≡ marksWord (lastOnly w n)
+word-last-no n w e = rw e (sym (last-none n))
+
+pub word-last-yes : (n : ℕ) (w : Bool) → n ≤ wordMarks → (n ≡ 0 → ⊥) → w ≡ true → 1 * 2 ^ (n - 1) % 2 ^ 64 ≡ marksWord (lastOnly w n)
+word-last-yes n w h some e =
+    let m : n ≡ suc (n - 1) = omega arith in
+    rw (e, one-mul, mod-eq-of-lt (pow-lt {i = n - 1} {j = 64} (omega arith))) (sym (last-one (n - 1)) ∙ ap (λ (k : ℕ). marksWord (lastOnly true k)) (sym m))
+
+pub ruleset last-laws = (needs, word-last-none, word-last-no, word-last-yes)
+
+-- ---- the low bits of a number
 
 -- a bit below d is not cut off
 pub bit-low : (a d k : ℕ) → k < d → bitOf (a % 2 ^ d) k ≡ bitOf a k

@@ -7,7 +7,7 @@ ghost use lib.ListN.{length, replicate};
 ghost use Rattle.definitions.specs.Limits.{wordMarks};
 ghost use Rattle.definitions.specs.Bounded.{bit};
 ghost use Rattle.definitions.specs.Readings.{marksWord};
-ghost use Rattle.mark_words.specs.Lists.{untilRow, sinceRow};
+ghost use Rattle.mark_words.specs.Lists.{lastOnly, untilRow, sinceRow};
 ghost use Rattle.mark_words.specs.Words.{Window, gathered};
 
 // The marks of one word.
@@ -60,6 +60,20 @@ pub fn ones(n: usize) -> u64
         return u64::MAX;
     }
     (1u64 << n) - 1
+}
+
+// The word of n marks, none of them yes but the last, if that one is.
+pub fn last_word(n: usize, yes: bool) -> u64
+    requires { ⌜ n ≤ wordMarks ⌝ }
+    ensures { λ r. ⌜ r ≡ marksWord (lastOnly yes n) ⌝ }
+{
+    if n == 0 {
+        return 0;
+    }
+    if yes {
+        return 1u64 << (n - 1);
+    }
+    0
 }
 
 // Bit `bit` of each of the states from..to, gathered from the last one back.

@@ -11,25 +11,19 @@ use borrow.Author.Needs.{needs}
 use Rattle.definitions.specs.Limits.{maxStates, pairWords}
 use Rattle.definitions.specs.Readings.{rowWords, Rows, noRows, pairsWords}
 use Rattle.rows.specs.declared.row.Row.{Row}
-use Rattle.rows.specs.Marks.{marks, packed, Whole, Made}
+use Rattle.rows.specs.Marks.{marks, packed, lowWord, highWord, Whole, Made}
 use Rattle.rows.specs.Stored.{rowAt}
-use Rattle.rows.proofs.RowLaws.{made}
+use Rattle.rows.proofs.PackedLaws.{made, marks-length}
 
 -- ---- rows
 
-abbrev pub threeWords : Row → List ℕ
-threeWords r = getD (r .words) 0 0 ∷ getD (r .words) 1 0 ∷ r .count ∷ []
-
-pub row-words : (r : Row) → Whole r → threeWords r ≡ rowWords (marks r)
-unfolding packed
-row-words r w = ap threeWords (w .exact)
-
-pub stored : (l : List ℕ) (at : ℕ) (r : Row) → Whole r → at + 3 ≤ length l
-    → set (set (set l at (getD (r .words) 0 0)) (at + 1) (getD (r .words) 1 0)) (at + 2) (r .count) ≡ take at l ++ (rowWords (marks r) ++ drop (at + 3) l)
-stored l at r w h =
+pub stored : (l : List ℕ) (at a b : ℕ) (r : Row) → Whole r → at + 3 ≤ length l → a ≡ lowWord r → b ≡ highWord r
+    → set (set (set l at a) (at + 1) b) (at + 2) (r .count) ≡ take at l ++ (rowWords (marks r) ++ drop (at + 3) l)
+stored l at a b r w h ea eb =
     let one : at + 1 ≡ suc at = omega arith in
     let two : at + 2 ≡ suc (suc at) = omega arith in
-    rw (one, two) (sets-eq (threeWords r) l at h ∙ append-assoc (take at l) (threeWords r) (drop (at + 3) l) ∙ ap (λ (ws : List ℕ). take at l ++ (ws ++ drop (at + 3) l)) (row-words r w))
+    let words : a ∷ b ∷ r .count ∷ [] ≡ rowWords (marks r) = rw (ea, eb, marks-length r w) in
+    rw (one, two) (sets-eq (a ∷ b ∷ r .count ∷ []) l at h ∙ append-assoc (take at l) (a ∷ b ∷ r .count ∷ []) (drop (at + 3) l) ∙ ap (λ (ws : List ℕ). take at l ++ (ws ++ drop (at + 3) l)) words)
 
 -- the words of a row, wherever they lie, are read back as the row
 pub loaded : (l : List ℕ) (at n : ℕ) (ms : List Bool) (r : Row) → r ≡ rowAt l at → take 3 (drop at l) ≡ rowWords ms → length ms ≡ n → n ≤ maxStates → Made r n ms

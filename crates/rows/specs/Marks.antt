@@ -16,6 +16,14 @@ bitAt ws k = bitOf (getD ws (k / wordMarks) 0) (k % wordMarks)
 unfoldable pub marks : Row → List Bool
 marks r = tabulate (r .count) (bitAt (r .words))
 
+-- the word of a row's places below 64
+abbrev pub lowWord : Row → ℕ
+lowWord r = marksWord (take wordMarks (marks r))
+
+-- and from 64 on
+abbrev pub highWord : Row → ℕ
+highWord r = marksWord (drop wordMarks (marks r))
+
 -- the row that holds the marks l
 unfoldable pub packed : List Bool → Row
 packed l = record { words = marksWord (take wordMarks l) ∷ marksWord (drop wordMarks l) ∷ []; count = length l }

@@ -22,8 +22,7 @@ pub fn store(rows: &mut [u64], at: usize, row: Row)
     requires { ⌜ (Whole row) × (at + 3 ≤ length (now rows)) ⌝ }
     ensures { λ _. ⌜ now (rows .exit) ≡ take at (now (rows .entry)) ++ (rowWords (marks row) ++ drop (at + 3) (now (rows .entry))) ⌝ }
 {
-    let words = row.words;
-    rows[at] = words[0];
-    rows[at + 1] = words[1];
+    rows[at] = row.low();
+    rows[at + 1] = row.high();
     rows[at + 2] = row.count as u64;
 }

@@ -1,3 +1,4 @@
+-- `load` meets its contract: three words are read.
 use borrow.Author.Needs.{needs}
 use Rattle.rows.specs.Stored.{rowAt}
 use Rattle.rows.proofs.stored.load.Statement.{statement}
