@@ -13,8 +13,8 @@ use Rattle.definitions.specs.Projection.{localTrace}
 use Rattle.definitions.specs.Readings.{localVerdicts}
 use Rattle.definitions.specs.Operations.{answer, judgeLocalAnswer, verdictValues}
 use Rattle.theorems.proofs.ScheduleIndependence.{Accepted, local-judging, local-judging-same, local-accepted}
-use Rattle.evaluation.specs.Judging as evaluation
-use Rattle.evaluation.specs.declared.verdicts.Verdicts.{Verdicts}
+use Rattle.judges.specs.Verdicts as judges
+use Rattle.judges.specs.declared.verdicts.Judgement as judged
 use Rattle.judging.specs.Rewritten.{answerOf, rewrittenFor, numberOf, Judgements}
 use Rattle.judging.specs.declared.rewritten.Judgement.{Judgement}
 
@@ -42,21 +42,21 @@ call-answers short r R j A c =
     rw z at (c .meets .answered)
 
 -- the six answers, one pair of verdicts
-pub record FourJudgements (r : Rule) (R S : Recording) (plainR shortR plainS shortS : Judgement) (localR localS : Verdicts) (verdicts : List ℕ) : Type 0 where
+pub record FourJudgements (r : Rule) (R S : Recording) (plainR shortR plainS shortS : Judgement) (localR localS : judged.Judgement) (verdicts : List ℕ) : Type 0 where
   pub plainFirst : answerOf plainR ≡ answer accepted (length ((rewrittenFor false r R) .nodes) ∷ verdicts)
   pub shortFirst : answerOf shortR ≡ answer accepted (length ((rewrittenFor true r R) .nodes) ∷ verdicts)
   pub plainSecond : answerOf plainS ≡ answer accepted (length ((rewrittenFor false r S) .nodes) ∷ verdicts)
   pub shortSecond : answerOf shortS ≡ answer accepted (length ((rewrittenFor true r S) .nodes) ∷ verdicts)
-  pub localFirst : evaluation.answerOf localR ≡ answer accepted verdicts
-  pub localSecond : evaluation.answerOf localS ≡ answer accepted verdicts
+  pub localFirst : judges.answerOf localR ≡ answer accepted verdicts
+  pub localSecond : judges.answerOf localS ≡ answer accepted verdicts
 
 -- Any accepted rule, any two accepted recordings that have its controller, with the same local trace and own mask for it: whatever `judge_rewritten`
 -- answers over them, plain and short, and whatever `judge_local` answers, the verdicts are one pair, the rule's own on that local trace.
 pub code-schedule-independence : (r : Rule) (R S : Recording) → Accepted r R → Accepted r S →
     localTrace R (r .controller) ≡ localTrace S (r .controller) → maskOf R (r .controller) ≡ maskOf S (r .controller) →
-    (plainR shortR plainS shortS : Judgement) (localR localS : Verdicts) →
+    (plainR shortR plainS shortS : Judgement) (localR localS : judged.Judgement) →
     Call false r R plainR → Call true r R shortR → Call false r S plainS → Call true r S shortS →
-    evaluation.answerOf localR ≡ judgeLocalAnswer r R → evaluation.answerOf localS ≡ judgeLocalAnswer r S →
+    judges.answerOf localR ≡ judgeLocalAnswer r R → judges.answerOf localS ≡ judgeLocalAnswer r S →
     FourJudgements r R S plainR shortR plainS shortS localR localS
     (verdictValues (localVerdicts (nodesIn (r .count) (r .nodes)) (maskOf R (r .controller)) (localTrace R (r .controller))))
 code-schedule-independence r R S A B places mask p s q t l m cp cs cq ct el em =

@@ -23,10 +23,11 @@ use Rattle.theorems.proofs.RewrittenAccepted.{rewritten-nodes, rewritten-fits}
 use Rattle.theorems.proofs.ScheduleIndependence.{Accepted, local-judging, rewritten-judging}
 use Rattle.traces.proofs.CheckLaws.{own-mask}
 use Rattle.lent.specs.Space.{cleared}
-use Rattle.evaluation.specs.Judging as judging
-use Rattle.evaluation.specs.Judging.{traceRefusal, WholeJudged}
-use Rattle.evaluation.specs.declared.verdicts.Verdicts.{Verdicts}
-use Rattle.evaluation.specs.declared.verdicts.Verdicts.the-variants as verdict
+use Rattle.judges.specs.Verdicts as judging
+use Rattle.judges.specs.Whole.{WholeJudged}
+use Rattle.judges.specs.declared.verdicts.Verdicts.{Verdicts}
+use Rattle.judges.specs.declared.verdicts.Judgement as judges
+use Rattle.judges.specs.declared.verdicts.Judgement.the-variants as verdict
 use Rattle.rewriting.specs.Answers as rewriting
 use Rattle.rewriting.specs.Answers.{Rewrote}
 use Rattle.rewriting.specs.declared.rewrite.Rewriting.{Rewriting}
@@ -116,10 +117,10 @@ module _ (short : Bool) (r : Rule) (R : Recording) (table rows : List ℕ) (J : 
         not-judged number v =
             never _ _ (sym (refused-values number) ∙ (ap (λ (a : Answer). a .values) (v .answered ∙ judged-locally) ∙ accepted-values _))
 
-        judged : (a b : Bool) → WholeJudged given R (r .controller) rows (verdict.Judged a b) rows′ →
-            JudgedLocally short r R table rows (Judged n a b) table′ rows′
+        judged : (u : Verdicts) → WholeJudged given R (r .controller) rows (verdict.Judged u) rows′ →
+            JudgedLocally short r R table rows (Judged n (u .weak) (u .strong)) table′ rows′
         unfolding judging.answerOf answerOf judgeRecordingRows
-        judged a b v =
+        judged u v =
             let e = sym (accepted-values _) ∙ (ap (λ (a : Answer). a .values) (v .answered ∙ judged-locally) ∙ accepted-values _) in
             let c : n ≡ length ((rewrittenFor short r R) .nodes) = rw (← own) (cc values-same) in
             let z : judgeRecordingNumber given R (r .controller) rows ≡ 0 = judge-zero in
@@ -137,13 +138,13 @@ module _ (short : Bool) (r : Rule) (R : Recording) (table rows : List ℕ) (J : 
   pub arm-unwritten : (number : ℕ) → w ≡ written.Refused number → JudgedLocally short r R table rows (Refused number) table′ rows
   arm-unwritten number e = not-written short r R table rows J mask me table′ number (rw e at rewrote)
 
-  module _ (n wt st : ℕ) (e : w ≡ written.Rewritten n wt st) (v : Verdicts) (rows′ : List ℕ)
+  module _ (n wt st : ℕ) (e : w ≡ written.Rewritten n wt st) (v : judges.Judgement) (rows′ : List ℕ)
       (answered : WholeJudged (tableOf n table′ wt st) R (r .controller) rows v rows′) where
     pub arm-unjudged : (number : ℕ) → v ≡ verdict.Refused number → JudgedLocally short r R table rows (Refused number) table′ rows′
     arm-unjudged number f = not-judged short r R table rows J mask me table′ n wt st (rw e at rewrote) rows′ number (rw f at answered)
 
-    pub arm-judged : (a b : Bool) → v ≡ verdict.Judged a b → JudgedLocally short r R table rows (Judged n a b) table′ rows′
-    arm-judged a b f = judged short r R table rows J mask me table′ n wt st (rw e at rewrote) rows′ a b (rw f at answered)
+    pub arm-judged : (w : Verdicts) → v ≡ verdict.Judged w → JudgedLocally short r R table rows (Judged n (w .weak) (w .strong)) table′ rows′
+    arm-judged w f = judged short r R table rows J mask me table′ n wt st (rw e at rewrote) rows′ w (rw f at answered)
 
 -- ---- any input
 
@@ -166,15 +167,16 @@ module _ (short : Bool) (r : Rule) (R : Recording) (table rows : List ℕ) where
   rows-short h = short-judgement (short-number (rw (lt-ltb (length rows) maxRowWords h, or-true)))
 
   module _ (fullTable : maxTableNodes ≤ length table) (fullRows : maxRowWords ≤ length rows) (number : ℕ)
-      (e : number ≡ orElse (ruleRefusal r) (traceRefusal R (r .controller))) where
+      (e : number ≡ judgeLocalNumber r R) where
     number-is : numberOf r R table rows ≡ number
-    unfolding numberOf pick judgeLocalNumber
+    unfolding numberOf pick
     number-is = rw (le-ltb (length table) maxTableNodes fullTable, le-ltb (length rows) maxRowWords fullRows) (sym e)
 
     number-low : number < lentShort
+    unfolding judgeLocalNumber
     number-low =
-        let l : orElse (ruleRefusal r) (traceRefusal R (r .controller)) < tooManyNodes
-        = or-else-low (ruleRefusal r) (traceRefusal R (r .controller)) tooManyNodes (rule-low r)
+        let l : orElse (ruleRefusal r) (orElse (recordingRefusal R) (controllerRefusal (R .controllers) (r .controller))) < tooManyNodes
+        = or-else-low (ruleRefusal r) (orElse (recordingRefusal R) (controllerRefusal (R .controllers) (r .controller))) tooManyNodes (rule-low r)
         (or-else-low (recordingRefusal R) (controllerRefusal (R .controllers) (r .controller)) tooManyNodes (recording-low R) (controller-low (R .controllers) (r .controller))) in
         rw e (omega arith)
 
@@ -191,9 +193,9 @@ module _ (short : Bool) (r : Rule) (R : Recording) (table rows : List ℕ) where
 
     module _ (z : number ≡ 0) where
       pub ready : Judgeable r R table rows
-      unfolding controllerRefusal
+      unfolding judgeLocalNumber controllerRefusal
       ready =
-          let p = or-else-none (ruleRefusal r) (traceRefusal R (r .controller)) (sym e ∙ z) in
+          let p = or-else-none (ruleRefusal r) (orElse (recordingRefusal R) (controllerRefusal (R .controllers) (r .controller))) (sym e ∙ z) in
           let q = or-else-none (recordingRefusal R) (controllerRefusal (R .controllers) (r .controller)) (p .1) in
           record {
             rule = p .0;

@@ -2,11 +2,13 @@
 ghost use Rattle.definitions.specs.Recordings.{recordingOf};
 ghost use Rattle.definitions.specs.Tables.{ruleOf};
 ghost use Rattle.judging.specs.Rewritten.{Judgeable, JudgedLocally, Judgements};
-use evaluation::refusal::local_refusal;
-use evaluation::verdicts::Verdicts;
-use evaluation::whole::judge_recording;
 use formulas::limits::Limits;
 use formulas::limits::Refusal;
+use judges::headings::RecordingHeading;
+use judges::headings::RuleHeading;
+use judges::local::local_refusal;
+use judges::verdicts;
+use judges::whole::judge_recording;
 use lent::clear_u32;
 use lent::clear_u64;
 use rewriting::rewrite::Rewriting;
@@ -39,7 +41,7 @@ fn judge_accepted(
     let rewriting = rewrite(short, controller, count, nodes, mask, table);
     match rewriting {
         Rewriting::Rewritten(n, weak, strong) => {
-            let verdicts = judge_recording(
+            let answer = judge_recording(
                 n,
                 table,
                 weak,
@@ -51,9 +53,9 @@ fn judge_accepted(
                 controller,
                 rows,
             );
-            match verdicts {
-                Verdicts::Judged(w, s) => Judgement::Judged(n, w, s),
-                Verdicts::Refused(number) => Judgement::Refused(number),
+            match answer {
+                verdicts::Judgement::Judged(v) => Judgement::Judged(n, v.weak, v.strong),
+                verdicts::Judgement::Refused(number) => Judgement::Refused(number),
             }
         }
         Rewriting::Refused(number) => Judgement::Refused(number),
@@ -81,15 +83,15 @@ pub fn judge_rewritten(
     if rows.len() < Limits::ROW_WORDS {
         return Judgement::Refused(Refusal::LENT_SHORT);
     }
-    let refusal = local_refusal(
-        controller,
-        count,
-        nodes,
-        controllers,
-        states_count,
-        masks,
-        states,
-    );
+    let rule = RuleHeading {
+        controller: controller,
+        count: count,
+    };
+    let recording = RecordingHeading {
+        controllers: controllers,
+        count: states_count,
+    };
+    let refusal = local_refusal(rule, nodes, recording, masks, states);
     if refusal != Refusal::NONE {
         clear_u32(table, 0, Limits::TABLE_NODES);
         clear_u64(rows, 0, Limits::ROW_WORDS);

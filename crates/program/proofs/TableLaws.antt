@@ -16,6 +16,7 @@ use Rattle.definitions.specs.Nodes.{Node}
 use Rattle.definitions.specs.Tables.{Rule, nodesIn}
 use Rattle.definitions.specs.Recordings.{Recording, recordingRefusal, maskOf, controllerRefusal}
 use Rattle.definitions.specs.Projection.{localTrace}
+use Rattle.definitions.specs.Readings as readings
 use Rattle.definitions.specs.Readings.{local, whole, verdict, localVerdicts}
 use Rattle.definitions.specs.Lines.{tab, newline, digits}
 use Rattle.definitions.specs.Operations.{Answer, answer, sizeRefusal, projectNumber, projectAnswer, judgeLocalAnswer, verdictValues}
@@ -31,18 +32,16 @@ use Rattle.projection.specs.Answers.{ProjectIs}
 use Rattle.projection.specs.declared.project.Projection.{Projection}
 use Rattle.projection.specs.declared.project.Projection.the-variants as projected
 use Rattle.projection.proofs.PlaceLaws.{projectable, local-places, few-local}
-use Rattle.projection.proofs.ProjectLaws.{length-of}
-use Rattle.evaluation.specs.Judging as evaluation
-use Rattle.evaluation.specs.declared.verdicts.Verdicts as evaluated
-use Rattle.evaluation.specs.declared.verdicts.Verdicts.the-variants as verdicts
+use Rattle.projection.proofs.LengthLaws.{length-of}
+use Rattle.judges.specs.Verdicts.{meant, ownVerdicts}
+use Rattle.judges.specs.declared.verdicts.Verdicts.{Verdicts}
 use Rattle.lines.proofs.PrintLaws.{digits-fit}
 use Rattle.judging.specs.Rewritten as judging
 use Rattle.judging.specs.Rewritten.{Judgeable, Judgements, rewrittenFor, numberOf}
 use Rattle.judging.specs.declared.rewritten.Judgement.{Judgement}
 use Rattle.judging.specs.declared.rewritten.Judgement.the-variants as judged
 use Rattle.program.specs.Reporting.{maxOutputBytes, verdictsLine, ownLine, rewrittenLine, reportText}
-use Rattle.program.specs.Judged.{Recorded, OwnIs, RewrittenIs, RewritingsAre, ReportIs}
-use Rattle.program.specs.declared.report.Verdicts.{Verdicts}
+use Rattle.program.specs.Judged.{Recorded, RewrittenIs, RewritingsAre, ReportIs}
 use Rattle.program.specs.declared.report.Rewritings.{Rewritings}
 
 -- ---- answers
@@ -107,23 +106,6 @@ module _ (R : Recording) (c : ℕ) (places : List ℕ) (A : Recorded R c places)
   places-refused number e = never number (length (localTrace R c)) [] (rw e at answers)
 
 pub ruleset place-laws = (needs, places-are, places-fit, places-refused)
-
--- ---- `judge_own`
-module _ (r : Rule) (R : Recording) (A : Accepted r R) (v : evaluated.Verdicts) (is : evaluation.answerOf v ≡ judgeLocalAnswer r R) where
-  own-answers : evaluation.answerOf v ≡ answer accepted (verdictValues (localVerdicts (nodesIn (r .count) (r .nodes)) (maskOf R (r .controller)) (localTrace R (r .controller))))
-  own-answers = is ∙ local-judging r R A
-
-  pub own-judged : (w s : Bool) → v ≡ verdicts.Judged w s → OwnIs r R (record { weak = w; strong = s })
-  unfolding evaluation.answerOf
-  own-judged w s e =
-      let q = sym (accepted-values (bit w ∷ bit s ∷ [])) ∙ values-are (answer accepted (bit w ∷ bit s ∷ [])) _ (rw e at own-answers) in
-      record { weak = bit-same w _ (ap (λ (l : List ℕ). getD l 0 0) q); strong = bit-same s _ (ap (λ (l : List ℕ). getD l 1 0) q) }
-
-  pub own-refused : (w s : Bool) (number : ℕ) → v ≡ verdicts.Refused number → OwnIs r R (record { weak = w; strong = s })
-  unfolding evaluation.answerOf
-  own-refused w s number e = never number _ _ (rw e at own-answers)
-
-pub ruleset own-verdict-laws = (needs, own-judged, own-refused)
 
 -- ---- `judge_whole`
 module _ (short : Bool) (r : Rule) (R : Recording) (table rows : List ℕ) (J : Judgeable r R table rows)
@@ -232,11 +214,11 @@ module _ (r : Rule) (R : Recording) (A : Accepted r R) (L : ℕ) (own : Verdicts
           rewritten-length shortWord (v .short .count) (v .short .verdicts .weak) (v .short .verdicts .strong) (omega (arith, a .short .count, few true)),
         )
 
-    parts-text : OwnIs r R own → reportText (record { places = L; own = own; plain = v .plain; short = v .short }) ≡ judgedText c ns R
+    parts-text : meant own ≡ ownVerdicts r R → reportText (record { places = L; own = own; plain = v .plain; short = v .short }) ≡ judgedText c ns R
     unfolding reportText ownLine rewrittenLine verdictsLine ownText rewrittenText
-    parts-text o = rw (lines, l, o .weak, o .strong, a .plain .count, a .plain .weak, a .plain .strong, a .short .count, a .short .weak, a .short .strong)
+    parts-text o = rw (lines, l, ap (λ (u : readings.Verdicts). u .weak) o, ap (λ (u : readings.Verdicts). u .strong) o, a .plain .count, a .plain .weak, a .plain .strong, a .short .count, a .short .weak, a .short .strong)
 
-    pub reported : OwnIs r R own → ReportIs r R (record { places = L; own = own; plain = v .plain; short = v .short })
+    pub reported : meant own ≡ ownVerdicts r R → ReportIs r R (record { places = L; own = own; plain = v .plain; short = v .short })
     reported o = record { text = parts-text o; fits = parts-length (omega (arith, l, places-few R c (A .recording) (A .controller))) }
 
 pub ruleset table-laws = (needs, reported)

@@ -1,19 +1,17 @@
 -- The values that are printed of an accepted rule and recording.
 use mathlib.Core.Path.{_≡_}
-use Prim.Native.Nat.{ℕ, _-_, _<_, _≤_}
+use Prim.Native.Nat.{ℕ, _<_, _≤_}
 use mathlib.Core.Bool.{Bool, true, false}
 use mathlib.Core.List.{List}
 use lib.ListN.{length}
 use Rattle.definitions.specs.Limits.{maxStates}
 use Rattle.definitions.specs.Tables.{Rule, nodesIn}
-use Rattle.definitions.specs.Recordings.{Recording, recordingRefusal, maskOf}
-use Rattle.definitions.specs.Projection.{localTrace}
-use Rattle.definitions.specs.Readings.{local, whole, verdict}
+use Rattle.definitions.specs.Recordings.{Recording, recordingRefusal}
+use Rattle.definitions.specs.Readings.{whole, verdict}
 use Rattle.definitions.specs.Program.{judgedText}
 use Rattle.judging.specs.Rewritten.{rewrittenFor}
 use Rattle.program.specs.Reporting.{maxOutputBytes, reportText}
 use Rattle.program.specs.declared.report.Report.{Report}
-use Rattle.program.specs.declared.report.Verdicts.{Verdicts}
 use Rattle.program.specs.declared.report.Rewritten.{Rewritten}
 use Rattle.program.specs.declared.report.Rewritings.{Rewritings}
 
@@ -22,11 +20,6 @@ pub record Recorded (R : Recording) (c : ℕ) (places : List ℕ) : Type 0 where
   pub recording : recordingRefusal R ≡ 0
   pub controller : c < R .controllers
   pub room : maxStates ≤ length places
-
--- "(weak, strong on the local trace)"
-pub record OwnIs (r : Rule) (R : Recording) (v : Verdicts) : Type 0 where
-  pub weak : v .weak ≡ verdict (local (maskOf R (r .controller)) (localTrace R (r .controller))) (nodesIn (r .count) (r .nodes)) (length (nodesIn (r .count) (r .nodes)) - 1) true
-  pub strong : v .strong ≡ verdict (local (maskOf R (r .controller)) (localTrace R (r .controller))) (nodesIn (r .count) (r .nodes)) (length (nodesIn (r .count) (r .nodes)) - 1) false
 
 -- "(nodes, weak, strong)" over the whole recording
 pub record RewrittenIs (short : Bool) (r : Rule) (R : Recording) (v : Rewritten) : Type 0 where

@@ -6,14 +6,9 @@ ghost use Rattle.definitions.specs.Lines.{tab};
 ghost use Rattle.definitions.specs.Program.{yesNo, localText, refusedText};
 ghost use Rattle.lines.specs.Printing.{Printed};
 ghost use Rattle.program.specs.Reporting.{lineField, verdictsLine, ownLine, rewrittenLine, reportText};
+use judges::verdicts::Verdicts;
 use lines::print;
 use lines::scan;
-
-// The weak and the strong verdict of a rule.
-pub struct Verdicts {
-    pub weak: bool,
-    pub strong: bool,
-}
 
 // The node count of a rewritten rule, and its verdicts.
 pub struct Rewritten {

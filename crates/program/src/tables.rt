@@ -6,14 +6,15 @@ ghost use Rattle.definitions.specs.Tables.{ruleOf};
 ghost use Rattle.definitions.specs.Projection.{localTrace};
 ghost use Rattle.judging.specs.Rewritten.{Judgeable};
 ghost use Rattle.theorems.proofs.ScheduleIndependence.{Accepted};
-ghost use Rattle.program.specs.Judged.{Recorded, OwnIs, RewrittenIs, RewritingsAre, ReportIs};
+ghost use Rattle.program.specs.Judged.{Recorded, RewrittenIs, RewritingsAre, ReportIs};
 use super::report::Report;
 use super::report::Rewritings;
 use super::report::Rewritten;
-use super::report::Verdicts;
-use evaluation::local::judge_local;
-use evaluation::verdicts;
 use formulas::limits::Limits;
+use judges::headings::RecordingHeading;
+use judges::headings::RuleHeading;
+use judges::local::judge_accepted;
+use judges::verdicts::Verdicts;
 use judging::rewritten::Judgement;
 use judging::rewritten::judge_rewritten;
 use projection::project::Projection;
@@ -35,40 +36,6 @@ fn count_places(
     match projection {
         Projection::Places(length) => length as u32,
         Projection::Refused(number) => number as u32,
-    }
-}
-
-// The verdicts on the local trace. An accepted rule and recording are not refused.
-fn judge_own(
-    controller: usize,
-    count: usize,
-    nodes: &[u32],
-    controllers: usize,
-    states_count: usize,
-    masks: &[u32],
-    states: &[u64],
-) -> Verdicts
-    requires { ⌜ Accepted (ruleOf controller count (now nodes)) (recordingOf controllers «states_count» (now masks) (now states)) ⌝ }
-    ensures { λ r. ⌜ OwnIs (ruleOf controller count (now (nodes .entry))) (recordingOf controllers «states_count» (now (masks .entry)) (now (states .entry))) r ⌝ }
-{
-    let judged = judge_local(
-        controller,
-        count,
-        nodes,
-        controllers,
-        states_count,
-        masks,
-        states,
-    );
-    match judged {
-        verdicts::Verdicts::Judged(weak, strong) => Verdicts {
-            weak: weak,
-            strong: strong,
-        },
-        verdicts::Verdicts::Refused(number) => Verdicts {
-            weak: false,
-            strong: false,
-        },
     }
 }
 
@@ -191,15 +158,15 @@ pub fn judge_tables(
         controller,
         &mut places,
     );
-    let own = judge_own(
-        controller,
-        count,
-        nodes,
-        controllers,
-        states_count,
-        masks,
-        states,
-    );
+    let rule = RuleHeading {
+        controller: controller,
+        count: count,
+    };
+    let recording = RecordingHeading {
+        controllers: controllers,
+        count: states_count,
+    };
+    let own = judge_accepted(rule, nodes, recording, masks, states);
     let rewritings = judge_rewritings(
         controller,
         count,

@@ -15,7 +15,8 @@ use Rattle.definitions.specs.Recordings.{Recording, atomsOf, marked, maskOf, re
 use Rattle.definitions.specs.Projection.{runStates, afterLast, placesOf, localTrace}
 use Rattle.theorems.proofs.Choice.{by-test}
 use Rattle.theorems.proofs.RecordingLaws.{Checked, checked, Recorded, recorded}
-use Rattle.projection.specs.Places.{placesIn, Projectable, Projected}
+use Rattle.lent.specs.Space.{laid}
+use Rattle.projection.specs.Places.{placesIn, Projectable, Countable}
 
 -- ---- the states in which a component runs, one state more
 module _ (run : ℕ → Bool) where
@@ -76,14 +77,14 @@ abbrev wordIn : ℕ → List ℕ → ℕ → ℕ
 wordIn N states k = atomsOf (getD (take N states) k 0)
 
 -- before state k: the places of the runs so far are laid, and only the place after them was touched besides
-pub record Walked (N c : ℕ) (states entry places : List ℕ) (placed next k : ℕ) : Type 0 where
+pub record Walked (N c : ℕ) (states entry places : List ℕ) (here next k : ℕ) : Type 0 where
   pub within : k ≤ N
-  pub few : placed ≤ k
+  pub few : here ≤ k
   pub kept : length places ≡ length entry
-  pub count : placed ≡ length (runStates (runIn N c states) k)
+  pub count : here ≡ length (runStates (runIn N c states) k)
   pub after : next ≡ afterLast (runStates (runIn N c states) k)
-  pub laid : take placed places ≡ map (wordIn N states) (runStates (runIn N c states) k)
-  pub rest : drop (placed + 1) places ≡ drop (placed + 1) entry
+  pub laid : take here places ≡ map (wordIn N states) (runStates (runIn N c states) k)
+  pub rest : drop (here + 1) places ≡ drop (here + 1) entry
 
 pub walk-start : (N c : ℕ) (states entry : List ℕ) → Walked N c states entry entry 0 0 0
 walk-start N c states entry = record {
@@ -96,50 +97,50 @@ walk-start N c states entry = record {
   rest = refl;
 }
 
-module _ (N c : ℕ) (states entry places : List ℕ) (placed next k : ℕ) (inv : Walked N c states entry places placed next k) where
+module _ (N c : ℕ) (states entry places : List ℕ) (here next k : ℕ) (inv : Walked N c states entry places here next k) where
   pub walk-keeps : length places ≡ length entry
   walk-keeps = inv .kept
 
-  module _ (h : k < N) (room : placed < length places) (w : ℕ) (ws : w ≡ wordIn N states k) where
-    walk-run : runIn N c states k ≡ true → Walked N c states entry (set places placed w) (placed + 1) (k + 1) (k + 1)
+  module _ (h : k < N) (room : here < length places) (w : ℕ) (ws : w ≡ wordIn N states k) where
+    walk-run : runIn N c states k ≡ true → Walked N c states entry (set places here w) (here + 1) (k + 1) (k + 1)
     walk-run r =
         let e : runStates (runIn N c states) (k + 1) ≡ runStates (runIn N c states) k ++ (k ∷ []) = runs-on (runIn N c states) k r in
         record {
           within = omega arith;
           few = omega (arith, inv .few);
-          kept = length-set places placed w ∙ inv .kept;
+          kept = length-set places here w ∙ inv .kept;
           count = rw e (omega (arith, inv .count, length-append (runStates (runIn N c states) k) (k ∷ [])));
           after = rw e (add-one k ∙ sym (after-snoc (runStates (runIn N c states) k) k));
-          laid = rw (e, add-one placed, take-suc-set places placed w room, inv .laid, map-append, ws);
-          rest = drop-set-lt (placed + 1 + 1) places placed w (omega arith)
-              ∙ (sym (drop-drop 1 (placed + 1) places) ∙ (ap (λ (l : List ℕ). drop 1 l) (inv .rest) ∙ drop-drop 1 (placed + 1) entry));
+          laid = rw (e, add-one here, take-suc-set places here w room, inv .laid, map-append, ws);
+          rest = drop-set-lt (here + 1 + 1) places here w (omega arith)
+              ∙ (sym (drop-drop 1 (here + 1) places) ∙ (ap (λ (l : List ℕ). drop 1 l) (inv .rest) ∙ drop-drop 1 (here + 1) entry));
         }
 
-    walk-idle : runIn N c states k ≡ false → Walked N c states entry (set places placed w) placed next (k + 1)
+    walk-idle : runIn N c states k ≡ false → Walked N c states entry (set places here w) here next (k + 1)
     walk-idle r =
         let e : runStates (runIn N c states) (k + 1) ≡ runStates (runIn N c states) k = runs-off (runIn N c states) k r in
         record {
           within = omega arith;
           few = omega (arith, inv .few);
-          kept = length-set places placed w ∙ inv .kept;
+          kept = length-set places here w ∙ inv .kept;
           count = inv .count ∙ ap length (sym e);
           after = inv .after ∙ ap afterLast (sym e);
-          laid = take-set-le placed places placed w (omega arith) ∙ (inv .laid ∙ ap (λ (rs : List ℕ). map (wordIn N states) rs) (sym e));
-          rest = drop-set-lt (placed + 1) places placed w (omega arith) ∙ inv .rest;
+          laid = take-set-le here places here w (omega arith) ∙ (inv .laid ∙ ap (λ (rs : List ℕ). map (wordIn N states) rs) (sym e));
+          rest = drop-set-lt (here + 1) places here w (omega arith) ∙ inv .rest;
         }
 
   pub walk-next : Projectable N c states entry → k < N → (w : ℕ) → w ≡ atomsOf (getD states k 0) → (ran : Bool) → ran ≡ marked c (getD states k 0) →
-      (placed′ : ℕ) → placed′ ≡ pick ran (placed + 1) placed → (next′ : ℕ) → next′ ≡ pick ran (k + 1) next →
-      Walked N c states entry (set places placed w) placed′ next′ (k + 1)
+      (here′ : ℕ) → here′ ≡ pick ran (here + 1) here → (next′ : ℕ) → next′ ≡ pick ran (k + 1) next →
+      Walked N c states entry (set places here w) here′ next′ (k + 1)
   unfolding pick
-  walk-next P h w ws ran rs placed′ p next′ n =
+  walk-next P h w ws ran rs here′ p next′ n =
       let same : getD (take N states) k 0 ≡ getD states k 0 = getD-take N states k 0 h in
-      let room : placed < length places = omega (arith, inv .kept, inv .few, P .fewStates, P .room) in
+      let room : here < length places = omega (arith, inv .kept, inv .few, P .fewStates, P .room) in
       let word : w ≡ wordIn N states k = ws ∙ ap atomsOf (sym same) in
       let run : ran ≡ runIn N c states k = rs ∙ ap (marked c) (sym same) in
       by-test ran
-      (λ t. let p₁ : placed′ ≡ placed + 1 = rw t at p in let n₁ : next′ ≡ k + 1 = rw t at n in rw (p₁, n₁) (walk-run h room w word (sym run ∙ t)))
-      (λ t. let p₁ : placed′ ≡ placed = rw t at p in let n₁ : next′ ≡ next = rw t at n in rw (p₁, n₁) (walk-idle h room w word (sym run ∙ t)))
+      (λ t. let p₁ : here′ ≡ here + 1 = rw t at p in let n₁ : next′ ≡ k + 1 = rw t at n in rw (p₁, n₁) (walk-run h room w word (sym run ∙ t)))
+      (λ t. let p₁ : here′ ≡ here = rw t at p in let n₁ : next′ ≡ next = rw t at n in rw (p₁, n₁) (walk-idle h room w word (sym run ∙ t)))
 
   module _ (P : Projectable N c states entry) (over : N ≤ k) where
     whole : k ≡ N
@@ -156,27 +157,23 @@ module _ (N c : ℕ) (states entry places : List ℕ) (placed next k : ℕ) (inv
     pub next-in : next < length states
     next-in = omega (arith, next-counted, P .allThere)
 
-    pub place-in : placed < length places
+    pub place-in : here < length places
     place-in =
-        let e : placed ≡ length (runStates (runIn N c states) N) = inv .count ∙ ap (λ (j : ℕ). length (runStates (runIn N c states) j)) whole in
+        let e : here ≡ length (runStates (runIn N c states) N) = inv .count ∙ ap (λ (j : ℕ). length (runStates (runIn N c states) j)) whole in
         omega (arith, runs-in (runIn N c states) N (P .someState) idle, P .fewStates, P .room, inv .kept)
 
     pub walk-end : (mask w : ℕ) → w ≡ atomsOf (getD states next 0) →
-        Projected (placesIn N mask c states) entry (placed + 1) (set places placed (bitAnd w mask))
+        set places here (bitAnd w mask) ≡ laid (placesIn N mask c states) entry
     unfolding placesIn
     walk-end mask w ws =
         let rs : List ℕ = runStates (runIn N c states) N in
         let n : next ≡ afterLast rs = inv .after ∙ ap (λ (j : ℕ). afterLast (runStates (runIn N c states) j)) whole in
-        let m : placed ≡ length rs = inv .count ∙ ap (λ (j : ℕ). length (runStates (runIn N c states) j)) whole in
-        let l : take placed places ≡ map (wordIn N states) rs = inv .laid ∙ ap (λ (j : ℕ). map (wordIn N states) (runStates (runIn N c states) j)) whole in
+        let m : here ≡ length rs = inv .count ∙ ap (λ (j : ℕ). length (runStates (runIn N c states) j)) whole in
+        let l : take here places ≡ map (wordIn N states) rs = inv .laid ∙ ap (λ (j : ℕ). map (wordIn N states) (runStates (runIn N c states) j)) whole in
         let v : w ≡ wordIn N states (afterLast rs) = ws ∙ (ap atomsOf (sym (getD-take N states next 0 next-counted)) ∙ ap (wordIn N states) n) in
-        let size : placed + 1 ≡ length (placesOf (wordIn N states) mask rs)
+        let size : here + 1 ≡ length (placesOf (wordIn N states) mask rs)
         = omega (arith, length-append (map (wordIn N states) rs) (bitAnd (wordIn N states (afterLast rs)) mask ∷ []), length-map rs (wordIn N states)) in
-        record {
-          count = size;
-          laid = set-split places placed (bitAnd w mask) place-in
-              ∙ rw (← size, ← add-one placed, inv .rest, l, v, append-assoc);
-        }
+        set-split places here (bitAnd w mask) place-in ∙ rw (← size, ← add-one here, inv .rest, l, v, append-assoc)
 
 pub ruleset walk-laws = (walk-start, walk-end)
 
@@ -196,6 +193,15 @@ projectable R c places h l room =
       room = room;
       controller = omega (arith, K .fewControllers);
       lastIdle = ap (marked c) (sym (getD-take (R .count) (R .states) (R .count - 1) 0 i)) ∙ D .lastIdle (R .count - 1) (omega (arith, K .someState));
+    }
+
+pub countable : (R : Recording) (c : ℕ) → recordingRefusal R ≡ 0 → c < R .controllers → Countable (R .count) c (R .states)
+countable R c h l =
+    let K : Checked R = checked R h in
+    record {
+      fewStates = K .fewStates;
+      allThere = omega (arith, K .states, length-take (R .count) (R .states));
+      controller = omega (arith, K .fewControllers);
     }
 
 pub local-places : (R : Recording) (c : ℕ) → placesIn (R .count) (maskOf R c) c (R .states) ≡ localTrace R c

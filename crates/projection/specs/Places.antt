@@ -2,8 +2,8 @@
 use mathlib.Core.Path.{_≡_}
 use Prim.Native.Nat.{ℕ, _+_, _-_, _≤_, _<_}
 use mathlib.Core.Bool.{false}
-use mathlib.Core.List.{List, _++_}
-use lib.ListN.{length, take, drop, getD}
+use mathlib.Core.List.{List}
+use lib.ListN.{length, take, getD}
 use Rattle.definitions.specs.Limits.{maxStates, atomCount}
 use Rattle.definitions.specs.Recordings.{atomsOf, marked}
 use Rattle.definitions.specs.Projection.{runStates, placesOf}
@@ -31,8 +31,3 @@ pub record Countable (N c : ℕ) (states : List ℕ) : Type 0 where
   pub fewStates : N ≤ maxStates
   pub allThere : N ≤ length states
   pub controller : c < atomCount
-
--- the places are laid from the front, and what was there after them is there still
-pub record Projected (content entry : List ℕ) (answer : ℕ) (exit : List ℕ) : Type 0 where
-  pub count : answer ≡ length content
-  pub laid : exit ≡ content ++ drop (length content) entry

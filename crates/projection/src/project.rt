@@ -4,18 +4,20 @@ ghost use Rattle.projection.specs.Answers.{ProjectIs};
 use super::places::local_length;
 use super::places::project_into;
 use formulas::choice::or_else;
+use formulas::choice::pick;
+use formulas::choice::pick_index;
 use formulas::limits::Limits;
 use formulas::limits::Refusal;
 use lent::clear_u32;
-use traces::check::controller_refusal;
 use traces::check::mask_at;
-use traces::check::recording_refusal;
+use traces::check::trace_refusal;
 
 pub enum Projection {
     Places(usize),
     Refused(u8),
 }
 
+// 13 leaves the lent places alone, another refusal zeroes them.
 pub fn project(
     controllers: usize,
     count: usize,
@@ -26,18 +28,19 @@ pub fn project(
 ) -> Projection
     ensures { λ r. ⌜ ProjectIs (recordingOf controllers count (now (masks .entry)) (now (states .entry))) c (now (places .entry)) r (now (places .exit)) ⌝ }
 {
-    if places.len() < Limits::STATES {
-        return Projection::Refused(Refusal::LENT_SHORT);
-    }
-    let recording = recording_refusal(controllers, count, masks, states);
-    let refusal = or_else(recording, controller_refusal(controllers, c));
+    let short = pick(
+        places.len() < Limits::STATES,
+        Refusal::LENT_SHORT,
+        Refusal::NONE,
+    );
+    let refusal = or_else(short, trace_refusal(controllers, count, masks, states, c));
     if refusal != Refusal::NONE {
-        clear_u32(places, 0, Limits::STATES);
+        let zeroed = pick_index(refusal == Refusal::LENT_SHORT, 0, Limits::STATES);
+        clear_u32(places, 0, zeroed);
         return Projection::Refused(refusal);
     }
-    let mask = mask_at(masks, c);
-    project_into(count, mask, c, states, places);
     let length = local_length(count, c, states);
+    project_into(count, mask_at(masks, c), c, states, places);
     clear_u32(places, length, Limits::STATES);
     Projection::Places(length)
 }

@@ -12,12 +12,13 @@ ghost use Rattle.formula_text.specs.Reading.{readAnswer as ruleRead};
 ghost use Rattle.formula_text.specs.Writing.{writeAnswer as ruleWritten};
 ghost use Rattle.trace_text.specs.Reading.{readAnswer as recordingRead};
 ghost use Rattle.projection.specs.Answers.{answerOf as projected};
-ghost use Rattle.evaluation.specs.Judging.{answerOf as judged};
+ghost use Rattle.judges.specs.Verdicts.{answerOf as judged};
 ghost use Rattle.rewriting.specs.Answers.{answerOf as rewritten};
 ghost use Rattle.ragyvosin.specs.Parts.{placeIn, bytesIn};
-pub use evaluation::verdicts::Verdicts;
 pub use formula_text::read::RuleRead;
 pub use formula_text::write::RuleWritten;
+pub use judges::verdicts::Judgement;
+pub use judges::verdicts::Verdicts;
 pub use projection::project::Projection;
 pub use rewriting::rewrite::Rewriting;
 pub use trace_text::read::RecordingRead;
@@ -90,10 +91,10 @@ pub fn judge_local(
     states_count: usize,
     masks: &[u32],
     states: &[u64],
-) -> Verdicts
+) -> Judgement
     ensures { λ r. ⌜ judged r ≡ judgeLocalAnswer (ruleOf controller count (now (nodes .entry))) (recordingOf controllers «states_count» (now (masks .entry)) (now (states .entry))) ⌝ }
 {
-    evaluation::local::judge_local(
+    judges::local::judge_local(
         controller,
         count,
         nodes,
@@ -144,11 +145,11 @@ pub fn judge_recording(
     states: &[u64],
     c: usize,
     rows: &mut [u64],
-) -> Verdicts
+) -> Judgement
     ensures { λ r. ⌜ judged r ≡ judgeRecordingAnswer (tableOf count (now (nodes .entry)) «weak_top» «strong_top») (recordingOf controllers «states_count» (now (masks .entry)) (now (states .entry))) c (now (rows .entry)) ⌝ }
     ensures { λ _. ⌜ now (rows .exit) ≡ judgeRecordingRows (tableOf count (now (nodes .entry)) «weak_top» «strong_top») (recordingOf controllers «states_count» (now (masks .entry)) (now (states .entry))) c (now (rows .entry)) ⌝ }
 {
-    evaluation::whole::judge_recording(
+    judges::whole::judge_recording(
         count,
         nodes,
         weak_top,

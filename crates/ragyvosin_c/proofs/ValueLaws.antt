@@ -21,9 +21,10 @@ use Rattle.trace_text.specs.declared.read.RecordingRead.the-variants as recordi
 use Rattle.projection.specs.Answers.{answerOf as projected}
 use Rattle.projection.specs.declared.project.Projection.{Projection}
 use Rattle.projection.specs.declared.project.Projection.the-variants as projection
-use Rattle.evaluation.specs.Judging.{answerOf as judged}
-use Rattle.evaluation.specs.declared.verdicts.Verdicts.{Verdicts}
-use Rattle.evaluation.specs.declared.verdicts.Verdicts.the-variants as verdict
+use Rattle.judges.specs.Verdicts.{answerOf as judged}
+use Rattle.judges.specs.declared.verdicts.Verdicts.{Verdicts}
+use Rattle.judges.specs.declared.verdicts.Judgement.{Judgement}
+use Rattle.judges.specs.declared.verdicts.Judgement.the-variants as judgement
 use Rattle.rewriting.specs.Answers.{answerOf as rewritten}
 use Rattle.rewriting.specs.declared.rewrite.Rewriting.{Rewriting}
 use Rattle.rewriting.specs.declared.rewrite.Rewriting.the-variants as rewriting
@@ -78,14 +79,14 @@ cast-bit : (z : Bool) → boolByte z ≡ bit z
 cast-bit true = refl
 cast-bit false = refl
 
-module _ (w : Verdicts) where
-  pub verdicts-laid : (weak strong : Bool) → w ≡ verdict.Judged weak strong → 0 ∷ boolByte weak ∷ boolByte strong ∷ [] ≡ heading 2 (judged w)
+module _ (w : Judgement) where
+  pub judgement-laid : (v : Verdicts) → w ≡ judgement.Judged v → 0 ∷ boolByte (v .weak) ∷ boolByte (v .strong) ∷ [] ≡ heading 2 (judged w)
   unfolding heading judged answer pick
-  verdicts-laid weak strong e = rw (e, cast-bit weak, cast-bit strong)
+  judgement-laid v e = rw (e, cast-bit (v .weak), cast-bit (v .strong))
 
-  pub verdicts-refused : (number : ℕ) → w ≡ verdict.Refused number → number ∷ 0 ∷ 0 ∷ [] ≡ heading 2 (judged w)
+  pub judgement-refused : (number : ℕ) → w ≡ judgement.Refused number → number ∷ 0 ∷ 0 ∷ [] ≡ heading 2 (judged w)
   unfolding heading judged answer
-  verdicts-refused number e = rw (e, refused-values number)
+  judgement-refused number e = rw (e, refused-values number)
 
 module _ (w : Rewriting) where
   pub rewriting-laid : (count weakTop strongTop : ℕ) → w ≡ rewriting.Rewritten count weakTop strongTop → 0 ∷ count ∷ weakTop ∷ strongTop ∷ [] ≡ heading 3 (rewritten w)
@@ -106,8 +107,8 @@ pub ruleset case-laws = (
   recording-refused,
   projection-laid,
   projection-refused,
-  verdicts-laid,
-  verdicts-refused,
+  judgement-laid,
+  judgement-refused,
   rewriting-laid,
   rewriting-refused,
 )

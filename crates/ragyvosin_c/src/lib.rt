@@ -10,12 +10,12 @@ ghost use Rattle.definitions.specs.Operations.{rewriteAnswer, rewriteTable, jud
 ghost use Rattle.ragyvosin_c.specs.Values.{heading, partValues};
 use formulas::choice::pick_index;
 use joint_text::joint::join;
+use values::of_judgement;
 use values::of_projection;
 use values::of_recording_read;
 use values::of_rewriting;
 use values::of_rule_read;
 use values::of_rule_written;
-use values::of_verdicts;
 
 mod values;
 
@@ -148,7 +148,7 @@ pub extern "C" fn rgv_judge_local(
         masks,
         states,
     );
-    let laid = of_verdicts(answer);
+    let laid = of_judgement(answer);
     let laid_values = laid.values;
     *values = laid_values;
     laid.number
@@ -224,7 +224,7 @@ pub extern "C" fn rgv_judge_recording(
         c,
         rows,
     );
-    let laid = of_verdicts(answer);
+    let laid = of_judgement(answer);
     let laid_values = laid.values;
     *values = laid_values;
     laid.number

@@ -5,16 +5,16 @@ ghost use Rattle.formula_text.specs.Reading.{readAnswer as ruleRead};
 ghost use Rattle.formula_text.specs.Writing.{writeAnswer as ruleWritten};
 ghost use Rattle.trace_text.specs.Reading.{readAnswer as recordingRead};
 ghost use Rattle.projection.specs.Answers.{answerOf as projected};
-ghost use Rattle.evaluation.specs.Judging.{answerOf as judged};
+ghost use Rattle.judges.specs.Verdicts.{answerOf as judged};
 ghost use Rattle.rewriting.specs.Answers.{answerOf as rewritten};
 ghost use Rattle.ragyvosin_c.specs.Values.{heading};
 use formulas::limits::Refusal;
+use ragyvosin::Judgement;
 use ragyvosin::Projection;
 use ragyvosin::RecordingRead;
 use ragyvosin::Rewriting;
 use ragyvosin::RuleRead;
 use ragyvosin::RuleWritten;
-use ragyvosin::Verdicts;
 
 // A number and one value.
 pub struct One {
@@ -94,15 +94,15 @@ pub fn of_projection(answer: Projection) -> One
     }
 }
 
-pub fn of_verdicts(answer: Verdicts) -> Two
+pub fn of_judgement(answer: Judgement) -> Two
     ensures { λ r. ⌜ r .number ∷ r .values ≡ heading 2 (judged answer) ⌝ }
 {
     match answer {
-        Verdicts::Judged(weak, strong) => Two {
+        Judgement::Judged(verdicts) => Two {
             number: Refusal::NONE,
-            values: [weak as usize, strong as usize],
+            values: [verdicts.weak as usize, verdicts.strong as usize],
         },
-        Verdicts::Refused(number) => Two {
+        Judgement::Refused(number) => Two {
             number,
             values: [0, 0],
         },

@@ -18,6 +18,7 @@ use Rattle.definitions.specs.Bounded.{pick, bitOf, within, orElse}
 use Rattle.definitions.specs.Recordings.{Recording, stateOf, atomsOf, marksOf, marked, maskOf, outputBroken, stateRefusal, recordingHeadingRefusal, masksRefusal, statesRefusal, recordingLinesRefusal, recordingRefusal, controllerRefusal, recordingOf}
 use Rattle.theorems.proofs.Choice.{accept-yes, both-true, refuse-no}
 use Rattle.theorems.proofs.Recursions.{some-cong}
+use Rattle.traces.specs.Joining.{traceRefusal}
 use Rattle.traces.specs.Unions.{unionOf, unionRefusal, unionsRefusal}
 use Rattle.traces.specs.Turns.{stepRefusal, lastRefusal}
 use Rattle.traces.specs.Held.{heldGroup, heldChanged}
@@ -303,9 +304,10 @@ module _ (C N : ℕ) (masks states : List ℕ) where
       sym (rw (← e, or-else-go heading _ z, ← m, ← t, ← l, ← o, ← f))
 
 -- ---- a controller of the recording
-pub controller-is : (C c r : ℕ) → r ≡ pick (ltb c C) accepted noController → r ≡ controllerRefusal C c
+pub joining-is : (R : Recording) (c recording joining r : ℕ) → recording ≡ recordingRefusal R → joining ≡ pick (ltb c (R .controllers)) accepted noController →
+    r ≡ orElse recording joining → r ≡ traceRefusal R c
 unfolding controllerRefusal
-controller-is C c r e = e
+joining-is R c recording joining r e f g = cc
 
 -- what each function's returns and turns are answered with
 pub ruleset test-laws = (pick-yes, pick-no, or-else-is, heading-is, mask-is)
@@ -316,6 +318,6 @@ pub ruleset output-laws = (mask-none, marked-is)
 
 pub ruleset state-laws = (needs, broken-later, broken-first, limit-is, step-is, last-is, state-is, states-start, states-end, states-refused, marks-high, states-next)
 
-pub ruleset recording-laws = (lines-is, controller-is, recording-heading)
+pub ruleset recording-laws = (lines-is, joining-is, recording-heading)
 
 pub ruleset heading-bounds = (needs, heading-few)

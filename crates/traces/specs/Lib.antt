@@ -1,3 +1,4 @@
 pub mod Held
+pub mod Joining
 pub mod Unions
 pub mod Turns

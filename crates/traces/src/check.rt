@@ -6,7 +6,8 @@ ghost use Prim.Native.Nat.{_^_, _≤_};
 ghost use lib.Dec.{ltb};
 ghost use lib.ListN.{take, getD};
 ghost use Rattle.definitions.specs.Limits.{maxControllers};
-ghost use Rattle.definitions.specs.Recordings.{Recording, stateOf, outputBroken, stateRefusal, recordingHeadingRefusal, masksRefusal, statesRefusal, recordingLinesRefusal, recordingRefusal, controllerRefusal, recordingOf};
+ghost use Rattle.definitions.specs.Recordings.{stateOf, outputBroken, stateRefusal, recordingHeadingRefusal, masksRefusal, statesRefusal, recordingLinesRefusal, recordingRefusal, recordingOf};
+ghost use Rattle.traces.specs.Joining.{traceRefusal};
 ghost use Rattle.traces.specs.Unions.{unionRefusal};
 ghost use Rattle.traces.specs.Turns.{InTurn, stepRefusal, lastRefusal};
 use super::held::held_atoms;
@@ -186,9 +187,17 @@ pub fn recording_refusal(controllers: usize, count: usize, masks: &[u32], states
     or_else(meeting, late)
 }
 
-// "a controller not below C is 11"
-pub fn controller_refusal(controllers: usize, c: usize) -> u8
-    ensures { λ r. ⌜ r ≡ controllerRefusal controllers c ⌝ }
+// The recording, then the controller that it is asked for.
+pub fn trace_refusal(
+    controllers: usize,
+    count: usize,
+    masks: &[u32],
+    states: &[u64],
+    c: usize,
+) -> u8
+    ensures { λ r. ⌜ r ≡ traceRefusal (recordingOf controllers count (now (masks .entry)) (now (states .entry))) c ⌝ }
 {
-    pick(c < controllers, Refusal::NONE, Refusal::NO_CONTROLLER)
+    let recording = recording_refusal(controllers, count, masks, states);
+    let joining = pick(c < controllers, Refusal::NONE, Refusal::NO_CONTROLLER);
+    or_else(recording, joining)
 }

@@ -7,8 +7,8 @@ use Rattle.ragyvosin_c.proofs.rgv_judge_recording.Tie as tie
 judge-recording-requires : tie.Need-judge-recording-requires
 judge-recording-requires c κs = search needs
 
-of-verdicts-requires : tie.Need-of-verdicts-requires
-of-verdicts-requires c κs = search needs
+of-judgement-requires : tie.Need-of-judgement-requires
+of-judgement-requires c κs = search needs
 
 same-length : tie.Need-same-length
 same-length c = search needs
@@ -18,4 +18,4 @@ returns c = search operation-laws
 
 pub rgv-judge-recording-spec : {M : Type 1} → statement M
 rgv-judge-recording-spec =
-    tie.close (tie.spec judge-recording-requires of-verdicts-requires same-length returns)
+    tie.close (tie.spec judge-recording-requires of-judgement-requires same-length returns)

@@ -16,11 +16,11 @@ enum-known-rewriting c = search needs
 judge-recording-requires : tie.Need-judge-recording-requires
 judge-recording-requires c κs = search needs
 
-enum-known-verdicts : tie.Need-enum-known-verdicts
-enum-known-verdicts c = search needs
+enum-known-answer : tie.Need-enum-known-answer
+enum-known-answer c = search needs
 
-enum-known-verdicts-2 : tie.Need-enum-known-verdicts-2
-enum-known-verdicts-2 c = search needs
+enum-known-answer-2 : tie.Need-enum-known-answer-2
+enum-known-answer-2 c = search needs
 
 enum-known-rewriting-2 : tie.Need-enum-known-rewriting-2
 enum-known-rewriting-2 c = search needs
@@ -57,8 +57,8 @@ judge-accepted-spec =
     rewrite-requires
     enum-known-rewriting
     judge-recording-requires
-    enum-known-verdicts
-    enum-known-verdicts-2
+    enum-known-answer
+    enum-known-answer-2
     enum-known-rewriting-2
     same-length
     same-length-2

@@ -9,8 +9,8 @@ slice-aggregate-count-places c = search table-laws
 count-places-requires : tie.Need-count-places-requires
 count-places-requires c κs = search table-laws
 
-judge-own-requires : tie.Need-judge-own-requires
-judge-own-requires c κs = search table-laws
+judge-accepted-requires : tie.Need-judge-accepted-requires
+judge-accepted-requires c κs = search table-laws
 
 judge-rewritings-requires : tie.Need-judge-rewritings-requires
 judge-rewritings-requires c κs = search table-laws
@@ -24,6 +24,6 @@ judge-tables-spec =
     (tie.spec
     slice-aggregate-count-places
     count-places-requires
-    judge-own-requires
+    judge-accepted-requires
     judge-rewritings-requires
     returns)

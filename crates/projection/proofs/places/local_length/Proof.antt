@@ -1,6 +1,6 @@
 -- `projection::places::local_length` meets its contract.
 use borrow.Author.Needs.{needs}
-use Rattle.projection.proofs.ProjectLaws.{project-laws}
+use Rattle.projection.proofs.LengthLaws.{length-laws}
 use Rattle.projection.proofs.places.local_length.Statement.{statement}
 use Rattle.projection.proofs.places.local_length.Tie as tie
 
@@ -20,7 +20,7 @@ add-result : tie.Need-add-result
 add-result c = search needs
 
 returns : tie.Need-returns
-returns c = search project-laws
+returns c = search length-laws
 
 pub local-length-spec : {M : Type 1} → statement M
 local-length-spec =

@@ -5,10 +5,10 @@ use Rattle.projection.proofs.places.project_into.Statement.{statement}
 use Rattle.projection.proofs.places.project_into.Tie as tie
 
 abbrev Inv-loop : tie.InvT-loop
-Inv-loop count mask c states places₀ placed₀ next₀ k₀ places placed next k = Walked count c states places₀ places placed next k
+Inv-loop count mask c states places₀ here₀ next₀ k₀ places here next k = Walked count c states places₀ places here next k
 
 abbrev μ-loop : tie.MeasureT-loop
-μ-loop count mask c states places₀ placed₀ next₀ k₀ places placed next k = count - k
+μ-loop count mask c states places₀ here₀ next₀ k₀ places here next k = count - k
 
 loop-holds : tie.Need-loop-holds Inv-loop μ-loop
 loop-holds c = search walk-laws
@@ -55,7 +55,7 @@ loop-again c =
     let l = turn .before .loop in
     let start = turn .before .before .before .before in
     let a = start .args in
-    walk-next (a .count) (a .c) (a .states .now) (a .places .now) (l .places) (l .placed) (l .next) (l .k) (l .inv) (start .pre) (turn .loop-test .taken)
+    walk-next (a .count) (a .c) (a .states .now) (a .places .now) (l .places) (l .here) (l .next) (l .k) (l .inv) (start .pre) (turn .loop-test .taken)
     (c .before .before .atoms-of .result) (c .before .before .atoms-of .ensures)
     (c .before .before .before .runs .result) (c .before .before .before .runs .ensures)
     (c .before .pick-index .result) (c .before .pick-index .ensures)
@@ -75,9 +75,6 @@ mul-places-2 c = search walk-bounds
 
 slice-write-places-2 : tie.Need-slice-write-places-2 Inv-loop μ-loop
 slice-write-places-2 c = search walk-bounds
-
-add-result : tie.Need-add-result Inv-loop μ-loop
-add-result c = search walk-bounds
 
 same-length : tie.Need-same-length Inv-loop μ-loop
 same-length c = search walk-bounds
@@ -110,6 +107,5 @@ project-into-spec =
     atoms-of-requires-2
     mul-places-2
     slice-write-places-2
-    add-result
     same-length
     returns)
