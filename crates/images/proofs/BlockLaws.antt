@@ -10,8 +10,8 @@ use native.Mathlib.Omega.{arith}
 use borrow.Author.Needs.{needs}
 use borrow.Author.Tests.{ltb-true}
 use lib.Dec.{ltb}
-use lib.ListN.{length, take, drop, set, getD, length-append, length-set, length-drop, take-append-drop, List·getD-map}
-use lib.Seq.{set-split, length-take-le, getD-drop, getD-set-same, getD-set-other}
+use lib.ListN.{length, take, drop, set, getD, length-append, length-set, take-append-drop, length-map, List·getD-map}
+use lib.Seq.{set-split, length-take-le, getD-set-same, getD-set-other}
 use Rattle.definitions.specs.Nodes as table
 use Rattle.definitions.specs.Nodes.{node, nodeOf, nodeWord, kindOf, kindNumber, operandSpan}
 use Rattle.definitions.specs.Bounded.{pick}
@@ -20,19 +20,15 @@ use Rattle.formulas.specs.Meaning.{meaning, OfWord, Built, Wordable}
 use Rattle.formulas.specs.declared.node.Node.{Node}
 use Rattle.formulas.proofs.KindLaws.{number-of}
 use Rattle.images.specs.declared.blocks.Block.{Block}
-use Rattle.images.specs.declared.blocks.Blocks.{Blocks}
 use Rattle.images.specs.Emission.{Room, Follows}
-use Rattle.images.specs.Blocks.{dot, rowsOf, forms, formOf, rows, rowCount, row, Template, rowsIn, IsBlock, Listed, SmallNames, become, Made, laid}
+use Rattle.images.specs.Blocks.{dot, rowsOf, formOf, FineRow, FineRows, rowsIn, IsBlock, SmallNames, become, Made, laid}
 use Rattle.images.proofs.EmitLaws.{seam-take, seam-drop, map-append, map-length}
 
-pub row-count : length rows ≡ rowCount
-unfolding rows
-row-count = refl
-
--- a test at every word
-abbrev every : (ℕ → Bool) → List ℕ → Bool
-every f [] = true
-every f (w ∷ ws) = f w && every f ws
+-- a test at each of the first words
+abbrev allOf : (ℕ → Bool) → ℕ → List ℕ → Bool
+allOf f zero ws = true
+allOf f (suc n) [] = false
+allOf f (suc n) (w ∷ ws) = f w && allOf f n ws
 
 left-of : (a b : Bool) → (a && b) ≡ true → a ≡ true
 left-of true b e = refl
@@ -42,83 +38,97 @@ right-of : (a b : Bool) → (a && b) ≡ true → b ≡ true
 right-of true b e = e
 right-of false b e = absurd (true≢false (sym e))
 
-every-at : (f : ℕ → Bool) (ws : List ℕ) (k : ℕ) → every f ws ≡ true → k < length ws → f (getD ws k 0) ≡ true
-every-at f [] k e h = absurd (not-suc-le-zero h)
-every-at f (w ∷ ws) zero e h = left-of (f w) (every f ws) e
-every-at f (w ∷ ws) (suc k) e h = every-at f ws k (right-of (f w) (every f ws) e) (le-of-suc-le-suc h)
+all-at : (f : ℕ → Bool) (n : ℕ) (ws : List ℕ) (i : ℕ) → allOf f n ws ≡ true → i < n → f (getD ws i 0) ≡ true
+all-at f zero ws i e h = absurd (not-suc-le-zero h)
+all-at f (suc n) [] i e h = absurd (true≢false (sym e))
+all-at f (suc n) (w ∷ ws) zero e h = left-of (f w) (allOf f n ws) e
+all-at f (suc n) (w ∷ ws) (suc i) e h = all-at f n ws i (right-of (f w) (allOf f n ws) e) (le-of-suc-le-suc h)
 
--- the rows as words, as the code has them
-pub templated : (i : ℕ) (r : Node) → i < rowCount → OfWord (getD (map nodeWord rows) i 0) r → Template i r
-unfolding kindOf pick rows
-templated i r h w =
-    let v = getD (map nodeWord rows) i 0 in
-    let k = ltb-true (v % 256) 10 (every-at (λ (x : ℕ). ltb (x % 256) 10) (map nodeWord rows) i refl h) in
-    let a = ltb-true (v / 256 % 4096) 17 (every-at (λ (x : ℕ). ltb (x / 256 % 4096) 17) (map nodeWord rows) i refl h) in
-    let b = ltb-true (v / 1048576) 17 (every-at (λ (x : ℕ). ltb (x / 1048576) 17) (map nodeWord rows) i refl h) in
+all-there : (f : ℕ → Bool) (n : ℕ) (ws : List ℕ) → allOf f n ws ≡ true → n ≤ length ws
+all-there f zero ws e = omega arith
+all-there f (suc n) [] e = absurd (true≢false (sym e))
+all-there f (suc n) (w ∷ ws) e = omega (arith, all-there f n ws (right-of (f w) (allOf f n ws) e))
+
+abbrev isFine : ℕ → Bool
+isFine w = ltb (w % 256) 10 && (ltb (w / 256 % 4096) 17 && ltb (w / 1048576) 17)
+
+fine-row : (w : ℕ) → isFine w ≡ true → FineRow w
+fine-row w e =
+    let f = right-of (ltb (w % 256) 10) (ltb (w / 256 % 4096) 17 && ltb (w / 1048576) 17) e in
     record {
-      meant = w .meant ∙ sym (List·getD-map nodeOf (map nodeWord rows) i 0);
-      kind = omega (arith, w .kind, k);
-      first = omega (arith, w .first, a);
-      second = omega (arith, w .second, b);
+      kind = omega (arith, ltb-true (w % 256) 10 (left-of (ltb (w % 256) 10) (ltb (w / 256 % 4096) 17 && ltb (w / 1048576) 17) e));
+      first = ltb-true (w / 256 % 4096) 17 (left-of (ltb (w / 256 % 4096) 17) (ltb (w / 1048576) 17) f);
+      second = ltb-true (w / 1048576) 17 (right-of (ltb (w / 256 % 4096) 17) (ltb (w / 1048576) 17) f);
     }
+
+pub fine-rows : (n : ℕ) (ws : List ℕ) → allOf isFine n ws ≡ true → FineRows n ws
+fine-rows n ws e = record { there = all-there isFine n ws e; fine = λ i h. fine-row (getD ws i 0) (all-at isFine n ws i e h) }
 
 -- what a block shows of itself, and what a list wants of its block
 pub record Shown : Type 0 where
-  pub inside : Bool
   pub few : Bool
+  pub fine : Bool
   pub size : ℕ
   pub rows : List table.Node
 
 abbrev pub shown : Block → Shown
-shown k = record { inside = ltb (k .0 + k .1) 64; few = ltb (k .1) 7; size = k .1; rows = rowsIn k }
+shown k = record { few = ltb (k .count) 7; fine = allOf isFine (k .count) (k .rows); size = k .count; rows = rowsIn (k .count) (k .rows) }
 
 abbrev pub wanted : List Emit → Shown
-wanted es = record { inside = true; few = true; size = length es; rows = rowsOf es }
+wanted es = record { few = true; fine = true; size = length es; rows = rowsOf es }
 
 pub is-block : (es : List Emit) (k : Block) → shown k ≡ wanted es → IsBlock es k
 is-block es k e = record {
-  there = omega (arith, ltb-true (k .0 + k .1) 64 (ap (λ (s : Shown). s .inside) e));
-  few = omega (arith, ltb-true (k .1) 7 (ap (λ (s : Shown). s .few) e));
+  few = omega (arith, ltb-true (k .count) 7 (ap (λ (s : Shown). s .few) e));
   size = ap (λ (s : Shown). s .size) e;
+  fine = fine-rows (k .count) (k .rows) (ap (λ (s : Shown). s .fine) e);
   same = ap (λ (s : Shown). s .rows) e;
 }
 
--- the same of both blocks of a form
-pub record BothShown : Type 0 where
-  pub weak : Shown
-  pub strong : Shown
+pub weak-block : (weak : Bool) (f : ℕ) (k : Block) → weak ≡ true → IsBlock (formOf f true) k → IsBlock (formOf f weak) k
+weak-block weak f k e b = rw e b
 
-abbrev pub bothShown : Blocks → BothShown
-bothShown b = record { weak = shown (b .0); strong = shown (b .1) }
+pub strong-block : (weak : Bool) (f : ℕ) (k : Block) → weak ≡ false → IsBlock (formOf f false) k → IsBlock (formOf f weak) k
+strong-block weak f k e b = rw e b
 
-abbrev pub bothWanted : (Bool → List Emit) → BothShown
-bothWanted es = record { weak = wanted (es true); strong = wanted (es false) }
+pub ruleset reading-blocks = (needs, weak-block, strong-block)
 
-abbrev pub neither : Blocks
-neither = ((0, 0), (0, 0))
+-- the block of form f, which is j
+pub form-block : (weak : Bool) (f j : ℕ) (k : Block) → f ≡ j → shown k ≡ wanted (formOf j weak) → IsBlock (formOf f weak) k
+form-block weak f j k e s = rw e (is-block (formOf j weak) k s)
 
-pub listed : (bs : List Blocks) (f : ℕ) → map bothShown bs ≡ map bothWanted forms → Listed f (getD bs f neither)
-listed bs f e =
-    let q : bothShown (getD bs f neither) ≡ bothWanted (formOf f) =
-    sym (List·getD-map bothShown bs f neither) ∙ (ap (λ (l : List BothShown). getD l f (bothShown neither)) e ∙ List·getD-map bothWanted forms f (λ weak. [])) in
+six-up : (f : ℕ) → (f ≡ 0 → ⊥) → (f ≡ 1 → ⊥) → (f ≡ 2 → ⊥) → (f ≡ 3 → ⊥) → (f ≡ 4 → ⊥) → (f ≡ 5 → ⊥) → 6 ≤ f
+six-up f n0 n1 n2 n3 n4 n5 = omega arith
+
+ten-left : (f : ℕ) → 6 ≤ f → f < 11 → (f ≡ 6 → ⊥) → (f ≡ 7 → ⊥) → (f ≡ 8 → ⊥) → (f ≡ 9 → ⊥) → f ≡ 10
+ten-left f g h n6 n7 n8 n9 = omega arith
+
+pub only-last : (f : ℕ) → f < 11 → (f ≡ 0 → ⊥) → (f ≡ 1 → ⊥) → (f ≡ 2 → ⊥) → (f ≡ 3 → ⊥) → (f ≡ 4 → ⊥) → (f ≡ 5 → ⊥) → (f ≡ 6 → ⊥) → (f ≡ 7 → ⊥) →
+    (f ≡ 8 → ⊥) → (f ≡ 9 → ⊥) → f ≡ 10
+only-last f h n0 n1 n2 n3 n4 n5 n6 n7 n8 n9 = ten-left f (six-up f n0 n1 n2 n3 n4 n5) h n6 n7 n8 n9
+
+pub row-kind : (w : ℕ) (t : Node) → OfWord w t → FineRow w → t .kind ≤ 9
+row-kind w t o m = omega (arith, o .kind, m .kind)
+
+pub row-first : (w : ℕ) (t : Node) → OfWord w t → FineRow w → t .first < 17
+row-first w t o m = omega (arith, o .first, m .first)
+
+pub row-second : (w : ℕ) (t : Node) → OfWord w t → FineRow w → t .second < 17
+row-second w t o m = omega (arith, o .second, m .second)
+
+pub is-made : (w : ℕ) (f : List ℕ) (t r : Node) → OfWord w t → FineRow w → SmallNames f → Built (kindOf (t .kind)) (getD f (t .first) 0) (getD f (t .second) 0) r → Made w f r
+is-made w f t r o m s b =
+    let k : t .kind ≡ kindNumber (kindOf (t .kind)) = number-of (t .kind) (row-kind w t o m) in
     record {
-      weak = is-block (formOf f true) ((getD bs f neither) .0) (ap (λ (s : BothShown). s .weak) q);
-      strong = is-block (formOf f false) ((getD bs f neither) .1) (ap (λ (s : BothShown). s .strong) q);
-    }
-
-pub is-made : (i : ℕ) (f : List ℕ) (t r : Node) → Template i t → SmallNames f → Built (kindOf (t .kind)) (getD f (t .first) 0) (getD f (t .second) 0) r → Made i f r
-is-made i f t r m s b =
-    let k : t .kind ≡ kindNumber (kindOf (t .kind)) = number-of (t .kind) (m .kind) in
-    record {
-      meant = b .meant ∙ ap (become f) (m .meant);
+      meant = b .meant ∙ ap (become f) (o .meant);
       word = record {
-        kind = omega (arith, b .kind, k, m .kind);
+        kind = omega (arith, b .kind, k, row-kind w t o m);
         first = omega (arith, b .first, s .low (t .first));
         second = omega (arith, b .second, s .low (t .second));
       };
     }
 
-pub ruleset made-laws = (needs, is-made)
+pub ruleset made-laws = (needs, row-kind, row-first, row-second, is-made)
 
 -- the names after i rows
 abbrev moved : List ℕ → ℕ → ℕ → List ℕ
@@ -147,15 +157,15 @@ small-set f v l h s = record { low = λ o. go o (ℕ-discrete o dot) }
     go o (yes e) = rw (e, getD-set-same f dot v 0 (omega arith)) h
     go o (no e) = rw (getD-set-other f dot o v 0 e) (s .low o)
 
--- what the loop has done before row i of block k: F is what the operands stand for by now
-pub record Laying (f : List ℕ) (at : ℕ) (k : Block) (i : ℕ) (o o′ F : List ℕ) : Type 0 where
-  pub few : i ≤ k .1
-  pub room : Room (k .1) at o
-  pub there : k .0 + k .1 ≤ rowCount
+-- what the loop has done before row i: F is what the operands stand for by now
+pub record Laying (f : List ℕ) (at : ℕ) (ws : List ℕ) (count i : ℕ) (o o′ F : List ℕ) : Type 0 where
+  pub few : i ≤ count
+  pub room : Room count at o
+  pub rows : FineRows count ws
   pub wide : length F ≡ 17
   pub small : SmallNames F
   pub names : F ≡ moved f at i
-  pub done : Follows (laid f at (take i (drop (k .0) rows))) o at (at + i) o′
+  pub done : Follows (laid f at (rowsIn i ws)) o at (at + i) o′
 
 follows-none : (o : List ℕ) (at : ℕ) → at ≤ length o → Follows [] o at (at + 0) o
 follows-none o at h =
@@ -178,32 +188,39 @@ follows-more ns n o o′ at m w h e p =
           (append-assoc (take at o) (map nodeWord ns) (nodeWord n ∷ drop (m + 1) o) ∙ ap (λ (y : List ℕ). take at o ++ y) (sym (append-assoc (map nodeWord ns) (nodeWord n ∷ []) (drop (m + 1) o))));
     }
 
-pub laying-start : (f : List ℕ) (at : ℕ) (k : Block) (o : List ℕ) → length f ≡ 17 → Room (k .1) at o → k .0 + k .1 ≤ rowCount → SmallNames f → Laying f at k 0 o o f
-laying-start f at k o l r t s =
-    record { few = omega arith; room = r; there = t; wide = l; small = s; names = refl; done = follows-none o at (omega (arith, r .low, r .held)) }
+pub laying-start : (f : List ℕ) (at : ℕ) (ws : List ℕ) (count : ℕ) (o : List ℕ) → length f ≡ 17 → Room count at o → FineRows count ws → SmallNames f →
+    Laying f at ws count 0 o o f
+laying-start f at ws count o l r t s =
+    record { few = omega arith; room = r; rows = t; wide = l; small = s; names = refl; done = follows-none o at (omega (arith, r .low, r .held)) }
 
-pub laying-next : (f : List ℕ) (at : ℕ) (k : Block) (i : ℕ) (o o′ F : List ℕ) (n : Node) (w : ℕ) → Laying f at k i o o′ F → i < k .1 →
-    Made (k .0 + i) F n → w ≡ nodeWord (meaning n) → Laying f at k (i + 1) o (set o′ (at + i) w) (set F dot (at + i))
-laying-next f at k i o o′ F n w p h m e =
-    let q : at + i + 1 ≡ at + suc i = omega arith in
-    let l : i < length (drop (k .0) rows) = omega (arith, p .there, length-drop (k .0) rows, row-count) in
-    let x : become (moved f at i) (getD (drop (k .0) rows) i (node table.True 0 0)) ≡ meaning n =
-    rw (getD-drop (k .0) rows i (node table.True 0 0), ← p .names) (sym (m .meant)) in
-    let g = laid-more f at i (drop (k .0) rows) (node table.True 0 0) l in
-    let s = follows-more _ (meaning n) o o′ at (at + i) w (omega (arith, p .room .low, p .room .held)) e (p .done) in
-    record {
-      few = omega arith;
-      room = p .room;
-      there = p .there;
-      wide = length-set F dot (at + i) ∙ p .wide;
-      small = small-set F (at + i) (p .wide) (omega (arith, p .room .low)) (p .small);
-      names = rw (add-one i, p .names) (sym (moved-more f at i));
-      done = rw (add-one i, g, x) (rw q at s);
-    }
+module _ (f : List ℕ) (at : ℕ) (ws : List ℕ) (count i : ℕ) (o o′ F : List ℕ) (p : Laying f at ws count i o o′ F) (h : i < count) where
+  pub laying-there : i < length ws
+  laying-there = omega (arith, p .rows .there)
 
-pub laying-done : (f : List ℕ) (at : ℕ) (k : Block) (i : ℕ) (o o′ F : List ℕ) → Laying f at k i o o′ F → k .1 ≤ i → Follows (laid f at (rowsIn k)) o at (at + i) o′
-laying-done f at k i o o′ F p h =
-    let e : i ≡ k .1 = omega (arith, p .few) in
+  pub laying-fine : FineRow (getD ws i 0)
+  laying-fine = p .rows .fine i h
+
+  pub laying-next : (n : Node) (w : ℕ) → Made (getD ws i 0) F n → w ≡ nodeWord (meaning n) → Laying f at ws count (i + 1) o (set o′ (at + i) w) (set F dot (at + i))
+  laying-next n w m e =
+      let q : at + i + 1 ≡ at + suc i = omega arith in
+      let l : i < length (map nodeOf ws) = omega (arith, length-map ws nodeOf, p .rows .there) in
+      let x : become (moved f at i) (getD (map nodeOf ws) i (nodeOf 0)) ≡ meaning n = rw (List·getD-map nodeOf ws i 0, ← p .names) (sym (m .meant)) in
+      let g = laid-more f at i (map nodeOf ws) (nodeOf 0) l in
+      let s = follows-more _ (meaning n) o o′ at (at + i) w (omega (arith, p .room .low, p .room .held)) e (p .done) in
+      record {
+        few = omega arith;
+        room = p .room;
+        rows = p .rows;
+        wide = length-set F dot (at + i) ∙ p .wide;
+        small = small-set F (at + i) (p .wide) (omega (arith, p .room .low)) (p .small);
+        names = rw (add-one i, p .names) (sym (moved-more f at i));
+        done = rw (add-one i, g, x) (rw q at s);
+      }
+
+pub laying-done : (f : List ℕ) (at : ℕ) (ws : List ℕ) (count i : ℕ) (o o′ F : List ℕ) → Laying f at ws count i o o′ F → count ≤ i →
+    Follows (laid f at (rowsIn count ws)) o at (at + i) o′
+laying-done f at ws count i o o′ F p h =
+    let e : i ≡ count = omega (arith, p .few) in
     rw e (rw e at (p .done))
 
-pub ruleset lay-laws = (needs, laying-start, laying-next, laying-done)
+pub ruleset lay-laws = (needs, laying-start, laying-there, laying-fine, laying-next, laying-done)

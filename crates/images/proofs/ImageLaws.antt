@@ -1,6 +1,6 @@
 -- The images of one node of a rule: one law for each return.
 use mathlib.Core.Bool.{Bool, true, false, not, _&&_, _||_}
-use mathlib.Core.List.{List, [], _∷_}
+use mathlib.Core.List.{List, [], _∷_, map}
 use mathlib.Core.Path.{_≡_, refl, sym, ap, _∙_}
 use Prim.Native.Nat.{ℕ, zero, suc, _+_, _-_, _<_, _≤_}
 use native.Mathlib.Omega.{arith}
@@ -10,20 +10,20 @@ use lib.Dec.{eqb, lit≤}
 use mir.Syntax.{w16}
 use mir.Val.{Fits}
 use native.Mathlib.Nat.{lt-of-lt-of-le}
-use lib.ListN.{length, take, drop, set, getD, length-take}
+use lib.ListN.{length, set, getD, length-take}
 use Rattle.definitions.specs.Bounded.{pick}
 use Rattle.definitions.specs.Nodes as words
-use Rattle.definitions.specs.Nodes.{Kind, node, kindOf, operandSpan}
+use Rattle.definitions.specs.Nodes.{Kind, node, nodeOf, nodeWord, kindOf, operandSpan}
 use Rattle.definitions.specs.Rewriting as table
 use Rattle.definitions.specs.Rewriting.{Emit, emitted, opening, closing, imageOf}
 use Rattle.formulas.proofs.KindLaws.{kind-cases}
 use Rattle.images.specs.Emission.{Room, Emitted, Follows, Holds}
-use Rattle.images.specs.Blocks.{a, dot, rowsOf, forms, formOf, rows, rowsIn, IsBlock, Listed, naming, SmallNames, laid}
-use Rattle.images.specs.Images.{meant, Small, Named, partOf, formBy, tolerantBy, Stepped}
+use Rattle.images.specs.Blocks.{a, dot, rowsOf, forms, formOf, FineRows, rowsIn, IsBlock, naming, SmallNames, laid}
+use Rattle.images.specs.Images.{meant, Small, Named, partOf, formBy, tolerantBy, Parted, Stepped}
 use Rattle.images.specs.declared.blocks.Block.{Block}
-use Rattle.images.specs.declared.blocks.Blocks.{Blocks}
 use Rattle.images.specs.declared.image.Image.{Image}
 use Rattle.images.proofs.EmitLaws.{emitted-follows}
+use Rattle.images.proofs.BlockLaws.{fine-rows}
 
 pub reading-weak : (weak : Bool) (i : table.Image) → weak ≡ true → i .weak ≡ imageOf weak i
 reading-weak weak i e = rw e
@@ -69,11 +69,18 @@ pub ruleset names-laws = (needs, names-are)
 pub opened-small : SmallNames (naming 0 0 0 0 0 0 0)
 opened-small = naming-small 0 0 0 0 0 0 0 (omega arith) (omega arith) (omega arith) (omega arith) (omega arith) (omega arith) (omega arith)
 
-pub opening-laid : (o o′ : List ℕ) (r : ℕ) → Follows (laid (naming 0 0 0 0 0 0 0) 0 (take 11 (drop 0 rows))) o 0 r o′ → Holds opening o r o′
-unfolding rows
+-- the opening's rows, as the code has them
+abbrev opened : List ℕ
+opened = map nodeWord opening
+
+pub opened-fine : FineRows 11 opened
+opened-fine = fine-rows 11 opened refl
+
+pub opening-laid : (o o′ : List ℕ) (r : ℕ) → Follows (laid (naming 0 0 0 0 0 0 0) 0 (rowsIn 11 opened)) o 0 r o′ → Holds opening o r o′
+unfolding kindOf pick
 opening-laid o o′ r p = record { next = p .next; inside = p .inside; size = p .size; words = p .words }
 
-pub ruleset opening-laws = (needs, opened-small, opening-laid)
+pub ruleset opening-laws = (needs, opened-small, opened-fine, opening-laid)
 
 or-no : (b : Bool) → (b || false) ≡ b
 or-no true = refl
@@ -177,66 +184,70 @@ laid-count f n (t ∷ ts) = rw (laid-count (set f dot n) (suc n) ts)
 
 -- a list's block is laid: the list is emitted
 emitted-laid : (es es′ : List Emit) (k : Block) (F o o′ : List ℕ) (at r : ℕ) → IsBlock es′ k → emitted (at - 1) at es ≡ laid F at (rowsOf es′) →
-    Follows (laid F at (rowsIn k)) o at r o′ → Emitted es o at r o′
+    Follows (laid F at (rowsIn (k .count) (k .rows))) o at r o′ → Emitted es o at r o′
 emitted-laid es es′ k F o o′ at r b e p =
-    let h : emitted (at - 1) at es ≡ laid F at (rowsIn k) = e ∙ ap (laid F at) (sym (b .same)) in
-    emitted-follows es (laid F at (rowsIn k)) o o′ at r h (sym (emitted-count (at - 1) at es) ∙ ap length h) p
+    let h : emitted (at - 1) at es ≡ laid F at (rowsIn (k .count) (k .rows)) = e ∙ ap (laid F at) (sym (b .same)) in
+    emitted-follows es (laid F at (rowsIn (k .count) (k .rows))) o o′ at r h (sym (emitted-count (at - 1) at es) ∙ ap length h) p
 
 -- a block's nodes are at most six
-few-more : (es : List Emit) (k : Block) (F o o′ : List ℕ) (at r : ℕ) → IsBlock es k → Follows (laid F at (rowsIn k)) o at r o′ → (at ≤ r) × (r ≤ at + 6)
+few-more : (es : List Emit) (k : Block) (F o o′ : List ℕ) (at r : ℕ) → IsBlock es k → Follows (laid F at (rowsIn (k .count) (k .rows))) o at r o′ → (at ≤ r) × (r ≤ at + 6)
 few-more es k F o o′ at r b p =
-    let l : length (laid F at (rowsIn k)) ≤ k .1 = omega (arith, laid-count F at (rowsIn k), length-take (k .1) (drop (k .0) rows)) in
+    let l : length (laid F at (rowsIn (k .count) (k .rows))) ≤ k .count = omega (arith, laid-count F at (rowsIn (k .count) (k .rows)), length-take (k .count) (map nodeOf (k .rows))) in
     (omega (arith, p .next), omega (arith, p .next, b .few))
 
 pub closing-emitted : (weak : Bool) (at : ℕ) (P : table.Image) (k : Block) (F o o′ : List ℕ) (r : ℕ) → IsBlock (closing weak a) k → Named weak at 0 0 P P F →
-    Follows (laid F at (rowsIn k)) o at r o′ → Emitted (closing weak (imageOf weak P)) o at r o′
+    Follows (laid F at (rowsIn (k .count) (k .rows))) o at r o′ → Emitted (closing weak (imageOf weak P)) o at r o′
 closing-emitted true at P k F o o′ r b n p = emitted-laid (closing true (P .weak)) (closing true a) k F o o′ at r b (rw (n .same)) p
 closing-emitted false at P k F o o′ r b n p = emitted-laid (closing false (P .strong)) (closing false a) k F o o′ at r b (rw (n .same)) p
 
-pub closing-room : (weak : Bool) (k : Block) (at : ℕ) (o : List ℕ) → IsBlock (closing weak a) k → Room 4 at o → Room (k .1) at o
+pub closing-room : (weak : Bool) (k : Block) (at : ℕ) (o : List ℕ) → IsBlock (closing weak a) k → Room 4 at o → Room (k .count) at o
 closing-room true k at o b h = record { low = omega (arith, b .size, h .low); held = h .held }
 closing-room false k at o b h = record { low = omega (arith, b .size, h .low); held = h .held }
 
 pub ruleset closing-laws = (needs, closing-room, closing-emitted)
 
--- the first image is there: its next number is m
-module _ (es : List Emit) (k : Block) (F o o′ : List ℕ) (at m : ℕ) (p : Follows (laid F at (rowsIn k)) o at m o′) (b : IsBlock es k) (h : Room 12 at o) where
-  pub middle-low : m < operandSpan
-  middle-low = omega (arith, (few-more es k F o o′ at m b p) .1, h .low)
+pub part-room : (es : List Emit) (k : Block) (at : ℕ) (o : List ℕ) → IsBlock es k → Room 6 at o → Room (k .count) at o
+part-room es k at o b h = record { low = omega (arith, b .few, h .low); held = h .held }
 
-  pub middle-some : 0 < at → 0 < m
-  middle-some z = omega (arith, (few-more es k F o o′ at m b p) .0)
+pub parted : (short own weak : Bool) (P Q : table.Image) (x n c f at : ℕ) (k : Block) (F o o′ : List ℕ) (r : ℕ) → Follows (laid F at (rowsIn (k .count) (k .rows))) o at r o′ →
+    IsBlock (formOf f weak) k → Named weak at x n P Q F → f ≡ formBy short own (P .tolerant) (Q .tolerant) (kindOf c) → c ≤ 7 →
+    Parted (partOf short own P Q x at weak (kindOf c) n) o at r o′
+parted short own weak P Q x n c f at k F o o′ r p b m e h =
+    let few = few-more (formOf f weak) k F o o′ at r b p in
+    record {
+      emits = emitted-laid (partOf short own P Q x at weak (kindOf c) n) (formOf f weak) k F o o′ at r b (form-emits short own weak P Q x n at (at - 1) c h ∙ rw (m .same, e)) p;
+      grown = few .0;
+      few = few .1;
+    }
+
+pub ruleset part-laws = (needs, form-there, part-room, parted)
+
+-- the first image is there: its next number is m
+module _ (es : List Emit) (o o′ : List ℕ) (at m : ℕ) (p : Parted es o at m o′) (h : Room 12 at o) where
+  pub middle-room : Room 6 m o′
+  middle-room = record { low = omega (arith, p .few, h .low); held = omega (arith, p .emits .size, h .held) }
 
   pub middle-fits : Fits w16 (m - 1)
-  middle-fits = record { fits = lt-of-lt-of-le {m = 4096} (omega (arith, middle-low)) (lit≤ tt) }
-
-  pub middle-room : (es′ : List Emit) (k′ : Block) → IsBlock es′ k′ → Room (k′ .1) m o′
-  middle-room es′ k′ b′ = record { low = omega (arith, (few-more es k F o o′ at m b p) .1, h .low, b′ .few); held = omega (arith, p .size, h .held) }
+  middle-fits = record { fits = lt-of-lt-of-le {m = 4096} (omega (arith, p .few, h .low)) (lit≤ tt) }
 
 -- the later premise first: its end is the goal's
-pub end-fits : (es es′ : List Emit) (k k′ : Block) (F F′ o o′ o″ : List ℕ) (at m r : ℕ) → Follows (laid F′ m (rowsIn k′)) o′ m r o″ → IsBlock es′ k′ →
-    Follows (laid F at (rowsIn k)) o at m o′ → IsBlock es k → Room 12 at o → Fits w16 (r - 1)
-end-fits es es′ k k′ F F′ o o′ o″ at m r p′ b′ p b h =
-    record { fits = lt-of-lt-of-le {m = 4096} (omega (arith, (few-more es′ k′ F′ o′ o″ m r b′ p′) .1, (few-more es k F o o′ at m b p) .1, h .low)) (lit≤ tt) }
+pub end-fits : (es es′ : List Emit) (o o′ o″ : List ℕ) (at m r : ℕ) → Parted es′ o′ m r o″ → Parted es o at m o′ → Room 12 at o → Fits w16 (r - 1)
+end-fits es es′ o o′ o″ at m r q p h = record { fits = lt-of-lt-of-le {m = 4096} (omega (arith, q .few, p .few, h .low)) (lit≤ tt) }
 
-pub stepped : (short own : Bool) (P Q : table.Image) (c x y f : ℕ) (B : Blocks) (F F′ o o′ o″ : List ℕ) (at m r : ℕ) (t : Bool) →
-    Follows (laid F′ m (rowsIn (B .1))) o′ m r o″ → Follows (laid F at (rowsIn (B .0))) o at m o′ → Listed f B →
-    f ≡ formBy short own (P .tolerant) (Q .tolerant) (kindOf c) → c ≤ 7 → Named true at at x P Q F → Named false m at x P Q F′ → 0 < at →
-    t ≡ tolerantBy own (P .tolerant) (Q .tolerant) (kindOf c)
-    → Stepped short own P Q (node (kindOf c) x y) o at (record { weak = m - 1; strong = r - 1; tolerant = t }) o″
-stepped short own P Q c x y f B F F′ o o′ o″ at m r t p′ p l ef low n n′ z et =
-    let i = few-more (formOf f true) (B .0) F o o′ at m (l .weak) p in
-    let j = few-more (formOf f false) (B .1) F′ o′ o″ m r (l .strong) p′ in
-    let back : r - 1 + 1 ≡ r = omega (arith, i .0, j .0) in
+pub stepped : (short own : Bool) (P Q : table.Image) (K : Kind) (x y : ℕ) (o o′ o″ : List ℕ) (at m r : ℕ) (t : Bool) →
+    Parted (partOf short own P Q at at true K x) o at m o′ → Parted (partOf short own P Q at m false K x) o′ m r o″ → 0 < at →
+    t ≡ tolerantBy own (P .tolerant) (Q .tolerant) K → Stepped short own P Q (node K x y) o at (record { weak = m - 1; strong = r - 1; tolerant = t }) o″
+stepped short own P Q K x y o o′ o″ at m r t p q z e =
+    let back : r - 1 + 1 ≡ r = omega (arith, p .grown, q .grown) in
     record {
       middle = m;
       between = o′;
-      weakly = emitted-laid _ (formOf f true) (B .0) F o o′ at m (l .weak) (form-emits short own true P Q at x at (at - 1) c low ∙ rw (n .same, ef)) p;
-      strongly = rw back (emitted-laid _ (formOf f false) (B .1) F′ o′ o″ m r (l .strong) (form-emits short own false P Q at x m (m - 1) c low ∙ rw (n′ .same, ef)) p′);
-      weak = omega (arith, i .0);
-      grown = (i .0, omega (arith, j .0, i .0));
-      most = omega (arith, i .0, i .1, j .1, j .0);
-      tolerant = et;
+      weakly = p .emits;
+      strongly = rw back (q .emits);
+      weak = omega (arith, p .grown);
+      grown = (p .grown, omega (arith, p .grown, q .grown));
+      most = omega (arith, p .grown, q .grown, p .few, q .few);
+      tolerant = e;
     }
 
-pub ruleset step-laws = (needs, form-there, middle-low, middle-some, middle-fits, middle-room, end-fits, stepped)
+pub ruleset step-laws = (needs, middle-room, middle-fits, stepped)

@@ -1,16 +1,15 @@
 -- Document 01's lists as rows: a node's operands are numbers of the opening or names, and names get a meaning when a block is laid.
-use mathlib.Core.Bool.{Bool, true, false}
-use mathlib.Core.List.{List, [], _∷_, _++_}
+use mathlib.Core.Bool.{Bool}
+use mathlib.Core.List.{List, [], _∷_, map}
 use mathlib.Core.Path.{_≡_}
-use Prim.Native.Nat.{ℕ, suc, _+_, _<_, _≤_}
-use lib.ListN.{length, take, drop, set, getD}
+use Prim.Native.Nat.{ℕ, suc, _*_, _/_, _%_, _<_, _≤_}
+use lib.ListN.{length, take, set, getD}
 use Rattle.definitions.specs.Nodes as table
-use Rattle.definitions.specs.Nodes.{True, Atom, Not, Or, node, operandSpan}
-use Rattle.definitions.specs.Rewriting.{Operand, Emit, #, ·, leaf, one, two, opening, itself, foreignAtom, plainNext, plainUntil, plainPrev, plainSince, shortNext, shortUntil}
+use Rattle.definitions.specs.Nodes.{True, Atom, Not, Or, node, nodeOf, kindSpan, operandSpan}
+use Rattle.definitions.specs.Rewriting.{Operand, Emit, #, ·, one, two, itself, foreignAtom, plainNext, plainUntil, plainPrev, plainSince, shortNext, shortUntil}
 use Rattle.formulas.specs.declared.node.Node.{Node}
 use Rattle.formulas.specs.Meaning.{meaning, Wordable}
 use Rattle.images.specs.declared.blocks.Block.{Block}
-use Rattle.images.specs.declared.blocks.Blocks.{Blocks}
 
 -- the names, in the code's order
 abbrev pub dot : ℕ
@@ -56,42 +55,27 @@ formCount = 11
 abbrev pub formOf : ℕ → Bool → List Emit
 formOf f = getD forms f (λ weak. [])
 
--- all rows
-unfoldable pub rows : List table.Node
-rows =
-    opening ++ (rowsOf (itself true True 0) ++ (rowsOf (itself true Atom n) ++ (rowsOf (foreignAtom true x n) ++ (rowsOf (foreignAtom false x n)
-    ++ (rowsOf (one Not (# other) ∷ []) ++ (rowsOf (two Or (# a) (# b) ∷ []) ++ (rowsOf (plainNext true a) ++ (rowsOf (plainNext false a)
-    ++ (rowsOf (plainUntil true g a b) ++ (rowsOf (plainUntil false g a b) ++ (rowsOf (plainPrev a) ++ (rowsOf (plainSince g a b)
-    ++ (rowsOf (shortNext true a) ++ (rowsOf (shortNext false a) ++ (rowsOf (shortUntil true a b) ++ rowsOf (shortUntil false a b))))))))))))))))
+-- a row is of a known kind, and its operands have a meaning
+pub record FineRow (w : ℕ) : Type 0 where
+  pub kind : w % kindSpan ≤ 9
+  pub first : w / kindSpan % operandSpan < 17
+  pub second : w / (kindSpan * operandSpan) < 17
 
-abbrev pub rowCount : ℕ
-rowCount = 63
+-- the first rows are there, and fine
+pub record FineRows (count : ℕ) (ws : List ℕ) : Type 0 where
+  pub there : count ≤ length ws
+  pub fine : (i : ℕ) → i < count → FineRow (getD ws i 0)
 
-abbrev pub row : ℕ → table.Node
-row i = getD rows i (node True 0 0)
-
--- r is row i
-pub record Template (i : ℕ) (r : Node) : Type 0 where
-  pub meant : meaning r ≡ row i
-  pub kind : r .kind ≤ 9
-  pub first : r .first < 17
-  pub second : r .second < 17
-
--- the rows of a block
-abbrev pub rowsIn : Block → List table.Node
-rowsIn k = take (k .1) (drop (k .0) rows)
+-- the first rows, as nodes
+abbrev pub rowsIn : ℕ → List ℕ → List table.Node
+rowsIn count ws = take count (map nodeOf ws)
 
 -- block k is a list's
 pub record IsBlock (es : List Emit) (k : Block) : Type 0 where
-  pub there : k .0 + k .1 ≤ rowCount
-  pub few : k .1 ≤ 6
-  pub size : k .1 ≡ length es
-  pub same : rowsIn k ≡ rowsOf es
-
--- r are the blocks of a form
-pub record Listed (f : ℕ) (r : Blocks) : Type 0 where
-  pub weak : IsBlock (formOf f true) (r .0)
-  pub strong : IsBlock (formOf f false) (r .1)
+  pub few : k .count ≤ 6
+  pub size : k .count ≡ length es
+  pub fine : FineRows (k .count) (k .rows)
+  pub same : rowsIn (k .count) (k .rows) ≡ rowsOf es
 
 -- what the operands of rows stand for: every number of the opening for itself
 abbrev pub naming : ℕ → ℕ → ℕ → ℕ → ℕ → ℕ → ℕ → List ℕ
@@ -104,9 +88,9 @@ pub record SmallNames (f : List ℕ) : Type 0 where
 abbrev pub become : List ℕ → table.Node → table.Node
 become f t = node (t .kind) (getD f (t .first) 0) (getD f (t .second) 0)
 
--- r is the node of row i
-pub record Made (i : ℕ) (f : List ℕ) (r : Node) : Type 0 where
-  pub meant : meaning r ≡ become f (row i)
+-- r is the node of a row
+pub record Made (w : ℕ) (f : List ℕ) (r : Node) : Type 0 where
+  pub meant : meaning r ≡ become f (nodeOf w)
   pub word : Wordable r
 
 -- the nodes of some rows from number n on; each is then "the node just emitted"

@@ -5,10 +5,11 @@ use mathlib.Core.Path.{_≡_}
 use Prim.Native.Nat.{ℕ, _+_, _-_, _<_, _≤_}
 use Rattle.definitions.specs.Limits.{maxTableNodes}
 use Rattle.definitions.specs.Bounded.{pick}
-use Rattle.definitions.specs.Nodes.{Kind, True, Atom, Not, Or, Next, Until, Prev, Since, Run, End, Unknown, Node}
+use Rattle.definitions.specs.Nodes.{Kind, True, Atom, Not, Or, Next, Until, Prev, Since, Run, End, Unknown, Node, kindOf, operandSpan}
 use Rattle.definitions.specs.Rewriting as table
 use Rattle.definitions.specs.Rewriting.{Emit, #, one, two, itself, foreignAtom, plainNext, plainUntil, plainPrev, plainSince, shortNext, shortUntil, imageOf}
 use Rattle.images.specs.declared.image.Image.{Image}
+use Rattle.images.specs.declared.image.Turn.{Turn}
 use Rattle.images.specs.Emission.{Emitted}
 use Rattle.images.specs.Blocks.{naming, SmallNames}
 
@@ -68,6 +69,24 @@ tolerantBy own p q Since = false
 tolerantBy own p q Run = false
 tolerantBy own p q End = false
 tolerantBy own p q Unknown = false
+
+-- a turn at a node of an accepted rule
+pub record Turnable (t : Turn) : Type 0 where
+  pub kind : t .n .kind ≤ 7
+  pub first : t .n .first < operandSpan
+  pub number : t .x < operandSpan
+  pub left : Small (t .p)
+  pub right : Small (t .q)
+
+-- what is emitted for one image
+abbrev pub turnPart : Turn → ℕ → Bool → List Emit
+turnPart t g weak = partOf (t .short) (t .own) (meant (t .p)) (meant (t .q)) (t .x) g weak (kindOf (t .n .kind)) (t .n .first)
+
+-- it is emitted, and is at most six nodes
+pub record Parted (es : List Emit) (o : List ℕ) (at r : ℕ) (o′ : List ℕ) : Type 0 where
+  pub emits : Emitted es o at r o′
+  pub grown : at ≤ r
+  pub few : r ≤ at + 6
 
 -- both images of node n are emitted from node `at` on, and r is what they are
 pub record Stepped (short own : Bool) (P Q : table.Image) (n : Node) (o : List ℕ) (at : ℕ) (r : Image) (o′ : List ℕ) : Type 0 where

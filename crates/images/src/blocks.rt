@@ -1,8 +1,8 @@
-// Document 01's lists of nodes as data: a row for each node, a block of rows for each list, and which blocks are the images of which node.
-ghost use mathlib.Core.Path.{_≡_};
+// Document 01's lists of nodes as data: a row for each node, a block of rows for each list, and which block is the image of which node.
 ghost use Prim.Native.Nat.{_<_};
+ghost use mathlib.Core.Bool.{true, false};
 ghost use Rattle.definitions.specs.Rewriting.{closing};
-ghost use Rattle.images.specs.Blocks.{a, rowCount, formCount, Template, IsBlock, Listed};
+ghost use Rattle.images.specs.Blocks.{a, formCount, formOf, IsBlock};
 use formulas::node::Node;
 
 // A row is the word of a node whose operands are numbers of the opening, which stand for themselves, or these names.
@@ -53,6 +53,9 @@ const SINCE: u32 = Node::SINCE as u32;
 const RUN: u32 = Node::RUN as u32;
 
 const END: u32 = Node::END as u32;
+
+// No row.
+const NONE: u32 = 0;
 
 // The rows, named as document 01 spells them.
 const ATOM_N: u32 = ATOM + N * FIRST;
@@ -117,8 +120,8 @@ const SINCE_1_DOT: u32 = SINCE + 1 * FIRST + DOT * SECOND;
 
 const SINCE_G_DOT: u32 = SINCE + G * FIRST + DOT * SECOND;
 
-const ROWS: [u32; 63] = [
-    // OPENING: "run; not 0; prev 1; end; not 3; or 2 4; not 5; or 0 6 (*state*); not 7; prev 3; not 9"
+// "Opening, numbers 0 to 10: run; not 0; prev 1; end; not 3; or 2 4; not 5; or 0 6 (*state*); not 7; prev 3; not 9"
+pub const OPENING: [u32; 11] = [
     RUN,
     NOT_0,
     PREV_1,
@@ -130,171 +133,196 @@ const ROWS: [u32; 63] = [
     NOT_7,
     PREV_3,
     NOT_9,
-    // TRUE, OWN_ATOM: "true, own atom: itself, w and s the same (1 node)"
-    TRUE,
-    ATOM_N,
-    // FOREIGN_W: "foreign atom: atom; or 1 · (w)"
-    ATOM_N,
-    OR_1_DOT,
-    // FOREIGN_S: "not of the atom; or 1 ·; not · (s) (5)"
-    NOT_X,
-    OR_1_DOT,
-    NOT_DOT,
-    // NOT: "not: not of the operand's s (w); not of its w (s) (2)"
-    NOT_OTHER,
-    // OR: "or: or a b, twice (2)"
-    OR_A_B,
-    // NEXT_W: "next: w: or 8 a; not ·; until 8 ·; not ·; next ·"
-    // CLOSING_W, without the last: "or 8 w; not ·; until 8 ·; not · (top weak)"
-    OR_8_A,
-    NOT_DOT,
-    UNTIL_8_DOT,
-    NOT_DOT,
-    NEXT_DOT,
-    // NEXT_S: "s: not a; or 8 ·; not ·; until 8 ·; next · (10)"
-    // CLOSING_S, without the last: "not s; or 8 ·; not ·; until 8 · (top strong) (8)"
-    NOT_A,
-    OR_8_DOT,
-    NOT_DOT,
-    UNTIL_8_DOT,
-    NEXT_DOT,
-    // UNTIL_W: "until: w: or 8 a (call it g); not b; or 8 ·; not ·; or · 9; until g ·"
-    OR_8_A,
-    NOT_B,
-    OR_8_DOT,
-    NOT_DOT,
-    OR_DOT_9,
-    UNTIL_G_DOT,
-    // UNTIL_S: "s: the same without "or · 9" (11)"
-    OR_8_A,
-    NOT_B,
-    OR_8_DOT,
-    NOT_DOT,
-    UNTIL_G_DOT,
-    // PREV: "prev: not a; or 1 ·; not ·; since 1 ·; prev ·, twice (10)"
-    NOT_A,
-    OR_1_DOT,
-    NOT_DOT,
-    SINCE_1_DOT,
-    PREV_DOT,
-    // SINCE: "since: or 8 a (g); not b; or 8 ·; not ·; since g ·, twice (10)"
-    OR_8_A,
-    NOT_B,
-    OR_8_DOT,
-    NOT_DOT,
-    SINCE_G_DOT,
-    // SHORT_NEXT_W: "next of a tolerant operand: w: next a; or 3 ·"
-    NEXT_A,
-    OR_3_DOT,
-    // SHORT_NEXT_S: "s: next a; not ·; or 3 ·; not · (6)"
-    NEXT_A,
-    NOT_DOT,
-    OR_3_DOT,
-    NOT_DOT,
-    // SHORT_UNTIL_W: "until of two tolerant operands: w: or 9 b; until a ·"
-    OR_9_B,
-    UNTIL_A_DOT,
-    // SHORT_UNTIL_S: "s: not b; or 9 ·; not ·; until a · (6)"
-    NOT_B,
-    OR_9_DOT,
-    NOT_DOT,
-    UNTIL_A_DOT,
 ];
 
-pub fn row_at(i: usize) -> Node
-    requires { ⌜ i < rowCount ⌝ }
-    ensures { λ r. ⌜ Template i r ⌝ }
-{
-    Node::of_word(ROWS[i])
+// A list of document 01: how many rows, and the rows.
+pub struct Block {
+    pub count: usize,
+    pub rows: [u32; 6],
 }
 
-// A list of document 01: its first row and its count of rows.
-pub struct Block(pub usize, pub usize);
+// "true, own atom: itself, w and s the same (1 node)"
+const TRUE_ALONE: Block = Block {
+    count: 1,
+    rows: [TRUE, NONE, NONE, NONE, NONE, NONE],
+};
 
-impl Block {
-    pub const OPENING: Block = Block(0, 11);
+// The same, of an own atom.
+const OWN_ATOM: Block = Block {
+    count: 1,
+    rows: [ATOM_N, NONE, NONE, NONE, NONE, NONE],
+};
 
-    pub const TRUE: Block = Block(11, 1);
+// "w and s the same": nothing more for s.
+const SAME: Block = Block {
+    count: 0,
+    rows: [NONE, NONE, NONE, NONE, NONE, NONE],
+};
 
-    pub const OWN_ATOM: Block = Block(12, 1);
+// "foreign atom: atom; or 1 · (w)"
+const FOREIGN_W: Block = Block {
+    count: 2,
+    rows: [ATOM_N, OR_1_DOT, NONE, NONE, NONE, NONE],
+};
 
-    pub const FOREIGN_W: Block = Block(13, 2);
+// "not of the atom; or 1 ·; not · (s) (5)"
+const FOREIGN_S: Block = Block {
+    count: 3,
+    rows: [NOT_X, OR_1_DOT, NOT_DOT, NONE, NONE, NONE],
+};
 
-    pub const FOREIGN_S: Block = Block(15, 3);
+// "not: not of the operand's s (w); not of its w (s) (2)"
+const NOT_OF: Block = Block {
+    count: 1,
+    rows: [NOT_OTHER, NONE, NONE, NONE, NONE, NONE],
+};
 
-    pub const NOT: Block = Block(18, 1);
+// "or: or a b, twice (2)"
+const OR_OF: Block = Block {
+    count: 1,
+    rows: [OR_A_B, NONE, NONE, NONE, NONE, NONE],
+};
 
-    pub const OR: Block = Block(19, 1);
+// "next: w: or 8 a; not ·; until 8 ·; not ·; next ·"
+const NEXT_W: Block = Block {
+    count: 5,
+    rows: [OR_8_A, NOT_DOT, UNTIL_8_DOT, NOT_DOT, NEXT_DOT, NONE],
+};
 
-    pub const NEXT_W: Block = Block(20, 5);
+// "s: not a; or 8 ·; not ·; until 8 ·; next · (10)"
+const NEXT_S: Block = Block {
+    count: 5,
+    rows: [NOT_A, OR_8_DOT, NOT_DOT, UNTIL_8_DOT, NEXT_DOT, NONE],
+};
 
-    pub const CLOSING_W: Block = Block(20, 4);
+// "until: w: or 8 a (call it g); not b; or 8 ·; not ·; or · 9; until g ·"
+const UNTIL_W: Block = Block {
+    count: 6,
+    rows: [OR_8_A, NOT_B, OR_8_DOT, NOT_DOT, OR_DOT_9, UNTIL_G_DOT],
+};
 
-    pub const NEXT_S: Block = Block(25, 5);
+// "s: the same without "or · 9" (11)"
+const UNTIL_S: Block = Block {
+    count: 5,
+    rows: [OR_8_A, NOT_B, OR_8_DOT, NOT_DOT, UNTIL_G_DOT, NONE],
+};
 
-    pub const CLOSING_S: Block = Block(25, 4);
+// "prev: not a; or 1 ·; not ·; since 1 ·; prev ·, twice (10)"
+const PREV_OF: Block = Block {
+    count: 5,
+    rows: [NOT_A, OR_1_DOT, NOT_DOT, SINCE_1_DOT, PREV_DOT, NONE],
+};
 
-    pub const UNTIL_W: Block = Block(30, 6);
+// "since: or 8 a (g); not b; or 8 ·; not ·; since g ·, twice (10)"
+const SINCE_OF: Block = Block {
+    count: 5,
+    rows: [OR_8_A, NOT_B, OR_8_DOT, NOT_DOT, SINCE_G_DOT, NONE],
+};
 
-    pub const UNTIL_S: Block = Block(36, 5);
+// "Closing, from the rule's w: or 8 w; not ·; until 8 ·; not · (top weak)"
+const CLOSING_W: Block = Block {
+    count: 4,
+    rows: [OR_8_A, NOT_DOT, UNTIL_8_DOT, NOT_DOT, NONE, NONE],
+};
 
-    pub const PREV: Block = Block(41, 5);
+// "from its s: not s; or 8 ·; not ·; until 8 · (top strong) (8)"
+const CLOSING_S: Block = Block {
+    count: 4,
+    rows: [NOT_A, OR_8_DOT, NOT_DOT, UNTIL_8_DOT, NONE, NONE],
+};
 
-    pub const SINCE: Block = Block(46, 5);
+// "next of a tolerant operand: w: next a; or 3 ·"
+const SHORT_NEXT_W: Block = Block {
+    count: 2,
+    rows: [NEXT_A, OR_3_DOT, NONE, NONE, NONE, NONE],
+};
 
-    pub const SHORT_NEXT_W: Block = Block(51, 2);
+// "s: next a; not ·; or 3 ·; not · (6)"
+const SHORT_NEXT_S: Block = Block {
+    count: 4,
+    rows: [NEXT_A, NOT_DOT, OR_3_DOT, NOT_DOT, NONE, NONE],
+};
 
-    pub const SHORT_NEXT_S: Block = Block(53, 4);
+// "until of two tolerant operands: w: or 9 b; until a ·"
+const SHORT_UNTIL_W: Block = Block {
+    count: 2,
+    rows: [OR_9_B, UNTIL_A_DOT, NONE, NONE, NONE, NONE],
+};
 
-    pub const SHORT_UNTIL_W: Block = Block(57, 2);
-
-    pub const SHORT_UNTIL_S: Block = Block(59, 4);
-
-    // "w and s the same": nothing more for s.
-    pub const SAME: Block = Block(0, 0);
-}
-
-// The blocks of "weak image w first, then strong image s".
-pub struct Blocks(pub Block, pub Block);
+// "s: not b; or 9 ·; not ·; until a · (6)"
+const SHORT_UNTIL_S: Block = Block {
+    count: 4,
+    rows: [NOT_B, OR_9_DOT, NOT_DOT, UNTIL_A_DOT, NONE, NONE],
+};
 
 // A form is a kind's number, or one of these.
 pub struct Form {}
 
 impl Form {
-    pub const OWN_ATOM: usize = 8;
+    pub const OWN_ATOM: u8 = 8;
 
-    pub const SHORT_NEXT: usize = 9;
+    pub const SHORT_NEXT: u8 = 9;
 
-    pub const SHORT_UNTIL: usize = 10;
+    pub const SHORT_UNTIL: u8 = 10;
 }
 
-const FORMS: [Blocks; 11] = [
-    Blocks(Block::TRUE, Block::SAME),
-    Blocks(Block::FOREIGN_W, Block::FOREIGN_S),
-    Blocks(Block::NOT, Block::NOT),
-    Blocks(Block::OR, Block::OR),
-    Blocks(Block::NEXT_W, Block::NEXT_S),
-    Blocks(Block::UNTIL_W, Block::UNTIL_S),
-    Blocks(Block::PREV, Block::PREV),
-    Blocks(Block::SINCE, Block::SINCE),
-    Blocks(Block::OWN_ATOM, Block::SAME),
-    Blocks(Block::SHORT_NEXT_W, Block::SHORT_NEXT_S),
-    Blocks(Block::SHORT_UNTIL_W, Block::SHORT_UNTIL_S),
-];
-
-pub fn blocks_of(form: usize) -> Blocks
+// The list of a form's "weak image w".
+fn weak_block(form: u8) -> Block
     requires { ⌜ form < formCount ⌝ }
-    ensures { λ r. ⌜ Listed form r ⌝ }
+    ensures { λ r. ⌜ IsBlock (formOf form true) r ⌝ }
 {
-    FORMS[form]
+    match form {
+        Node::TRUE => TRUE_ALONE,
+        Node::ATOM => FOREIGN_W,
+        Node::NOT => NOT_OF,
+        Node::OR => OR_OF,
+        Node::NEXT => NEXT_W,
+        Node::UNTIL => UNTIL_W,
+        Node::PREV => PREV_OF,
+        Node::SINCE => SINCE_OF,
+        Form::OWN_ATOM => OWN_ATOM,
+        Form::SHORT_NEXT => SHORT_NEXT_W,
+        _ => SHORT_UNTIL_W,
+    }
 }
 
-// "Closing, from the rule's w: or 8 w; not ·; until 8 ·; not · (top weak); from its s: not s; or 8 ·; not ·; until 8 · (top strong) (8)"
+// The list of its "strong image s".
+fn strong_block(form: u8) -> Block
+    requires { ⌜ form < formCount ⌝ }
+    ensures { λ r. ⌜ IsBlock (formOf form false) r ⌝ }
+{
+    match form {
+        Node::TRUE => SAME,
+        Node::ATOM => FOREIGN_S,
+        Node::NOT => NOT_OF,
+        Node::OR => OR_OF,
+        Node::NEXT => NEXT_S,
+        Node::UNTIL => UNTIL_S,
+        Node::PREV => PREV_OF,
+        Node::SINCE => SINCE_OF,
+        Form::OWN_ATOM => SAME,
+        Form::SHORT_NEXT => SHORT_NEXT_S,
+        _ => SHORT_UNTIL_S,
+    }
+}
+
+// The list of one image of a form.
+pub fn block_of(form: u8, weak: bool) -> Block
+    requires { ⌜ form < formCount ⌝ }
+    ensures { λ r. ⌜ IsBlock (formOf form weak) r ⌝ }
+{
+    if weak {
+        return weak_block(form);
+    }
+    strong_block(form)
+}
+
+// "Closing, from the rule's w: .. (top weak); from its s: .. (top strong) (8)"
 pub fn closing_block(weak: bool) -> Block
     ensures { λ r. ⌜ IsBlock (closing weak a) r ⌝ }
 {
     if weak {
-        return Block::CLOSING_W;
+        return CLOSING_W;
     }
-    Block::CLOSING_S
+    CLOSING_S
 }

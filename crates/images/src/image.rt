@@ -5,13 +5,14 @@ ghost use Rattle.definitions.specs.Nodes.{kindOf, operandSpan};
 ghost use Rattle.definitions.specs.Rewriting.{opening, closing, imageOf};
 ghost use Rattle.formulas.specs.Meaning.{meaning};
 ghost use Rattle.images.specs.Emission.{Room, Emitted, Holds};
-ghost use Rattle.images.specs.Images.{meant, Small, Named, formBy, tolerantBy, Stepped};
-use super::blocks;
-use super::blocks::Block;
+ghost use Rattle.images.specs.Images.{meant, Small, Named, formBy, tolerantBy, Turnable, turnPart, Parted, Stepped};
 use super::blocks::Form;
 use super::blocks::MEANINGS;
+use super::blocks::OPENING;
+use super::blocks::block_of;
+use super::blocks::closing_block;
 use super::lay::lay;
-use formulas::choice::pick_index;
+use formulas::choice::pick;
 use formulas::node::Node;
 
 // The numbers of the weak and the strong image of a rule's node, and whether it is tolerant.
@@ -50,7 +51,7 @@ pub fn opening(table: &mut [u32]) -> usize
     ensures { λ r. ⌜ Holds opening (now (table .entry)) r (now (table .exit)) ⌝ }
 {
     let none = [0, 1, 2, 3, 4, 5, 6, 7, 8, 9, 0, 0, 0, 0, 0, 0, 0];
-    lay(table, 0, Block::OPENING, none)
+    lay(table, 0, &OPENING, 11, none)
 }
 
 // "Closing, from the rule's w: .. (top weak); from its s: .. (top strong) (8)"
@@ -58,21 +59,28 @@ pub fn closing_of(table: &mut [u32], at: usize, weak: bool, rule: Image) -> usiz
     requires { ⌜ (Room 4 at (now table)) × (0 < at) × (Small rule) ⌝ }
     ensures { λ r. ⌜ Emitted (closing weak (imageOf weak (meant rule))) (now (table .entry)) at r (now (table .exit)) ⌝ }
 {
-    let block = blocks::closing_block(weak);
-    lay(table, at, block, meanings(weak, at, 0, 0, rule, rule))
+    let block = closing_block(weak);
+    let rows = block.rows;
+    lay(
+        table,
+        at,
+        &rows,
+        block.count,
+        meanings(weak, at, 0, 0, rule, rule),
+    )
 }
 
 // The form of a node: its kind, but for an own atom, a short "next of a tolerant operand" and a short "until of two tolerant operands".
-fn form_of(short: bool, own: bool, kind: u8, p: bool, q: bool) -> usize
+fn form_of(short: bool, own: bool, kind: u8, p: bool, q: bool) -> u8
     requires { ⌜ kind ≤ 7 ⌝ }
     ensures { λ r. ⌜ r ≡ formBy short own p q (kindOf kind) ⌝ }
 {
     let own_atom = (kind == Node::ATOM) & own;
     let short_next = (kind == Node::NEXT) & (short & p);
     let short_until = (kind == Node::UNTIL) & (short & (p & q));
-    let until = pick_index(short_until, Form::SHORT_UNTIL, kind as usize);
-    let next = pick_index(short_next, Form::SHORT_NEXT, until);
-    pick_index(own_atom, Form::OWN_ATOM, next)
+    let until = pick(short_until, Form::SHORT_UNTIL, kind);
+    let next = pick(short_next, Form::SHORT_NEXT, until);
+    pick(own_atom, Form::OWN_ATOM, next)
 }
 
 // "Tolerant: true, own atom, every until; not and or of tolerant operands; nothing else"
@@ -82,6 +90,36 @@ fn tolerant_of(own: bool, kind: u8, p: bool, q: bool) -> bool
     let always = (kind == Node::TRUE) | (kind == Node::UNTIL);
     let both = (kind == Node::OR) & (p & q);
     always | (((kind == Node::ATOM) & own) | (((kind == Node::NOT) & p) | both))
+}
+
+// What both images of a node are made from: x is the first number emitted for it, p and q are its operands' images.
+struct Turn {
+    short: bool,
+    own: bool,
+    x: u16,
+    n: Node,
+    p: Image,
+    q: Image,
+}
+
+// One image of a node: the nodes of its block.
+fn part(table: &mut [u32], at: usize, weak: bool, t: Turn) -> usize
+    requires { ⌜ (Room 6 at (now table)) × (0 < at) × (Turnable t) ⌝ }
+    ensures { λ r. ⌜ Parted (turnPart t at weak) (now (table .entry)) at r (now (table .exit)) ⌝ }
+{
+    let n = t.n;
+    let p = t.p;
+    let q = t.q;
+    let form = form_of(t.short, t.own, n.kind, p.tolerant, q.tolerant);
+    let block = block_of(form, weak);
+    let rows = block.rows;
+    lay(
+        table,
+        at,
+        &rows,
+        block.count,
+        meanings(weak, at, t.x, n.first, p, q),
+    )
 }
 
 // "each rule node in turn, weak image w first, then strong image s"
@@ -97,16 +135,16 @@ pub fn step(
     requires { ⌜ (0 < at) × (Room 12 at (now table)) × (n .kind ≤ 7) × (n .first < operandSpan) × (Small p) × (Small q) ⌝ }
     ensures { λ r. ⌜ Stepped short own (meant p) (meant q) (meaning n) (now (table .entry)) at r (now (table .exit)) ⌝ }
 {
-    let form = form_of(short, own, n.kind, p.tolerant, q.tolerant);
-    let both = blocks::blocks_of(form);
-    let x = at as u16;
-    let middle = lay(table, at, both.0, meanings(true, at, x, n.first, p, q));
-    let end = lay(
-        table,
-        middle,
-        both.1,
-        meanings(false, middle, x, n.first, p, q),
-    );
+    let turn = Turn {
+        short: short,
+        own: own,
+        x: at as u16,
+        n: n,
+        p: p,
+        q: q,
+    };
+    let middle = part(table, at, true, turn);
+    let end = part(table, middle, false, turn);
     Image {
         weak: (middle - 1) as u16,
         strong: (end - 1) as u16,

@@ -1,16 +1,17 @@
 -- `closing_block` meets its contract.
 use mathlib.Core.Path.{refl}
-use Rattle.images.specs.Blocks.{rows}
+use Rattle.definitions.specs.Bounded.{pick}
+use Rattle.definitions.specs.Nodes.{kindOf}
 use Rattle.images.proofs.BlockLaws.{is-block}
 use Rattle.images.proofs.blocks.closing_block.Statement.{statement}
 use Rattle.images.proofs.blocks.closing_block.Tie as tie
 
 returns : tie.Need-returns
-unfolding rows
+unfolding kindOf pick
 returns c = rw (c .if1 .taken) (is-block _ _ refl)
 
 returns-2 : tie.Need-returns-2
-unfolding rows
+unfolding kindOf pick
 returns-2 c = rw (c .if1 .left) (is-block _ _ refl)
 
 pub closing-block-spec : {M : Type 1} → statement M

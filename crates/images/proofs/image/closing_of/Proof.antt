@@ -7,6 +7,9 @@ use Rattle.images.proofs.image.closing_of.Tie as tie
 closing-block-requires : tie.Need-closing-block-requires
 closing-block-requires c κs = search needs
 
+slice-aggregate-lay : tie.Need-slice-aggregate-lay
+slice-aggregate-lay c = search needs
+
 meanings-requires : tie.Need-meanings-requires
 meanings-requires c κs = search needs
 
@@ -21,4 +24,11 @@ returns c = search closing-laws
 
 pub closing-of-spec : {M : Type 1} → statement M
 closing-of-spec =
-    tie.close (tie.spec closing-block-requires meanings-requires lay-requires same-length returns)
+    tie.close
+    (tie.spec
+    closing-block-requires
+    slice-aggregate-lay
+    meanings-requires
+    lay-requires
+    same-length
+    returns)

@@ -4,18 +4,17 @@ use Rattle.images.proofs.ImageLaws.{form-laws}
 use Rattle.images.proofs.image.form_of.Statement.{statement}
 use Rattle.images.proofs.image.form_of.Tie as tie
 
-pick-index-requires : tie.Need-pick-index-requires
-pick-index-requires c κs = search needs
+pick-requires : tie.Need-pick-requires
+pick-requires c κs = search needs
 
-pick-index-requires-2 : tie.Need-pick-index-requires-2
-pick-index-requires-2 c κs = search needs
+pick-requires-2 : tie.Need-pick-requires-2
+pick-requires-2 c κs = search needs
 
-pick-index-requires-3 : tie.Need-pick-index-requires-3
-pick-index-requires-3 c κs = search needs
+pick-requires-3 : tie.Need-pick-requires-3
+pick-requires-3 c κs = search needs
 
 returns : tie.Need-returns
 returns c = search form-laws
 
 pub form-of-spec : {M : Type 1} → statement M
-form-of-spec =
-    tie.close (tie.spec pick-index-requires pick-index-requires-2 pick-index-requires-3 returns)
+form-of-spec = tie.close (tie.spec pick-requires pick-requires-2 pick-requires-3 returns)

@@ -6,16 +6,19 @@ use Rattle.images.proofs.lay.lay.Statement.{statement}
 use Rattle.images.proofs.lay.lay.Tie as tie
 
 abbrev Inv-loop : tie.InvT-loop
-Inv-loop table₀ at block meant₀ i₀ table meant i = Laying meant₀ at block i table₀ table meant
+Inv-loop table₀ at rows count meant₀ i₀ table meant i = Laying meant₀ at rows count i table₀ table meant
 
 abbrev μ-loop : tie.MeasureT-loop
-μ-loop table₀ at block meant₀ i₀ table meant i = block .1 - i
+μ-loop table₀ at rows count meant₀ i₀ table meant i = count - i
 
 loop-holds : tie.Need-loop-holds Inv-loop μ-loop
 loop-holds c = search lay-laws
 
-add-made : tie.Need-add-made Inv-loop μ-loop
-add-made c = search lay-laws
+mul-made : tie.Need-mul-made Inv-loop μ-loop
+mul-made c = search lay-laws
+
+shared-slice-read-made : tie.Need-shared-slice-read-made Inv-loop μ-loop
+shared-slice-read-made c = search lay-laws
 
 made-requires : tie.Need-made-requires Inv-loop μ-loop
 made-requires c κs = search lay-laws
@@ -48,7 +51,7 @@ loop-less : tie.Need-loop-less Inv-loop μ-loop
 loop-less c = search lay-laws
 
 loop-again : tie.Need-loop-again Inv-loop μ-loop
-loop-again c = laying-next _ _ _ _ _ _ _ _ _ (c .before .before .before .before .before .loop .inv) (search needs) (c .before .made .ensures) (search needs)
+loop-again c = laying-next _ _ _ _ _ _ _ _ (c .before .before .before .before .loop .inv) (search needs) _ _ (c .before .made .ensures) (search needs)
 
 add-result : tie.Need-add-result Inv-loop μ-loop
 add-result c = search lay-laws
@@ -66,7 +69,8 @@ lay-spec =
     Inv-loop
     μ-loop
     loop-holds
-    add-made
+    mul-made
+    shared-slice-read-made
     made-requires
     word-requires
     add-table
