@@ -35,7 +35,7 @@ use Rattle.projection.proofs.ProjectLaws.{length-of}
 use Rattle.evaluation.specs.Judging as evaluation
 use Rattle.evaluation.specs.declared.verdicts.Verdicts as evaluated
 use Rattle.evaluation.specs.declared.verdicts.Verdicts.the-variants as verdicts
-use Rattle.lines.proofs.PrintLaws.{digits-fit}
+use Rattle.printing.proofs.PrintLaws.{digits-fit}
 use Rattle.judging.specs.Rewritten as judging
 use Rattle.judging.specs.Rewritten.{Judgeable, Judgements, rewrittenFor, numberOf}
 use Rattle.judging.specs.declared.rewritten.Judgement.{Judgement}
