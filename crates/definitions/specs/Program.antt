@@ -12,7 +12,7 @@ use Rattle.definitions.specs.Recordings.{Recording, maskOf}
 use Rattle.definitions.specs.Projection.{localTrace}
 use Rattle.definitions.specs.Readings.{Trace, whole, Verdicts, verdicts, localVerdicts}
 use Rattle.definitions.specs.Rewriting.{Rewritten, rewriting}
-use Rattle.definitions.specs.Lines.{bytes, tab, newline, before, isClosed, lineOf, restOf, same, digits}
+use Rattle.definitions.specs.Lines.{bytes, tab, newline, before, has, upTo, after, same, digits}
 use Rattle.definitions.specs.RuleText.{RuleScan, scanRule}
 use Rattle.definitions.specs.RecordingText.{RecordingScan, scanRecording, Part, jointNumber, jointPart}
 use Rattle.definitions.specs.Operations.{sizeRefusal}
@@ -21,24 +21,21 @@ use Rattle.definitions.specs.Operations.{sizeRefusal}
 abbrev pub splitLine : List ℕ
 splitLine = bytes "-"
 
--- "split at the first such line": the length of the rule text among at most so many lines; "with none, the recording text is empty"
-unfoldable pub ruleLength : ℕ → List ℕ → ℕ
+-- "split at the first such line": the length of the rule text among at most so many lines; all of the text with none
+unfoldable pub ruleLength : (lines : ℕ) → List ℕ → ℕ
 ruleLength zero t = length t
 ruleLength (suc lines) t =
-    pick (isClosed t) (pick (same (lineOf t) splitLine) 0 (before newline t + 1 + ruleLength lines (restOf t))) (length t)
-
--- the text after the first line `-`
-unfoldable pub afterSplit : ℕ → List ℕ → List ℕ
-afterSplit zero t = []
-afterSplit (suc lines) t = pick (isClosed t) (pick (same (lineOf t) splitLine) (restOf t) (afterSplit lines (restOf t))) []
+    pick (has newline t)
+    (pick (same (upTo newline t) splitLine) 0 (before newline t + 1 + ruleLength lines (after newline t)))
+    (length t)
 
 -- the rule text of the input
 abbrev pub ruleIn : List ℕ → List ℕ
 ruleIn input = take (ruleLength (length input) input) input
 
--- the recording text of the input
+-- the recording text of the input, after the line `-`; "with none, the recording text is empty"
 abbrev pub recordingIn : List ℕ → List ℕ
-recordingIn input = afterSplit (length input) input
+recordingIn input = after newline (drop (ruleLength (length input) input) input)
 
 -- the words that it prints
 abbrev pub refusedWord : List ℕ

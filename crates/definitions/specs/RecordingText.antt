@@ -7,7 +7,7 @@ use lib.Dec.{eqb}
 use Rattle.definitions.specs.Limits.{accepted, recordingForm, recordingLines, noController, lentShort}
 use Rattle.definitions.specs.Bounded.{pick}
 use Rattle.definitions.specs.Recordings.{stateOf, stateRefusal, maskRefusal, recordingHeadingRefusal, controllerRefusal}
-use Rattle.definitions.specs.Lines.{bytes, newline, before, isEmpty, lineOf, restOf, Parsed, formed, malformed, onParsed, decimal, hexadecimal, Heading, twoFields, worded, nextRefusal, Scan, stop, more}
+use Rattle.definitions.specs.Lines.{bytes, newline, before, isEmpty, Parsed, hexadecimal, Heading, twoFields, worded, headingForm, NextLine, onNext, nextLine, Scan, stop, more}
 use Rattle.definitions.specs.RuleText.{RuleScan, scanRule}
 
 -- the words that open its lines
@@ -24,53 +24,45 @@ atWord = bytes "at"
 abbrev pub wordDigits : ℕ
 wordDigits = 8
 
--- "run marks (two digits, bit c for controller c)", for C controllers
-abbrev pub markDigits : ℕ → ℕ
-markDigits C = 2
+-- "run marks (two digits, bit c for controller c)"
+abbrev pub markDigits : ℕ
+markDigits = 2
 
 -- the first line: `recording`, C, N
-unfoldable pub recordingHeading : List ℕ → Parsed Heading
-recordingHeading s = worded recordingWord (twoFields decimal decimal (λ C N. record { first = C; second = N })) s
+abbrev pub recordingHeading : List ℕ → Parsed Heading
+recordingHeading s = headingForm recordingWord s
 
 -- "`owns`, mask"
 unfoldable pub maskForm : List ℕ → Parsed ℕ
 maskForm s = worded ownsWord (hexadecimal wordDigits) s
 
 -- "`at`, run marks, word"
-unfoldable pub stateForm : ℕ → List ℕ → Parsed ℕ
-stateForm C s = worded atWord (twoFields (hexadecimal (markDigits C)) (hexadecimal wordDigits) stateOf) s
+unfoldable pub stateForm : List ℕ → Parsed ℕ
+stateForm s = worded atWord (twoFields (hexadecimal markDigits) (hexadecimal wordDigits) stateOf) s
 
--- the refusal of the first line
-unfoldable pub recordingHeadingLineRefusal : List ℕ → ℕ
-recordingHeadingLineRefusal s = onParsed (recordingHeading s) recordingForm (λ h. recordingHeadingRefusal (h .first) (h .second))
+-- the next line, as the first of a recording
+abbrev pub recordingHeadingLine : List ℕ → NextLine Heading
+recordingHeadingLine t = nextLine recordingLines recordingForm recordingHeading (λ h. recordingHeadingRefusal (h .first) (h .second)) t
 
--- the refusal of an `owns` line
-unfoldable pub maskLineRefusal : List ℕ → List ℕ → ℕ
-maskLineRefusal earlier s = onParsed (maskForm s) recordingForm (maskRefusal earlier)
+-- the next line, as an `owns` line
+abbrev pub maskLine : (earlier : List ℕ) → List ℕ → NextLine ℕ
+maskLine earlier t = nextLine recordingLines recordingForm maskForm (maskRefusal earlier) t
 
--- the refusal of the `at` line of state k
-unfoldable pub stateLineRefusal : ℕ → ℕ → List ℕ → ℕ → ℕ → List ℕ → ℕ
-stateLineRefusal C N masks k prior s = onParsed (stateForm C s) recordingForm (stateRefusal C N masks k prior)
+-- the next line, as the `at` line of state k; `prior` is the state before it
+abbrev pub stateLine : (C N : ℕ) (masks : List ℕ) (k prior : ℕ) → List ℕ → NextLine ℕ
+stateLine C N masks k prior t = nextLine recordingLines recordingForm stateForm (stateRefusal C N masks k prior) t
 
--- the number that a line of one gives
-abbrev pub numberOf : Parsed ℕ → ℕ
-numberOf p = onParsed p 0 (λ n. n)
-
--- the `owns` lines, as many as `left` says
-unfoldable pub scanMasks : ℕ → List ℕ → List ℕ → Scan
+-- so many `owns` lines
+unfoldable pub scanMasks : (lines : ℕ) (earlier : List ℕ) → List ℕ → Scan
 scanMasks zero earlier t = stop accepted t
-scanMasks (suc left) earlier t =
-    pick (eqb (nextRefusal recordingLines recordingForm t (maskLineRefusal earlier (lineOf t))) accepted)
-    (more (numberOf (maskForm (lineOf t))) (scanMasks left (numberOf (maskForm (lineOf t)) ∷ earlier) (restOf t)))
-    (stop (nextRefusal recordingLines recordingForm t (maskLineRefusal earlier (lineOf t))) t)
+scanMasks (suc lines) earlier t =
+    onNext (maskLine earlier t) (λ number. stop number t) (λ m rest. more m (scanMasks lines (m ∷ earlier) rest))
 
--- the `at` lines, as many as `left` says, from state k on, and then the end: "a line missing or one too many"
-unfoldable pub scanStates : ℕ → ℕ → List ℕ → ℕ → ℕ → ℕ → List ℕ → Scan
+-- so many `at` lines, from state k on, and then the end: "a line missing or one too many"
+unfoldable pub scanStates : (C N : ℕ) (masks : List ℕ) (lines k prior : ℕ) → List ℕ → Scan
 scanStates C N masks zero k prior t = stop (pick (isEmpty t) accepted recordingLines) t
-scanStates C N masks (suc left) k prior t =
-    pick (eqb (nextRefusal recordingLines recordingForm t (stateLineRefusal C N masks k prior (lineOf t))) accepted)
-    (more (numberOf (stateForm C (lineOf t))) (scanStates C N masks left (k + 1) (numberOf (stateForm C (lineOf t))) (restOf t)))
-    (stop (nextRefusal recordingLines recordingForm t (stateLineRefusal C N masks k prior (lineOf t))) t)
+scanStates C N masks (suc lines) k prior t =
+    onNext (stateLine C N masks k prior t) (λ number. stop number t) (λ s rest. more s (scanStates C N masks lines (k + 1) s rest))
 
 -- what reading a recording text gives: the refusal or 0, C, N, masks and states, and the text from the refused line on
 pub record RecordingScan : Type 0 where
@@ -97,9 +89,8 @@ recordingMasks C N m =
 -- reading a recording text
 unfoldable pub scanRecording : List ℕ → RecordingScan
 scanRecording t =
-    pick (eqb (nextRefusal recordingLines recordingForm t (recordingHeadingLineRefusal (lineOf t))) accepted)
-    (onParsed (recordingHeading (lineOf t)) (recordingStop recordingForm t) (λ h. recordingMasks (h .first) (h .second) (scanMasks (h .first) [] (restOf t))))
-    (recordingStop (nextRefusal recordingLines recordingForm t (recordingHeadingLineRefusal (lineOf t))) t)
+    onNext (recordingHeadingLine t) (λ number. recordingStop number t)
+    (λ h rest. recordingMasks (h .first) (h .second) (scanMasks (h .first) [] rest))
 
 -- "a part of the text it came from": of the rule text or of the recording text, from a byte on, so many bytes
 pub record Part : Type 0 where

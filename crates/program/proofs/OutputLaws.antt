@@ -23,11 +23,11 @@ use Rattle.theorems.proofs.LentSpace.{left-accepted}
 use Rattle.theorems.proofs.RefusalBounds.{pick-low}
 use Rattle.theorems.proofs.RoundTrips.{read-count, read-accepted}
 use Rattle.theorems.proofs.ScheduleIndependence.{Accepted}
-use Rattle.lines.specs.Printing.{laidAt, Printed}
-use Rattle.lines.proofs.PrintLaws.{digits-fit}
-use Rattle.lines.proofs.PartLaws.{part-to-end}
-use Rattle.formula_text.proofs.CallerLaws.{number-low}
-use Rattle.trace_text.proofs.RecordingNumbers.{scan-low}
+use Rattle.printing.specs.Printing.{laidAt, Printed}
+use Rattle.printing.proofs.PrintLaws.{digits-fit}
+use Rattle.fields.proofs.PartLaws.{part-to-end}
+use Rattle.formula_reader.proofs.ReadLaws.{rule-low}
+use Rattle.trace_reader.proofs.ScanLaws.{recording-low}
 use Rattle.joint_text.specs.Joining.{ReadJoint}
 use Rattle.program.specs.Reporting.{maxOutputBytes, reportText}
 use Rattle.program.specs.Judged.{ReportIs}
@@ -52,7 +52,7 @@ refused-length n line h l =
 joint-low : (rule recording : List ℕ) → jointNumber rule recording < lentShort
 unfolding jointNumber controllerRefusal
 joint-low rule recording =
-    pick-low _ _ _ lentShort (pick-low _ _ _ lentShort (pick-low _ accepted noController lentShort (omega arith) (omega arith)) (scan-low recording)) (number-low rule)
+    pick-low _ _ _ lentShort (pick-low _ _ _ lentShort (pick-low _ accepted noController lentShort (omega arith) (omega arith)) (omega (arith, recording-low recording))) (omega (arith, rule-low rule))
 
 part-length : (t : List ℕ) (from count : ℕ) → length (take count (drop from t)) ≤ length t
 part-length t from count = rw (length-take, length-drop) (omega arith)

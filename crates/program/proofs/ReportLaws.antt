@@ -8,8 +8,8 @@ use lib.ListN.{length, length-append}
 use borrow.Author.Needs.{needs}
 use Rattle.definitions.specs.Lines.{bytes, tab, newline, digits}
 use Rattle.definitions.specs.Program.{yesNo, refusedWord, localWord, ownWord, plainWord, shortWord, localText, refusedText}
-use Rattle.lines.specs.Printing.{Printed}
-use Rattle.lines.proofs.PrintLaws.{printed-seq}
+use Rattle.printing.specs.Printing.{Printed}
+use Rattle.printing.proofs.PrintLaws.{printed-seq}
 use Rattle.program.specs.Reporting.{lineField, verdictsLine, ownLine, rewrittenLine, reportText}
 use Rattle.program.specs.declared.report.Report.{Report}
 

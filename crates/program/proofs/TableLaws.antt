@@ -35,7 +35,7 @@ use Rattle.projection.proofs.PlaceLaws.{projectable, local-places, few-local}
 use Rattle.projection.proofs.LengthLaws.{length-of}
 use Rattle.judges.specs.Verdicts.{meant, ownVerdicts}
 use Rattle.judges.specs.declared.verdicts.Verdicts.{Verdicts}
-use Rattle.lines.proofs.PrintLaws.{digits-fit}
+use Rattle.printing.proofs.PrintLaws.{digits-fit}
 use Rattle.judging.specs.Rewritten as judging
 use Rattle.judging.specs.Rewritten.{Judgeable, Judgements, rewrittenFor, numberOf}
 use Rattle.judging.specs.declared.rewritten.Judgement.{Judgement}

@@ -1,6 +1,6 @@
 // The program: both texts are read, judged, and printed of.
 ghost use Rattle.definitions.specs.Program.{textsOutput};
-ghost use Rattle.lines.specs.Printing.{Printed};
+ghost use Rattle.printing.specs.Printing.{Printed};
 ghost use Rattle.program.specs.Output.{TextsRoom, Room, Found, foundText, ProgramPrinted};
 use super::report::put_refused;
 use super::report::put_report;

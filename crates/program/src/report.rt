@@ -4,11 +4,13 @@ ghost use Prim.Native.Nat.{_+_, _≤_};
 ghost use lib.ListN.{length};
 ghost use Rattle.definitions.specs.Lines.{tab};
 ghost use Rattle.definitions.specs.Program.{yesNo, localText, refusedText};
-ghost use Rattle.lines.specs.Printing.{Printed};
+ghost use Rattle.printing.specs.Printing.{Printed};
 ghost use Rattle.program.specs.Reporting.{lineField, verdictsLine, ownLine, rewrittenLine, reportText};
+use fields::scan;
 use judges::verdicts::Verdicts;
-use lines::print;
-use lines::scan;
+use printing::put;
+use printing::put_byte;
+use printing::put_field;
 
 // The node count of a rewritten rule, and its verdicts.
 pub struct Rewritten {
@@ -35,11 +37,11 @@ fn put_verdict(verdict: bool, at: usize, text: &mut [u8]) -> usize
     requires { ⌜ at + length (tab ∷ yesNo verdict) ≤ length (now text) ⌝ }
     ensures { λ r. ⌜ Printed (tab ∷ yesNo verdict) (now (text .entry)) at r (now (text .exit)) ⌝ }
 {
-    let next = print::put_byte(scan::TAB, at, text);
+    let next = put_byte(scan::TAB, at, text);
     if verdict {
-        return print::put(b"yes", next, text);
+        return put(b"yes", next, text);
     }
-    print::put(b"no", next, text)
+    put(b"no", next, text)
 }
 
 // The verdicts that end a line, weak first.
@@ -49,7 +51,7 @@ fn put_verdicts(weak: bool, strong: bool, at: usize, text: &mut [u8]) -> usize
 {
     let after_weak = put_verdict(weak, at, text);
     let after_strong = put_verdict(strong, after_weak, text);
-    print::put_byte(scan::NEWLINE, after_strong, text)
+    put_byte(scan::NEWLINE, after_strong, text)
 }
 
 // The line `local`.
@@ -57,9 +59,9 @@ fn put_local(places: u32, text: &mut [u8]) -> usize
     requires { ⌜ length (localText places) ≤ length (now text) ⌝ }
     ensures { λ r. ⌜ Printed (localText places) (now (text .entry)) 0 r (now (text .exit)) ⌝ }
 {
-    let after_word = print::put(b"local", 0, text);
-    let after_places = print::put_field(places, after_word, text);
-    print::put_byte(scan::NEWLINE, after_places, text)
+    let after_word = put(b"local", 0, text);
+    let after_places = put_field(places, after_word, text);
+    put_byte(scan::NEWLINE, after_places, text)
 }
 
 // The line `own`.
@@ -67,7 +69,7 @@ fn put_own(weak: bool, strong: bool, at: usize, text: &mut [u8]) -> usize
     requires { ⌜ at + length (ownLine weak strong) ≤ length (now text) ⌝ }
     ensures { λ r. ⌜ Printed (ownLine weak strong) (now (text .entry)) at r (now (text .exit)) ⌝ }
 {
-    let after_word = print::put(b"own", at, text);
+    let after_word = put(b"own", at, text);
     put_verdicts(weak, strong, after_word, text)
 }
 
@@ -83,8 +85,8 @@ fn put_rewritten(
     requires { ⌜ at + length (rewrittenLine (now word) count weak strong) ≤ length (now text) ⌝ }
     ensures { λ r. ⌜ Printed (rewrittenLine (now (word .entry)) count weak strong) (now (text .entry)) at r (now (text .exit)) ⌝ }
 {
-    let after_word = print::put(word, at, text);
-    let after_count = print::put_field(count, after_word, text);
+    let after_word = put(word, at, text);
+    let after_count = put_field(count, after_word, text);
     put_verdicts(weak, strong, after_count, text)
 }
 
@@ -123,9 +125,9 @@ fn put_line(line: &[u8], at: usize, text: &mut [u8]) -> usize
     requires { ⌜ at + length (lineField (now line)) ≤ length (now text) ⌝ }
     ensures { λ r. ⌜ Printed (lineField (now (line .entry))) (now (text .entry)) at r (now (text .exit)) ⌝ }
 {
-    let after_tab = print::put_byte(scan::TAB, at, text);
-    let after_line = print::put(line, after_tab, text);
-    print::put_byte(scan::NEWLINE, after_line, text)
+    let after_tab = put_byte(scan::TAB, at, text);
+    let after_line = put(line, after_tab, text);
+    put_byte(scan::NEWLINE, after_line, text)
 }
 
 // The only line of a refusal: its number and the refused line.
@@ -133,7 +135,7 @@ pub fn put_refused(number: u32, line: &[u8], text: &mut [u8]) -> usize
     requires { ⌜ length (refusedText number (now line)) ≤ length (now text) ⌝ }
     ensures { λ r. ⌜ Printed (refusedText number (now (line .entry))) (now (text .entry)) 0 r (now (text .exit)) ⌝ }
 {
-    let after_word = print::put(b"refused", 0, text);
-    let after_number = print::put_field(number, after_word, text);
+    let after_word = put(b"refused", 0, text);
+    let after_number = put_field(number, after_word, text);
     put_line(line, after_number, text)
 }

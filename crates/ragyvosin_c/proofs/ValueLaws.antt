@@ -9,15 +9,15 @@ use borrow.Author.Needs.{needs}
 use Rattle.definitions.specs.Bounded.{pick, bit}
 use Rattle.definitions.specs.Operations.{Answer, answer, readJointHeading, readJointPart}
 use Rattle.theorems.proofs.Choice.{by-test}
-use Rattle.formula_text.specs.Reading.{readAnswer as ruleRead}
-use Rattle.formula_text.specs.declared.read.RuleRead.{RuleRead}
-use Rattle.formula_text.specs.declared.read.RuleRead.the-variants as rule
-use Rattle.formula_text.specs.Writing.{writeAnswer as ruleWritten}
-use Rattle.formula_text.specs.declared.write.RuleWritten.{RuleWritten}
-use Rattle.formula_text.specs.declared.write.RuleWritten.the-variants as written
-use Rattle.trace_text.specs.Reading.{readAnswer as recordingRead}
-use Rattle.trace_text.specs.declared.read.RecordingRead.{RecordingRead}
-use Rattle.trace_text.specs.declared.read.RecordingRead.the-variants as recording
+use Rattle.formula_reader.specs.Reading.{readAnswer as ruleRead}
+use Rattle.formula_reader.specs.declared.RuleRead.{RuleRead}
+use Rattle.formula_reader.specs.declared.RuleRead.the-variants as rule
+use Rattle.formula_writer.specs.Writing.{writeAnswer as ruleWritten}
+use Rattle.formula_writer.specs.declared.RuleWritten.{RuleWritten}
+use Rattle.formula_writer.specs.declared.RuleWritten.the-variants as written
+use Rattle.trace_reader.specs.Reading.{readAnswer as recordingRead}
+use Rattle.trace_reader.specs.declared.RecordingRead.{RecordingRead}
+use Rattle.trace_reader.specs.declared.RecordingRead.the-variants as recording
 use Rattle.projection.specs.Answers.{answerOf as projected}
 use Rattle.projection.specs.declared.project.Projection.{Projection}
 use Rattle.projection.specs.declared.project.Projection.the-variants as projection

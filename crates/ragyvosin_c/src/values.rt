@@ -1,9 +1,9 @@
 // Each answer as C has it: its number, and its values in an array of fixed length, zeros on a refusal.
 ghost use mathlib.Core.Path.{_≡_};
 ghost use mathlib.Core.List.{_∷_};
-ghost use Rattle.formula_text.specs.Reading.{readAnswer as ruleRead};
-ghost use Rattle.formula_text.specs.Writing.{writeAnswer as ruleWritten};
-ghost use Rattle.trace_text.specs.Reading.{readAnswer as recordingRead};
+ghost use Rattle.formula_reader.specs.Reading.{readAnswer as ruleRead};
+ghost use Rattle.formula_writer.specs.Writing.{writeAnswer as ruleWritten};
+ghost use Rattle.trace_reader.specs.Reading.{readAnswer as recordingRead};
 ghost use Rattle.projection.specs.Answers.{answerOf as projected};
 ghost use Rattle.judges.specs.Verdicts.{answerOf as judged};
 ghost use Rattle.rewriting.specs.Answers.{answerOf as rewritten};

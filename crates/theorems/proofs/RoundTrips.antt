@@ -10,7 +10,7 @@ use borrow.Author.Tests.{le-ltb}
 use Rattle.definitions.specs.Limits.{lentShort, maxControllers, maxRuleNodes, maxRuleBytes}
 use Rattle.definitions.specs.Bounded.{pick}
 use Rattle.definitions.specs.Tables.{Rule, nodesRefusal, ruleHeadingRefusal, ruleRefusal, ruleOf}
-use Rattle.definitions.specs.Lines.{newline, restOf}
+use Rattle.definitions.specs.Lines.{newline, after}
 use Rattle.definitions.specs.RuleText.{RuleScan, scanRule, scanNodes, nodesText, ruleText}
 use Rattle.definitions.specs.Operations.{answer, tooShort, left, readRuleNumber, readRuleAnswer, readRuleNodes, textOf, writeRuleNumber, writeRuleAnswer, writeRuleText}
 use Rattle.theorems.proofs.Choice.{pick-other, pick-false}
@@ -28,9 +28,9 @@ readRule t = ruleOf ((scanRule t) .controller) ((scanRule t) .count) ((scanRule 
 
 -- the rest of an accepted text is the text of its nodes
 read-nodes : (t : List ℕ) (f : FirstLine t) → (scanRule t) .number ≡ 0
-    → ReadNodes (f .heading .second) 0 (restOf t) ((scanNodes (f .heading .second) 0 (restOf t)) .words)
+    → ReadNodes (f .heading .second) 0 (after newline t) ((scanNodes (f .heading .second) 0 (after newline t)) .words)
 read-nodes t f e =
-    nodes-back (f .heading .second) 0 (restOf t)
+    nodes-back (f .heading .second) 0 (after newline t)
     (omega (arith, accepted-heading (f .heading .first) (f .heading .second) (f .fine) .1 .1)) (rw (f .scan) at e)
 
 -- a rule is accepted where its heading and its nodes are
