@@ -24,7 +24,7 @@ pub record RefusedLines : Type 0 where
   -- "1 not closed by byte 10, or not of its form (after an unknown kind word any fields without byte 13 do)"
   pub unclosedNode : programOutput (bytes "rule\t0\t1\ntrue") ≡ bytes "refused\t1\ttrue\n"
   pub fieldTooMany : programOutput (bytes "rule\t0\t1\ntrue\t0\n-\n") ≡ bytes "refused\t1\ttrue\t0\n"
-  -- "2 .. an unknown kind, run or end in a rule"
+  -- 2: "an unknown kind, run or end in a rule"
   pub unknownKind : programOutput (bytes "rule\t0\t1\nuntill\t0 0\n-\n") ≡ bytes "refused\t2\tuntill\t0 0\n"
   pub runInRule : programOutput (bytes "rule\t0\t1\nrun\n-\n") ≡ bytes "refused\t2\trun\n"
   -- "4 a line missing or one too many"

@@ -114,7 +114,7 @@ pub record Printed : Type 0 where
   -- "empty rule text: 4"
   pub emptyRule : programOutput [] ≡ bytes "refused\t4\t\n"
   pub selfOperandLine : programOutput (bytes "rule\t0\t1\nnot\t0\n-\n") ≡ bytes "refused\t3\tnot\t0\n"
-  -- "Input, with a tab at each space: .. Output, tabs likewise"
+  -- "Input, with a tab at each space" and "Output, tabs likewise"
   pub example : programOutput (
       bytes "rule\t0\t9\natom\t1\nnot\t0\natom\t0\nnext\t2\nor\t1\t3\nnot\t4\ntrue\nuntil\t6\t5\nnot\t7\n-\n"
       ++ bytes "recording\t2\t5\nowns\t00000001\nowns\t00000002\nat\t01\t00000002\nat\t02\t00000003\nat\t01\t00000001\nat\t02\t00000000\nat\t00\t00000002\n"

@@ -10,25 +10,25 @@ pick true a b = a
 pick false a b = b
 
 -- f at some of the n places from k on
-abbrev pub someOf : (n k : ℕ) → (f : ℕ → Bool) → Bool
+abbrev pub someOf : (n k : ℕ) (f : ℕ → Bool) → Bool
 someOf zero k f = false
 someOf (suc n) k f = f k || someOf n (suc k) f
 
 -- f at each of the n places from k on
-abbrev pub everyOf : (n k : ℕ) → (f : ℕ → Bool) → Bool
+abbrev pub everyOf : (n k : ℕ) (f : ℕ → Bool) → Bool
 everyOf zero k f = true
 everyOf (suc n) k f = f k && everyOf n (suc k) f
 
 -- f at some place from `from` on, below `to`
-abbrev pub some : (from to : ℕ) → (f : ℕ → Bool) → Bool
+abbrev pub some : (from to : ℕ) (f : ℕ → Bool) → Bool
 some from to f = someOf (to - from) from f
 
 -- f at every place from `from` on, below `to`
-abbrev pub every : (from to : ℕ) → (f : ℕ → Bool) → Bool
+abbrev pub every : (from to : ℕ) (f : ℕ → Bool) → Bool
 every from to f = everyOf (to - from) from f
 
 -- the values of f at the n places from k on
-abbrev pub tabulateFrom : (n k : ℕ) → (f : ℕ → Bool) → List Bool
+abbrev pub tabulateFrom : (n k : ℕ) (f : ℕ → Bool) → List Bool
 tabulateFrom zero k f = []
 tabulateFrom (suc n) k f = f k ∷ tabulateFrom n (suc k) f
 

@@ -1,16 +1,16 @@
 -- "Texts": bytes, lines, fields, decimal and hexadecimal forms, and printed numbers.
 use Prim.Native.Nat.{ℕ, zero, suc, _+_, _-_, _*_, _/_, _%_}
-use mathlib.Core.Bool.{Bool, true, false, not, _&&_, _||_}
+use mathlib.Core.Bool.{Bool, true, false, not, _&&_}
 use mathlib.Core.List.{List, [], _∷_, _++_}
 use Prim.Native.String.{String, len, charAt}
 use Prim.Native.Char.{code}
 use lib.ListN.{length, take, drop}
-use lib.Dec.{eqb, ltb, leb}
+use lib.Dec.{eqb, ltb}
 use Rattle.definitions.specs.Limits.{accepted}
 use Rattle.definitions.specs.Bounded.{pick, within}
 
 -- the n bytes of a quoted word from byte i on
-abbrev pub bytesFrom : String → ℕ → ℕ → List ℕ
+abbrev pub bytesFrom : (s : String) (i n : ℕ) → List ℕ
 bytesFrom s i zero = []
 bytesFrom s i (suc n) = code (charAt s i) ∷ bytesFrom s (suc i) n
 
@@ -31,7 +31,7 @@ abbrev pub carriageReturn : ℕ
 carriageReturn = 13
 
 -- how many bytes stand before the first byte b; all of them where there is none
-unfoldable pub before : ℕ → List ℕ → ℕ
+unfoldable pub before : (b : ℕ) (t : List ℕ) → ℕ
 before b [] = 0
 before b (x ∷ t) = pick (eqb x b) 0 (suc (before b t))
 
@@ -81,7 +81,7 @@ hexOn v [] = formed v
 hexOn v (x ∷ t) = pick (ltb (hexDigit x) 16) (hexOn (v * 16 + hexDigit x) t) malformed
 
 -- "eight lower-case hexadecimal digits", or as many as the width says
-unfoldable pub hexadecimal : ℕ → List ℕ → Parsed ℕ
+unfoldable pub hexadecimal : (width : ℕ) (s : List ℕ) → Parsed ℕ
 hexadecimal width s = pick (eqb (length s) width) (hexOn 0 s) malformed
 
 -- two lists of bytes are the same
@@ -106,22 +106,22 @@ abbrev pub heading : ℕ → ℕ → Heading
 heading a b = record { first = a; second = b }
 
 -- two fields parted by a tab, each by its reader
-unfoldable pub twoFields : {A : Type 0} → (List ℕ → Parsed ℕ) → (List ℕ → Parsed ℕ) → (ℕ → ℕ → A) → List ℕ → Parsed A
+unfoldable pub twoFields : {A : Type 0} (f g : List ℕ → Parsed ℕ) (make : ℕ → ℕ → A) (s : List ℕ) → Parsed A
 twoFields f g make s =
     pick (has tab s)
     (onParsed (f (upTo tab s)) malformed (λ a. onParsed (g (after tab s)) malformed (λ b. formed (make a b))))
     malformed
 
 -- a line of a word and what follows its tab
-unfoldable pub worded : {A : Type 0} → List ℕ → (List ℕ → Parsed A) → List ℕ → Parsed A
+unfoldable pub worded : {A : Type 0} (word : List ℕ) (fields : List ℕ → Parsed A) (s : List ℕ) → Parsed A
 worded word fields s = pick (same (upTo tab s) word && has tab s) (fields (after tab s)) malformed
 
 -- a word and two decimal fields: the first line of a text
-unfoldable pub headingForm : List ℕ → List ℕ → Parsed Heading
+unfoldable pub headingForm : (word s : List ℕ) → Parsed Heading
 headingForm word s = worded word (twoFields decimal decimal heading) s
 
--- "Numbers are printed highest digit first": the digits of n, at most one more than the first number says
-unfoldable pub digitsBy : ℕ → ℕ → List ℕ
+-- "Numbers are printed highest digit first": the digits of n, at most one more than `more` says
+unfoldable pub digitsBy : (more n : ℕ) → List ℕ
 digitsBy zero n = (48 + n) ∷ []
 digitsBy (suc more) n = pick (ltb n 10) ((48 + n) ∷ []) (digitsBy more (n / 10) ++ ((48 + n % 10) ∷ []))
 

@@ -21,16 +21,16 @@ pub record Answer : Type 0 where
   pub values : List ℕ
 
 -- "A refusal carries its number alone"
-unfoldable pub answer : (number : ℕ) → (values : List ℕ) → Answer
+unfoldable pub answer : (number : ℕ) (values : List ℕ) → Answer
 answer number values = record { number = number; values = pick (eqb number accepted) values [] }
 
 -- "shorter than its full size"
-abbrev pub tooShort : (full : ℕ) → (entry : List ℕ) → Bool
+abbrev pub tooShort : (full : ℕ) (entry : List ℕ) → Bool
 tooShort full entry = ltb (length entry) full
 
 -- what a lent slice holds afterwards: "After 13 lent space is untouched; after another refusal its full size is zero.
 -- Accepted, unused entries are zero. What is lent past the full size is never touched"
-unfoldable pub left : (number full : ℕ) → (content entry : List ℕ) → List ℕ
+unfoldable pub left : (number full : ℕ) (content entry : List ℕ) → List ℕ
 left number full content entry =
     pick (eqb number lentShort) entry
     (pick (eqb number accepted) (content ++ (replicate (full - length content) 0 ++ drop full entry)) (replicate full 0 ++ drop full entry))
@@ -52,15 +52,15 @@ abbrev pub textOf : Rule → List ℕ
 textOf r = ruleText (r .controller) (r .count) (take (r .count) (r .nodes))
 
 -- its refusal: 13, then the rule
-unfoldable pub writeRuleNumber : (r : Rule) → (text : List ℕ) → ℕ
+unfoldable pub writeRuleNumber : (r : Rule) (text : List ℕ) → ℕ
 writeRuleNumber r text = pick (tooShort maxRuleBytes text) lentShort (ruleRefusal r)
 
 -- its answer: the length
-unfoldable pub writeRuleAnswer : (r : Rule) → (text : List ℕ) → Answer
+unfoldable pub writeRuleAnswer : (r : Rule) (text : List ℕ) → Answer
 writeRuleAnswer r text = answer (writeRuleNumber r text) (length (textOf r) ∷ [])
 
 -- its lent text
-unfoldable pub writeRuleText : (r : Rule) → (text : List ℕ) → List ℕ
+unfoldable pub writeRuleText : (r : Rule) (text : List ℕ) → List ℕ
 writeRuleText r text = left (writeRuleNumber r text) maxRuleBytes (textOf r) text
 
 -- "read a recording (C, N, masks, states)"
@@ -115,15 +115,15 @@ readJointPart rule recording nodes masks states =
     pick (eqb (readJointNumber rule recording nodes masks states) lentShort) emptyStart (jointPart rule recording)
 
 -- "project (recording and c)": L and the places
-unfoldable pub projectNumber : (R : Recording) → (c : ℕ) → (places : List ℕ) → ℕ
+unfoldable pub projectNumber : (R : Recording) (c : ℕ) (places : List ℕ) → ℕ
 projectNumber R c places = pick (tooShort maxStates places) lentShort (orElse (recordingRefusal R) (controllerRefusal (R .controllers) c))
 
 -- its answer: L
-unfoldable pub projectAnswer : (R : Recording) → (c : ℕ) → (places : List ℕ) → Answer
+unfoldable pub projectAnswer : (R : Recording) (c : ℕ) (places : List ℕ) → Answer
 projectAnswer R c places = answer (projectNumber R c places) (length (localTrace R c) ∷ [])
 
 -- its lent places
-unfoldable pub projectPlaces : (R : Recording) → (c : ℕ) → (places : List ℕ) → List ℕ
+unfoldable pub projectPlaces : (R : Recording) (c : ℕ) (places : List ℕ) → List ℕ
 projectPlaces R c places = left (projectNumber R c places) maxStates (localTrace R c) places
 
 -- verdicts as values: the weak one, then the strong one
@@ -131,17 +131,17 @@ abbrev pub verdictValues : Verdicts → List ℕ
 verdictValues v = bit (v .weak) ∷ bit (v .strong) ∷ []
 
 -- "judge a rule on its local trace (rule and recording, for the rule's controller)"
-unfoldable pub judgeLocalNumber : (r : Rule) → (R : Recording) → ℕ
+unfoldable pub judgeLocalNumber : (r : Rule) (R : Recording) → ℕ
 judgeLocalNumber r R = orElse (ruleRefusal r) (orElse (recordingRefusal R) (controllerRefusal (R .controllers) (r .controller)))
 
 -- its answer: the weak and the strong verdict
-unfoldable pub judgeLocalAnswer : (r : Rule) → (R : Recording) → Answer
+unfoldable pub judgeLocalAnswer : (r : Rule) (R : Recording) → Answer
 judgeLocalAnswer r R =
     answer (judgeLocalNumber r R)
     (verdictValues (localVerdicts (nodesIn (r .count) (r .nodes)) (maskOf R (r .controller)) (localTrace R (r .controller))))
 
 -- "rewrite plain or short (rule and own mask, any 32 bits)": node count and both tops, and the table
-abbrev pub rewrittenOf : (short : Bool) → (r : Rule) → (mask : ℕ) → Rewritten
+abbrev pub rewrittenOf : (short : Bool) (r : Rule) (mask : ℕ) → Rewritten
 rewrittenOf short r mask = rewriting short mask (nodesIn (r .count) (r .nodes))
 
 -- "12 over 1,024 nodes"
@@ -149,38 +149,38 @@ unfoldable pub sizeRefusal : Rewritten → ℕ
 sizeRefusal w = pick (ltb maxTableNodes (length (w .nodes))) tooManyNodes accepted
 
 -- its refusal: 13, then the rule, then 12
-unfoldable pub rewriteNumber : (short : Bool) → (r : Rule) → (mask : ℕ) → (table : List ℕ) → ℕ
+unfoldable pub rewriteNumber : (short : Bool) (r : Rule) (mask : ℕ) (table : List ℕ) → ℕ
 rewriteNumber short r mask table =
     pick (tooShort maxTableNodes table) lentShort (orElse (ruleRefusal r) (sizeRefusal (rewrittenOf short r mask)))
 
 -- its answer: "node count and both tops"
-unfoldable pub rewriteAnswer : (short : Bool) → (r : Rule) → (mask : ℕ) → (table : List ℕ) → Answer
+unfoldable pub rewriteAnswer : (short : Bool) (r : Rule) (mask : ℕ) (table : List ℕ) → Answer
 rewriteAnswer short r mask table =
     answer (rewriteNumber short r mask table)
     (length ((rewrittenOf short r mask) .nodes) ∷ (rewrittenOf short r mask) .weakTop ∷ (rewrittenOf short r mask) .strongTop ∷ [])
 
 -- its lent table
-unfoldable pub rewriteTable : (short : Bool) → (r : Rule) → (mask : ℕ) → (table : List ℕ) → List ℕ
+unfoldable pub rewriteTable : (short : Bool) (r : Rule) (mask : ℕ) (table : List ℕ) → List ℕ
 rewriteTable short r mask table =
     left (rewriteNumber short r mask table) maxTableNodes (map nodeWord ((rewrittenOf short r mask) .nodes)) table
 
 -- "the table, count and tops that a rewriting answered"
-abbrev pub answeredTable : (short : Bool) → (r : Rule) → (mask : ℕ) → (table : List ℕ) → Table
+abbrev pub answeredTable : (short : Bool) (r : Rule) (mask : ℕ) (table : List ℕ) → Table
 answeredTable short r mask table =
     let values = (rewriteAnswer short r mask table) .values in
     tableOf (getD values 0 0) (rewriteTable short r mask table) (getD values 1 0) (getD values 2 0)
 
 -- "judge the whole recording": the verdicts at the tops, and "a weak and a strong row for each node, the rest zero"
-unfoldable pub judgeRecordingNumber : (t : Table) → (R : Recording) → (c : ℕ) → (rows : List ℕ) → ℕ
+unfoldable pub judgeRecordingNumber : (t : Table) (R : Recording) (c : ℕ) (rows : List ℕ) → ℕ
 judgeRecordingNumber t R c rows =
     pick (tooShort maxRowWords rows) lentShort (orElse (tableRefusal t) (orElse (recordingRefusal R) (controllerRefusal (R .controllers) c)))
 
 -- its answer: the weak and the strong verdict
-unfoldable pub judgeRecordingAnswer : (t : Table) → (R : Recording) → (c : ℕ) → (rows : List ℕ) → Answer
+unfoldable pub judgeRecordingAnswer : (t : Table) (R : Recording) (c : ℕ) (rows : List ℕ) → Answer
 judgeRecordingAnswer t R c rows =
     answer (judgeRecordingNumber t R c rows) (verdictValues (verdicts (whole R c) (nodesIn (t .count) (t .nodes)) (t .weakTop) (t .strongTop)))
 
 -- its lent rows
-unfoldable pub judgeRecordingRows : (t : Table) → (R : Recording) → (c : ℕ) → (rows : List ℕ) → List ℕ
+unfoldable pub judgeRecordingRows : (t : Table) (R : Recording) (c : ℕ) (rows : List ℕ) → List ℕ
 judgeRecordingRows t R c rows =
     left (judgeRecordingNumber t R c rows) maxRowWords (pairsWords (rowsOf (whole R c) (nodesIn (t .count) (t .nodes)))) rows

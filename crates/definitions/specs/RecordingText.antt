@@ -1,14 +1,14 @@
--- "Recording: `recording`, C, N; C lines `owns`, mask; N lines `at`, run marks, word", and "The joint reading".
+-- "Recording: `recording`, C, N; C lines `owns`, mask; N lines `at`, run marks (two digits, bit c for controller c), word", and "The joint reading".
 use Prim.Native.Nat.{ℕ, zero, suc, _+_, _-_}
-use mathlib.Core.Bool.{Bool, true, false, not, _&&_, _||_}
-use mathlib.Core.List.{List, [], _∷_, _++_}
+use mathlib.Core.Bool.{Bool, true, false}
+use mathlib.Core.List.{List, [], _∷_}
 use lib.ListN.{length}
 use lib.Dec.{eqb}
-use Rattle.definitions.specs.Limits.{accepted, recordingForm, recordingLines, noController, lentShort}
+use Rattle.definitions.specs.Limits.{accepted, recordingForm, recordingLines, noController}
 use Rattle.definitions.specs.Bounded.{pick}
 use Rattle.definitions.specs.Recordings.{stateOf, stateRefusal, maskRefusal, recordingHeadingRefusal, controllerRefusal}
 use Rattle.definitions.specs.Lines.{bytes, newline, before, isEmpty, Parsed, hexadecimal, Heading, twoFields, worded, headingForm, NextLine, onNext, nextLine, Scan, stop, more}
-use Rattle.definitions.specs.RuleText.{RuleScan, scanRule}
+use Rattle.definitions.specs.RuleText.{scanRule}
 
 -- the words that open its lines
 abbrev pub recordingWord : List ℕ
@@ -36,7 +36,7 @@ recordingHeading s = headingForm recordingWord s
 unfoldable pub maskForm : List ℕ → Parsed ℕ
 maskForm s = worded ownsWord (hexadecimal wordDigits) s
 
--- "`at`, run marks, word"
+-- `at`, run marks, word
 unfoldable pub stateForm : List ℕ → Parsed ℕ
 stateForm s = worded atWord (twoFields (hexadecimal markDigits) (hexadecimal wordDigits) stateOf) s
 
@@ -78,11 +78,11 @@ abbrev pub recordingStop : ℕ → List ℕ → RecordingScan
 recordingStop number t = record { number = number; controllers = 0; count = 0; masks = []; states = []; rest = t }
 
 -- what the `at` lines gave, after the masks
-abbrev pub recordingStates : ℕ → ℕ → List ℕ → Scan → RecordingScan
+abbrev pub recordingStates : (C N : ℕ) (masks : List ℕ) (s : Scan) → RecordingScan
 recordingStates C N masks s = record { number = s .number; controllers = C; count = N; masks = masks; states = s .words; rest = s .rest }
 
 -- what the `owns` lines gave, and then the `at` lines
-abbrev pub recordingMasks : ℕ → ℕ → Scan → RecordingScan
+abbrev pub recordingMasks : (C N : ℕ) (m : Scan) → RecordingScan
 recordingMasks C N m =
     pick (eqb (m .number) accepted) (recordingStates C N (m .words) (scanStates C N (m .words) N 0 0 (m .rest))) (recordingStop (m .number) (m .rest))
 
@@ -99,7 +99,7 @@ pub record Part : Type 0 where
   pub count : ℕ
 
 -- the line with which `rest`, the end of the text, begins: all that is left of an unclosed one, and nothing where nothing is left
-abbrev pub lineIn : Bool → List ℕ → List ℕ → Part
+abbrev pub lineIn : (ofRule : Bool) (text rest : List ℕ) → Part
 lineIn ofRule text rest = record { ofRule = ofRule; from = length text - length rest; count = before newline rest }
 
 -- "for 13 the empty start of the rule text"
@@ -107,7 +107,7 @@ abbrev pub emptyStart : Part
 emptyStart = record { ofRule = true; from = 0; count = 0 }
 
 -- "The joint reading takes the rule text, then the recording text"; then "joining"
-unfoldable pub jointNumber : List ℕ → List ℕ → ℕ
+unfoldable pub jointNumber : (rule recording : List ℕ) → ℕ
 jointNumber rule recording =
     pick (eqb ((scanRule rule) .number) accepted)
     (pick (eqb ((scanRecording recording) .number) accepted)
@@ -116,7 +116,7 @@ jointNumber rule recording =
     ((scanRule rule) .number)
 
 -- "hands back the refused line itself": "for 11 the rule's first line", "on acceptance the empty end of the recording text"
-unfoldable pub jointPart : List ℕ → List ℕ → Part
+unfoldable pub jointPart : (rule recording : List ℕ) → Part
 jointPart rule recording =
     pick (eqb ((scanRule rule) .number) accepted)
     (pick (eqb (jointNumber rule recording) noController) (lineIn true rule rule) (lineIn false recording ((scanRecording recording) .rest)))

@@ -15,7 +15,8 @@ pub record Recording : Type 0 where
   pub masks : List ℕ
   pub states : List ℕ
 
-abbrev pub recordingOf : (controllers count : ℕ) → (masks states : List ℕ) → Recording
+-- the recording of these
+abbrev pub recordingOf : (controllers count : ℕ) (masks states : List ℕ) → Recording
 recordingOf controllers count masks states = record { controllers = controllers; count = count; masks = masks; states = states }
 
 -- a state in lent space is one word: the word of 32 atoms in its low half, the run marks above, bit c for controller c
@@ -55,21 +56,21 @@ abbrev pub wordAt : Recording → ℕ → ℕ
 wordAt R k = atomsOf (stateAt R k)
 
 -- c runs in state k
-abbrev pub runsAt : (R : Recording) → (c k : ℕ) → Bool
+abbrev pub runsAt : (R : Recording) (c k : ℕ) → Bool
 runsAt R c k = marked c (stateAt R k)
 
 -- "masks are disjoint": a mask meets one of the earlier masks
-abbrev pub meets : (earlier : List ℕ) → (m : ℕ) → Bool
+abbrev pub meets : (earlier : List ℕ) (m : ℕ) → Bool
 meets [] m = false
 meets (e ∷ es) m = not (eqb (bitAnd e m) 0) || meets es m
 
 -- "Output rule: if c doesn't run in state k and k+1 exists, its own atoms are equal in k and k+1", broken by some c
-abbrev pub outputBroken : (C : ℕ) → (masks : List ℕ) → (prior s : ℕ) → Bool
+abbrev pub outputBroken : (C : ℕ) (masks : List ℕ) (prior s : ℕ) → Bool
 outputBroken C masks prior s =
     some 0 C (λ c. not (marked c prior) && not (eqb (bitAnd (atomsOf prior) (getD masks c 0)) (bitAnd (atomsOf s) (getD masks c 0))))
 
 -- state k against the prior state: "a run mark at C or above", "output rule broken by the state before", "run mark in the last state"
-unfoldable pub stateRefusal : (C N : ℕ) → (masks : List ℕ) → (k prior s : ℕ) → ℕ
+unfoldable pub stateRefusal : (C N : ℕ) (masks : List ℕ) (k prior s : ℕ) → ℕ
 stateRefusal C N masks k prior s =
     pick (leb (2 ^ C) (marksOf s)) recordingLimits
     (pick (ltb 0 k && outputBroken C masks prior s) outputRule
@@ -80,7 +81,7 @@ unfoldable pub recordingHeadingRefusal : (C N : ℕ) → ℕ
 recordingHeadingRefusal C N = pick (within 1 maxControllers C && within 1 maxStates N) accepted recordingLimits
 
 -- "7 mask meets an earlier mask"
-unfoldable pub maskRefusal : (earlier : List ℕ) → (m : ℕ) → ℕ
+unfoldable pub maskRefusal : (earlier : List ℕ) (m : ℕ) → ℕ
 maskRefusal earlier m = pick (meets earlier m) masksMeet accepted
 
 -- the masks in order
@@ -89,7 +90,7 @@ masksRefusal earlier [] = accepted
 masksRefusal earlier (m ∷ ms) = orElse (maskRefusal earlier m) (masksRefusal (m ∷ earlier) ms)
 
 -- the states from state k on
-unfoldable pub statesRefusal : (C N : ℕ) → (masks : List ℕ) → (k prior : ℕ) → (ss : List ℕ) → ℕ
+unfoldable pub statesRefusal : (C N : ℕ) (masks : List ℕ) (k prior : ℕ) (ss : List ℕ) → ℕ
 statesRefusal C N masks k prior [] = accepted
 statesRefusal C N masks k prior (s ∷ ss) = orElse (stateRefusal C N masks k prior s) (statesRefusal C N masks (k + 1) s ss)
 

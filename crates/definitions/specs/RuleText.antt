@@ -1,9 +1,8 @@
 -- "Rule: `rule`, controller (0 to 7), node count; then a line per node": reading and writing.
 use Prim.Native.Nat.{ℕ, zero, suc, _+_}
-use mathlib.Core.Bool.{Bool, true, false, not, _&&_, _||_}
+use mathlib.Core.Bool.{false, not, _||_}
 use mathlib.Core.List.{List, [], _∷_, _++_}
-use lib.ListN.{length}
-use lib.Dec.{eqb, ltb}
+use lib.Dec.{eqb}
 use Rattle.definitions.specs.Limits.{accepted, ruleForm, ruleLines}
 use Rattle.definitions.specs.Bounded.{pick}
 use Rattle.definitions.specs.Nodes.{Kind, True, Atom, Not, Or, Next, Until, Prev, Since, Run, End, Unknown, Node, node, operands, nodeWord, nodeOf}
@@ -47,7 +46,7 @@ unfoldable pub unknownForm : List ℕ → Parsed Node
 unknownForm s =
     pick (isEmpty (upTo tab s) || not (letters (upTo tab s)) || has carriageReturn s) malformed (formed (node Unknown 0 0))
 
--- "the kind word .. and its operands, decimal"
+-- "the kind word, spelt as above, and its operands, decimal"
 unfoldable pub operandsForm : Kind → List ℕ → Parsed Node
 operandsForm k s =
     pick (eqb (operands k) 0) (pick (has tab s) malformed (formed (node k 0 0)))
@@ -112,5 +111,5 @@ nodesText [] = []
 nodesText (w ∷ ws) = nodeText (nodeOf w) ++ (newline ∷ nodesText ws)
 
 -- "A writer gives this text from an accepted table"
-unfoldable pub ruleText : ℕ → ℕ → List ℕ → List ℕ
+unfoldable pub ruleText : (controller count : ℕ) (ws : List ℕ) → List ℕ
 ruleText controller count ws = ruleWord ++ (tab ∷ (digits controller ++ (tab ∷ (digits count ++ (newline ∷ nodesText ws)))))

@@ -14,7 +14,8 @@ pub record Rule : Type 0 where
   pub count : ℕ
   pub nodes : List ℕ
 
-abbrev pub ruleOf : (controller count : ℕ) → (nodes : List ℕ) → Rule
+-- the rule of these
+abbrev pub ruleOf : (controller count : ℕ) (nodes : List ℕ) → Rule
 ruleOf controller count nodes = record { controller = controller; count = count; nodes = nodes }
 
 -- the judge's table: its node count, its nodes, and "two tops"
@@ -24,7 +25,8 @@ pub record Table : Type 0 where
   pub weakTop : ℕ
   pub strongTop : ℕ
 
-abbrev pub tableOf : (count : ℕ) → (nodes : List ℕ) → (weakTop strongTop : ℕ) → Table
+-- the table of these
+abbrev pub tableOf : (count : ℕ) (nodes : List ℕ) (weakTop strongTop : ℕ) → Table
 tableOf count nodes weakTop strongTop = record { count = count; nodes = nodes; weakTop = weakTop; strongTop = strongTop }
 
 -- "an unknown kind"
@@ -44,11 +46,11 @@ abbrev pub unusedSet : Node → Bool
 unusedSet n = (eqb (operands (n .kind)) 0 && not (eqb (n .first) 0)) || (ltb (operands (n .kind)) 2 && not (eqb (n .second) 0))
 
 -- an operand of node i is not an earlier node
-abbrev pub operandLate : (i : ℕ) → (n : Node) → Bool
+abbrev pub operandLate : (i : ℕ) (n : Node) → Bool
 operandLate i n = (ltb 0 (operands (n .kind)) && leb i (n .first)) || (ltb 1 (operands (n .kind)) && leb i (n .second))
 
 -- "a rule line or node", from 2 on: node i of a rule's table or, rewritten, of the judge's, which may hold run and end
-unfoldable pub nodeRefusal : (rewritten : Bool) → (i : ℕ) → (n : Node) → ℕ
+unfoldable pub nodeRefusal : (rewritten : Bool) (i : ℕ) (n : Node) → ℕ
 nodeRefusal rewritten i n =
     pick (isUnknown (n .kind)) ruleLimits
     (pick (isRewritten (n .kind) && not rewritten) ruleLimits
@@ -57,7 +59,7 @@ nodeRefusal rewritten i n =
     (pick (not (isAtom (n .kind)) && operandLate i n) ruleOperand accepted))))
 
 -- the nodes from node i on, as many as `remaining` says: "lines in order"; "with fewer entries than its count has a line missing"
-unfoldable pub nodesRefusal : (rewritten : Bool) → (i remaining : ℕ) → (ws : List ℕ) → ℕ
+unfoldable pub nodesRefusal : (rewritten : Bool) (i remaining : ℕ) (ws : List ℕ) → ℕ
 nodesRefusal rewritten i zero ws = accepted
 nodesRefusal rewritten i (suc remaining) [] = ruleLines
 nodesRefusal rewritten i (suc remaining) (w ∷ ws) = orElse (nodeRefusal rewritten i (nodeOf w)) (nodesRefusal rewritten (i + 1) remaining ws)
@@ -81,5 +83,5 @@ tableRefusal t =
     (orElse (nodesRefusal true 0 (t .count) (t .nodes)) (topsRefusal t))
 
 -- "entries past the count aren't read"
-abbrev pub nodesIn : (count : ℕ) → (ws : List ℕ) → List Node
+abbrev pub nodesIn : (count : ℕ) (ws : List ℕ) → List Node
 nodesIn count ws = map nodeOf (take count ws)

@@ -51,10 +51,10 @@ masks-low earlier [] = omega arith
 masks-low earlier (m ∷ ms) =
     or-else-low _ _ tooManyNodes (pick-low _ masksMeet accepted tooManyNodes (omega arith) (omega arith)) (masks-low (m ∷ earlier) ms)
 
-states-low : (C N : ℕ) (masks : List ℕ) (k before : ℕ) (ss : List ℕ) → statesRefusal C N masks k before ss < tooManyNodes
+states-low : (C N : ℕ) (masks : List ℕ) (k prior : ℕ) (ss : List ℕ) → statesRefusal C N masks k prior ss < tooManyNodes
 unfolding statesRefusal stateRefusal
-states-low C N masks k before [] = omega arith
-states-low C N masks k before (s ∷ ss) =
+states-low C N masks k prior [] = omega arith
+states-low C N masks k prior (s ∷ ss) =
     or-else-low _ _ tooManyNodes
     (pick-low _ recordingLimits _ tooManyNodes (omega arith)
     (pick-low _ outputRule _ tooManyNodes (omega arith) (pick-low _ lastMark accepted tooManyNodes (omega arith) (omega arith))))
