@@ -1,6 +1,6 @@
 -- "The program": from the bytes of standard input to the bytes printed.
 use Prim.Native.Nat.{ℕ, zero, suc, _+_, _-_}
-use mathlib.Core.Bool.{Bool, true, false, not, _&&_, _||_}
+use mathlib.Core.Bool.{Bool, true, false}
 use mathlib.Core.List.{List, [], _∷_, _++_}
 use lib.ListN.{length, take, drop}
 use lib.Dec.{eqb, ltb}
@@ -13,7 +13,7 @@ use Rattle.definitions.specs.Projection.{localTrace}
 use Rattle.definitions.specs.Readings.{Trace, whole, Verdicts, verdicts, localVerdicts}
 use Rattle.definitions.specs.Rewriting.{Rewritten, rewriting}
 use Rattle.definitions.specs.Lines.{bytes, tab, newline, before, has, upTo, after, same, digits}
-use Rattle.definitions.specs.RuleText.{RuleScan, scanRule}
+use Rattle.definitions.specs.RuleText.{scanRule}
 use Rattle.definitions.specs.RecordingText.{RecordingScan, scanRecording, Part, jointNumber, jointPart}
 use Rattle.definitions.specs.Operations.{sizeRefusal}
 

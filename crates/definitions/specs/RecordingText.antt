@@ -1,14 +1,14 @@
 -- "Recording: `recording`, C, N; C lines `owns`, mask; N lines `at`, run marks, word", and "The joint reading".
 use Prim.Native.Nat.{ℕ, zero, suc, _+_, _-_}
-use mathlib.Core.Bool.{Bool, true, false, not, _&&_, _||_}
-use mathlib.Core.List.{List, [], _∷_, _++_}
+use mathlib.Core.Bool.{Bool, true, false}
+use mathlib.Core.List.{List, [], _∷_}
 use lib.ListN.{length}
 use lib.Dec.{eqb}
-use Rattle.definitions.specs.Limits.{accepted, recordingForm, recordingLines, noController, lentShort}
+use Rattle.definitions.specs.Limits.{accepted, recordingForm, recordingLines, noController}
 use Rattle.definitions.specs.Bounded.{pick}
 use Rattle.definitions.specs.Recordings.{stateOf, stateRefusal, maskRefusal, recordingHeadingRefusal, controllerRefusal}
 use Rattle.definitions.specs.Lines.{bytes, newline, before, isEmpty, Parsed, hexadecimal, Heading, twoFields, worded, headingForm, NextLine, onNext, nextLine, Scan, stop, more}
-use Rattle.definitions.specs.RuleText.{RuleScan, scanRule}
+use Rattle.definitions.specs.RuleText.{scanRule}
 
 -- the words that open its lines
 abbrev pub recordingWord : List ℕ
