@@ -16,7 +16,6 @@ use Rattle.definitions.specs.Nodes.{Kind, Unknown, node, kindOf, kindNumber, op
 use Rattle.definitions.specs.Tables.{isUnknown}
 use Rattle.definitions.specs.Lines.{tab, before, carriageReturn, isEmpty, has, upTo, after, Parsed, formed, malformed, onParsed, decimal, Heading, heading, twoFields, letters}
 use Rattle.definitions.specs.RuleText.{wordKind, unknownForm, operandsForm, nodeForm}
-use Rattle.theorems.proofs.Choice.{by-test}
 use Rattle.theorems.proofs.NodeWords.{kind-of-number}
 use Rattle.fields.specs.Fields.{cap, capped}
 use Rattle.lines.specs.Forms.{cappedPair}
@@ -25,8 +24,8 @@ use Rattle.fields.specs.declared.number.Field.the-variants as field
 use Rattle.lines.specs.declared.form.Pair.{Pair}
 use Rattle.lines.specs.declared.form.Pair.the-variants as pair
 use Rattle.fields.proofs.PartLaws.{part-laws, part-counts, empty-yes, empty-no, has-yes, has-no, up-to-part, after-part}
-use Rattle.fields.proofs.FieldLaws.{cap-le, cap-within, Read, capped-read, capped-malformed}
-use Rattle.lines.proofs.FormLaws.{made, two-made, PairRead, pair-read, pair-malformed}
+use Rattle.fields.proofs.FieldLaws.{cap-le, cap-within, capped-read, capped-malformed}
+use Rattle.lines.proofs.FormLaws.{made, two-made, pair-read, pair-malformed}
 use Rattle.formulas.specs.Meaning.{meaning, Built, OfWord}
 use Rattle.formulas.specs.declared.node.Node.{Node}
 use Rattle.formulas.proofs.KindLaws.{unknown-of}

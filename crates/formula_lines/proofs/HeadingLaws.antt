@@ -1,16 +1,16 @@
 -- Laws of the first line of a rule text: one for each return, and what a caller has of its answer.
-use mathlib.Core.Path.{_≡_, refl, ap, sym, _∙_}
+use mathlib.Core.Path.{_≡_, ap, sym, _∙_}
 use mathlib.Core.Bool.{true}
 use mathlib.Core.List.{List}
-use Prim.Native.Nat.{ℕ, _<_, _≤_}
+use Prim.Native.Nat.{ℕ, _≤_}
 use native.Mathlib.Omega.{arith}
-use lib.ListN.{length, take}
+use lib.ListN.{take}
 use Rattle.definitions.specs.Limits.{maxControllers, maxRuleNodes, ruleForm, ruleLines}
 use Rattle.definitions.specs.Tables.{ruleHeadingRefusal}
-use Rattle.definitions.specs.Lines.{newline, before, has, upTo, after, Heading, heading, headingForm, NextLine, refused, read, nextLine}
+use Rattle.definitions.specs.Lines.{newline, before, has, upTo, after, Heading, heading, headingForm, NextLine, refused, read}
 use Rattle.definitions.specs.RuleText.{ruleWord, ruleHeadingLine}
 use Rattle.theorems.proofs.NodeLaws.{accepted-heading}
-use Rattle.theorems.proofs.NextLines.{next-back, next-some}
+use Rattle.theorems.proofs.NextLines.{next-back}
 use Rattle.fields.specs.Fields.{cap}
 use Rattle.lines.specs.Forms.{cappedPair}
 use Rattle.lines.specs.Reading.{endRefusal}

@@ -5,7 +5,7 @@ use mathlib.Core.List.{List}
 use Prim.Native.Nat.{ℕ, _<_, _≤_}
 use native.Mathlib.Omega.{arith}
 use lib.Dec.{eqb, ltb, leb}
-use lib.ListN.{length, take}
+use lib.ListN.{take}
 use borrow.Author.Tests.{ltb-true, ltb-false, ne-eqb, le-leb}
 use Rattle.definitions.specs.Limits.{maxRuleNodes, atomCount, ruleForm, ruleLines}
 use Rattle.definitions.specs.Nodes as table

@@ -1,5 +1,5 @@
 -- Laws of the loop over node lines: one for each return and for a turn.
-use mathlib.Core.Path.{_≡_, refl, ap, sym, _∙_}
+use mathlib.Core.Path.{_≡_, refl, sym, _∙_}
 use mathlib.Core.Bool.{false}
 use mathlib.Core.List.{List}
 use Prim.Native.Nat.{ℕ, zero, suc, _+_, _-_, _^_, _<_, _≤_}
@@ -14,7 +14,7 @@ use Rattle.definitions.specs.Limits.{accepted, ruleForm, ruleLines, noControlle
 use Rattle.definitions.specs.Bounded.{pick}
 use Rattle.definitions.specs.Nodes.{Node, nodeWord}
 use Rattle.definitions.specs.Tables.{nodeRefusal}
-use Rattle.definitions.specs.Lines.{newline, before, isEmpty, after, onNext, stop, more}
+use Rattle.definitions.specs.Lines.{newline, before, isEmpty, after, stop, more}
 use Rattle.definitions.specs.RuleText.{nodeForm, nodeLine, scanNodes}
 use Rattle.theorems.proofs.Choice.{by-test, pick-true, pick-false}
 use Rattle.theorems.proofs.RefusalBounds.{pick-low}

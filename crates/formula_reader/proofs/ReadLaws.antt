@@ -19,7 +19,7 @@ use Rattle.theorems.proofs.RefusalBounds.{pick-low}
 use Rattle.theorems.proofs.NextLines.{on-next, next-number, next-some}
 use Rattle.theorems.proofs.RuleTextSteps.{rule-stop, rule-step}
 use Rattle.theorems.proofs.LentSpace.{refused-answer, accepted-answer}
-use Rattle.lent.specs.Space.{laid, cleared}
+use Rattle.lent.specs.Space.{cleared}
 use Rattle.lent.proofs.LeftLaws.{laid-past, laid-begins, left-untouched, left-zeroed, left-filled}
 use Rattle.lines.specs.Reading.{LinesScanned}
 use Rattle.lines.specs.declared.next.Stopped.{Stopped}

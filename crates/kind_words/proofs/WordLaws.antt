@@ -1,15 +1,13 @@
 -- Laws of kind words: the word that the code compared says which kind it is, and the kind which word it has.
-use mathlib.Core.Path.{_≡_, refl, sym}
+use mathlib.Core.Path.{_≡_, refl}
 use mathlib.Core.Bool.{Bool, true, false}
 use mathlib.Core.List.{List, [], _∷_}
-use Prim.Native.Nat.{ℕ, _+_, _<_, _≤_}
+use Prim.Native.Nat.{ℕ, _<_, _≤_}
 use native.Mathlib.Omega.{arith}
-use lib.ListN.{length, take, getD}
-use lib.Seq.{length-take-le}
+use lib.ListN.{getD}
 use borrow.Author.Needs.{needs}
 use Rattle.definitions.specs.Bounded.{pick}
 use Rattle.definitions.specs.Nodes.{Kind, kindNumber, kindOf}
-use Rattle.definitions.specs.RuleText.{kindWord}
 use Rattle.formulas.proofs.KindLaws.{kind-cases}
 use Rattle.kind_words.specs.declared.Word.{Word}
 use Rattle.kind_words.specs.Words.{WordIs}

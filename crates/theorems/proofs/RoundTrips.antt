@@ -12,7 +12,7 @@ use Rattle.definitions.specs.Bounded.{pick}
 use Rattle.definitions.specs.Tables.{Rule, nodesRefusal, ruleHeadingRefusal, ruleRefusal, ruleOf}
 use Rattle.definitions.specs.Lines.{newline, after}
 use Rattle.definitions.specs.RuleText.{RuleScan, scanRule, scanNodes, nodesText, ruleText}
-use Rattle.definitions.specs.Operations.{answer, tooShort, left, readRuleNumber, readRuleAnswer, readRuleNodes, textOf, writeRuleNumber, writeRuleAnswer, writeRuleText}
+use Rattle.definitions.specs.Operations.{answer, tooShort, readRuleNumber, readRuleAnswer, readRuleNodes, textOf, writeRuleNumber, writeRuleAnswer, writeRuleText}
 use Rattle.theorems.proofs.Choice.{pick-other, pick-false}
 use Rattle.theorems.proofs.Inversions.{first-accepted}
 use Rattle.theorems.proofs.LentSpace.{left-accepted}

@@ -1,19 +1,19 @@
 -- Laws of the first line of a recording text: one for each return, and what a caller has of its answer.
-use mathlib.Core.Path.{_≡_, refl, ap, sym, _∙_}
+use mathlib.Core.Path.{_≡_, ap, sym, _∙_}
 use mathlib.Core.Bool.{true, _&&_}
 use mathlib.Core.List.{List}
-use Prim.Native.Nat.{ℕ, _<_, _≤_}
+use Prim.Native.Nat.{ℕ, _≤_}
 use native.Mathlib.Omega.{arith}
 use lib.Dec.{leb}
-use lib.ListN.{length, take}
+use lib.ListN.{take}
 use borrow.Author.Tests.{leb-true}
 use Rattle.definitions.specs.Bounded.{within}
 use Rattle.definitions.specs.Limits.{maxControllers, maxStates, recordingForm, recordingLines, recordingLimits}
 use Rattle.definitions.specs.Recordings.{recordingHeadingRefusal}
-use Rattle.definitions.specs.Lines.{newline, before, has, upTo, after, Heading, heading, headingForm, NextLine, refused, read, nextLine}
+use Rattle.definitions.specs.Lines.{newline, before, has, upTo, after, Heading, heading, headingForm, NextLine, refused, read}
 use Rattle.definitions.specs.RecordingText.{recordingWord, recordingHeadingLine}
 use Rattle.theorems.proofs.Choice.{both-true, accept-yes}
-use Rattle.theorems.proofs.NextLines.{next-back, next-some}
+use Rattle.theorems.proofs.NextLines.{next-back}
 use Rattle.fields.specs.Fields.{cap}
 use Rattle.lines.specs.Forms.{cappedPair}
 use Rattle.lines.specs.Reading.{endRefusal}

@@ -1,12 +1,12 @@
 -- Laws of an `owns` line: one for each return, and what a caller has of its answer.
-use mathlib.Core.Path.{_≡_, refl, ap, sym, _∙_}
+use mathlib.Core.Path.{_≡_, ap, sym, _∙_}
 use mathlib.Core.Bool.{true}
 use mathlib.Core.List.{List}
 use Prim.Native.Nat.{ℕ}
 use native.Mathlib.Omega.{arith}
-use lib.ListN.{length, take}
+use lib.ListN.{take}
 use Rattle.definitions.specs.Limits.{recordingForm, recordingLines}
-use Rattle.definitions.specs.Lines.{newline, before, has, upTo, after, formed, malformed, worded, hexadecimal, NextLine, refused, read}
+use Rattle.definitions.specs.Lines.{newline, before, has, upTo, after, formed, worded, hexadecimal, NextLine, refused, read}
 use Rattle.definitions.specs.RecordingText.{ownsWord, wordDigits, maskForm}
 use Rattle.theorems.proofs.NextLines.{next-malformed, next-denied, next-read, next-back}
 use Rattle.fields.specs.Fields.{exact}

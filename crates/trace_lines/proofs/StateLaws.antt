@@ -1,10 +1,10 @@
 -- Laws of the line of a state: one for each return, and what a caller has of its answer.
-use mathlib.Core.Path.{_≡_, refl, ap, sym, _∙_}
+use mathlib.Core.Path.{_≡_, ap, sym, _∙_}
 use mathlib.Core.Bool.{true}
 use mathlib.Core.List.{List}
 use Prim.Native.Nat.{ℕ}
 use native.Mathlib.Omega.{arith}
-use lib.ListN.{length, take}
+use lib.ListN.{take}
 use Rattle.definitions.specs.Limits.{recordingForm, recordingLines}
 use Rattle.definitions.specs.Recordings.{stateOf, stateRefusal}
 use Rattle.definitions.specs.Lines.{newline, before, has, upTo, after, formed, malformed, onParsed, heading, worded, hexadecimal, twoFields, NextLine, refused, read}
@@ -15,7 +15,7 @@ use Rattle.lines.specs.Reading.{endRefusal}
 use Rattle.lines.specs.declared.form.Pair.{Pair}
 use Rattle.lines.specs.declared.form.Pair.the-variants as pair
 use Rattle.fields.proofs.PartLaws.{part-laws, up-to-part}
-use Rattle.lines.proofs.FormLaws.{made, worded-made, exact-pair, exact-pair-malformed}
+use Rattle.lines.proofs.FormLaws.{worded-made, exact-pair, exact-pair-malformed}
 use Rattle.lines.proofs.NextLaws.{next-unread, end-fine}
 use Rattle.trace_lines.specs.NextLines.{stateAnswer}
 use Rattle.trace_lines.specs.declared.StateRead.{StateRead}

@@ -1,5 +1,5 @@
 -- Laws of the two loops over lines: one for each return and for a turn.
-use mathlib.Core.Path.{_≡_, refl, ap, sym, _∙_}
+use mathlib.Core.Path.{_≡_, refl, sym, _∙_}
 use mathlib.Core.List.{List, []}
 use Prim.Native.Nat.{ℕ, suc, _+_, _-_, _^_, _<_, _≤_}
 use native.Mathlib.Omega.{arith}
@@ -12,7 +12,7 @@ use mir.Syntax.{w64}
 use mir.Val.{Fits}
 use Rattle.definitions.specs.Limits.{accepted, recordingLines, maxControllers, maxStates}
 use Rattle.definitions.specs.Bounded.{pick}
-use Rattle.definitions.specs.Lines.{newline, before, isEmpty, after, Scan, stop, more}
+use Rattle.definitions.specs.Lines.{newline, before, isEmpty, after, more}
 use Rattle.definitions.specs.RecordingText.{stateLine, scanMasks, scanStates}
 use Rattle.theorems.proofs.Choice.{by-test, pick-true, pick-false}
 use Rattle.traces.specs.Unions.{unionOf}

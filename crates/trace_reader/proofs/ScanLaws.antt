@@ -1,5 +1,5 @@
 -- Laws of the definitions of the reader of a recording text: one step, how many words it reads, which refusals it meets, and that an accepted text is read to its end.
-use mathlib.Core.Path.{_≡_, refl, ap, _∙_}
+use mathlib.Core.Path.{_≡_, refl, ap}
 use mathlib.Core.List.{List, [], _∷_}
 use Prim.Native.Nat.{ℕ, zero, suc, _+_, _<_}
 use native.Mathlib.Omega.{arith}
@@ -7,11 +7,11 @@ use lib.Bits.{bitOr}
 use lib.Dec.{eqb}
 use lib.ListN.{length, take}
 use borrow.Author.Tests.{eqb-true, eqb-false}
-use Rattle.definitions.specs.Limits.{accepted, recordingForm, recordingLines, noController, lentShort}
+use Rattle.definitions.specs.Limits.{accepted, recordingForm, recordingLines, noController}
 use Rattle.definitions.specs.Bounded.{pick}
 use Rattle.definitions.specs.Recordings.{maskRefusal, stateRefusal, recordingHeadingRefusal}
 use Rattle.definitions.specs.Lines.{isEmpty, refused, read, onNext, Scan, stop, more}
-use Rattle.definitions.specs.RecordingText.{recordingHeading, maskForm, stateForm, recordingHeadingLine, maskLine, stateLine, scanMasks, scanStates, RecordingScan, recordingStop, recordingMasks, scanRecording}
+use Rattle.definitions.specs.RecordingText.{recordingHeading, maskForm, stateForm, recordingHeadingLine, maskLine, stateLine, scanMasks, scanStates, RecordingScan, recordingMasks, scanRecording}
 use Rattle.theorems.proofs.Choice.{by-test, accept-yes}
 use Rattle.theorems.proofs.RefusalBounds.{pick-low}
 use Rattle.theorems.proofs.NextLines.{next-number, next-some, on-next, same-next, same-check}
