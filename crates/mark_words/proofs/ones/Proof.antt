@@ -1,3 +1,4 @@
+-- `ones` meets its contract: a power of two less one (WordLaws).
 use native.Mathlib.Omega.{arith}
 use borrow.Author.Needs.{needs}
 use Rattle.mark_words.proofs.WordLaws.{full-shl}

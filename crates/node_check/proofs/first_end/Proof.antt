@@ -1,3 +1,4 @@
+-- `first_end` meets its contract, by cases of the kind (FitLaws).
 use Rattle.node_check.proofs.FitLaws.{fit-laws}
 use Rattle.node_check.proofs.first_end.Statement.{statement}
 use Rattle.node_check.proofs.first_end.Tie as tie

@@ -1,3 +1,4 @@
+-- `misfit_refusal` meets its contract, by cases of the kind (FitLaws).
 use Rattle.node_check.proofs.FitLaws.{fit-laws}
 use Rattle.node_check.proofs.misfit_refusal.Statement.{statement}
 use Rattle.node_check.proofs.misfit_refusal.Tie as tie

@@ -1,3 +1,4 @@
+-- `node_fits` meets its contract: the definition, test by test (FitLaws).
 use Rattle.node_check.proofs.FitLaws.{fit-laws}
 use Rattle.node_check.proofs.node_fits.Statement.{statement}
 use Rattle.node_check.proofs.node_fits.Tie as tie

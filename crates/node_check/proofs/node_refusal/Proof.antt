@@ -1,3 +1,4 @@
+-- `node_refusal` meets its contract: a node that fits, and one that does not (FitLaws).
 use Rattle.node_check.proofs.FitLaws.{fit-laws}
 use Rattle.node_check.proofs.node_refusal.Statement.{statement}
 use Rattle.node_check.proofs.node_refusal.Tie as tie

@@ -1,3 +1,4 @@
+-- `takes_nodes` meets its contract, by cases of the kind (FitLaws).
 use Rattle.node_check.proofs.FitLaws.{fit-laws}
 use Rattle.node_check.proofs.takes_nodes.Statement.{statement}
 use Rattle.node_check.proofs.takes_nodes.Tie as tie
