@@ -21,8 +21,8 @@ use formulas::limits::Refusal;
 use projection::places::local_length;
 use projection::places::project_into;
 use table_check::rule_refusal;
-use traces::check::mask_at;
 use traces::check::trace_refusal;
+use traces::masks::mask_at;
 
 // The rule, then the recording and its controller.
 pub fn local_refusal(

@@ -13,7 +13,7 @@ use lent::clear_u32;
 use lent::clear_u64;
 use rewriting::rewrite::Rewriting;
 use rewriting::rewrite::rewrite;
-use traces::check::mask_at;
+use traces::masks::mask_at;
 
 pub enum Judgement {
     // Node count of the rewritten rule, weak verdict, strong verdict.

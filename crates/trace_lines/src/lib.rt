@@ -12,6 +12,7 @@ use lines::form;
 use lines::form::Pair;
 use lines::next::end_refusal;
 use traces::check;
+use traces::masks;
 
 // C and N, or the refusal.
 pub enum HeadingRead {
@@ -66,7 +67,7 @@ pub fn next_mask(seen: u32, t: &[u8], end: usize) -> MaskRead
     let Field::Number(mask) = form::worded_hexadecimal(&t[..end], b"owns", WORD_DIGITS) else {
         return MaskRead::Refused(Refusal::RECORDING_FORM);
     };
-    let refusal = check::mask_refusal(seen, mask);
+    let refusal = masks::mask_refusal(seen, mask);
     if refusal != Refusal::NONE {
         return MaskRead::Refused(refusal);
     }

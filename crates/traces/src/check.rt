@@ -1,19 +1,17 @@
 // The check of a recording: heading, masks, states, then lines that are missing.
 ghost use mathlib.Core.Path.{_≡_};
-ghost use mathlib.Core.Bool.{_&&_};
-ghost use mathlib.Core.List.{[]};
 ghost use Prim.Native.Nat.{_^_, _≤_};
-ghost use lib.Dec.{ltb};
-ghost use lib.ListN.{take, getD};
+ghost use lib.ListN.{take};
 ghost use Rattle.definitions.specs.Limits.{maxControllers};
-ghost use Rattle.definitions.specs.Recordings.{stateOf, outputBroken, stateRefusal, recordingHeadingRefusal, masksRefusal, statesRefusal, recordingLinesRefusal, recordingRefusal, recordingOf};
+ghost use Rattle.definitions.specs.Recordings.{stateOf, stateRefusal, recordingHeadingRefusal, statesRefusal, recordingLinesRefusal, recordingRefusal, recordingOf};
 ghost use Rattle.traces.specs.Joining.{traceRefusal};
-ghost use Rattle.traces.specs.Unions.{unionRefusal};
 ghost use Rattle.traces.specs.Turns.{InTurn, stepRefusal, lastRefusal};
-use super::held::held_atoms;
+use super::held::held_at;
 use super::held::held_changed;
 use super::held::held_group;
 use super::held::least;
+use super::held::output_broken;
+use super::masks::masks_refusal;
 use super::state::ATOM_WORDS;
 use super::state::marks_of;
 use formulas::choice::or_else;
@@ -36,61 +34,6 @@ pub fn heading_refusal(controllers: usize, count: usize) -> u8
         Refusal::RECORDING_LIMITS,
     );
     pick(1 <= controllers, few, Refusal::RECORDING_LIMITS)
-}
-
-// One mask against `seen`, the union of the earlier ones.
-pub fn mask_refusal(seen: u32, mask: u32) -> u8
-    ensures { λ r. ⌜ r ≡ unionRefusal seen mask ⌝ }
-{
-    pick(seen & mask == 0, Refusal::NONE, Refusal::MASKS_MEET)
-}
-
-// The masks that are there, in order.
-pub fn masks_refusal(controllers: usize, masks: &[u32]) -> u8
-    ensures { λ r. ⌜ r ≡ masksRefusal [] (take controllers (now (masks .entry))) ⌝ }
-{
-    let mut seen: u32 = 0;
-    for c in 0..controllers {
-        if masks.len() <= c {
-            return Refusal::NONE;
-        }
-        let mask = masks[c];
-        let refusal = mask_refusal(seen, mask);
-        if refusal != Refusal::NONE {
-            return refusal;
-        }
-        seen = seen | mask;
-    }
-    Refusal::NONE
-}
-
-// A mask that isn't there has no atoms.
-pub fn mask_at(masks: &[u32], c: usize) -> u32
-    ensures { λ r. ⌜ r ≡ getD (now (masks .entry)) c 0 ⌝ }
-{
-    if c < masks.len() {
-        return masks[c];
-    }
-    0
-}
-
-pub fn output_broken(controllers: usize, masks: &[u32], before: u64, state: u64) -> bool
-    requires { ⌜ controllers ≤ maxControllers ⌝ }
-    ensures { λ r. ⌜ r ≡ outputBroken controllers (now (masks .entry)) before state ⌝ }
-{
-    let held = held_atoms(controllers, masks, before);
-    held_changed(held, before, state)
-}
-
-// The first state has no state before it.
-fn output_broken_at(controllers: usize, masks: &[u32], k: usize, before: u64, state: u64) -> bool
-    requires { ⌜ controllers ≤ maxControllers ⌝ }
-    ensures { λ r. ⌜ r ≡ (ltb 0 k && outputBroken controllers (now (masks .entry)) before state) ⌝ }
-{
-    if 0 < k {
-        return output_broken(controllers, masks, before, state);
-    }
-    false
 }
 
 // States from this word on have a run mark at C or above.
@@ -129,14 +72,13 @@ pub fn state_refusal(
     requires { ⌜ InTurn controllers count k ⌝ }
     ensures { λ r. ⌜ r ≡ stateRefusal controllers count (now (masks .entry)) k before state ⌝ }
 {
-    let broken = output_broken_at(controllers, masks, k, before, state);
+    let broken = (0 < k) & output_broken(controllers, masks, before, state);
     let step = step_refusal(state_limit(controllers), state, broken);
     let last = last_refusal(k + 1 == count, marks_of(state));
     or_else(step, last)
 }
 
-// The states that are there, in order. `held` are the atoms that the state before holds, none before the first:
-// by its marks of controllers 0 to 3 and of 4 to 7, so that no branch depends on them.
+// The states that are there, in order. `held` are the atoms that the state before holds, none before the first.
 pub fn states_refusal(controllers: usize, count: usize, masks: &[u32], states: &[u64]) -> u8
     requires { ⌜ controllers ≤ maxControllers ⌝ }
     ensures { λ r. ⌜ r ≡ statesRefusal controllers count (now (masks .entry)) 0 0 (take count (now (states .entry))) ⌝ }
@@ -153,8 +95,7 @@ pub fn states_refusal(controllers: usize, count: usize, masks: &[u32], states: &
         if refusal != Refusal::NONE {
             return refusal;
         }
-        let marks = marks_of(state);
-        held = low[(marks % 16) as usize] | high[(marks / 16) as usize];
+        held = held_at(&low, &high, marks_of(state));
         before = state;
     }
     last_refusal(there == count, marks_of(before))

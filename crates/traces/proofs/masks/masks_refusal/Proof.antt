@@ -1,9 +1,9 @@
--- `traces::check::masks_refusal` meets its contract.
+-- `traces::masks::masks_refusal` meets its contract.
 use Prim.Native.Nat.{_-_}
 use borrow.Author.Needs.{needs}
 use Rattle.traces.proofs.CheckLaws.{MasksLeft, mask-laws}
-use Rattle.traces.proofs.check.masks_refusal.Statement.{statement}
-use Rattle.traces.proofs.check.masks_refusal.Tie as tie
+use Rattle.traces.proofs.masks.masks_refusal.Statement.{statement}
+use Rattle.traces.proofs.masks.masks_refusal.Tie as tie
 
 abbrev Inv-loop : tie.InvT-loop
 Inv-loop controllers masks seen₀ c₀ seen c = MasksLeft controllers masks seen c

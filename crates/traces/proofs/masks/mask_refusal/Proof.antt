@@ -1,8 +1,8 @@
--- `traces::check::mask_refusal` meets its contract.
+-- `traces::masks::mask_refusal` meets its contract.
 use borrow.Author.Needs.{needs}
 use Rattle.traces.proofs.CheckLaws.{test-laws}
-use Rattle.traces.proofs.check.mask_refusal.Statement.{statement}
-use Rattle.traces.proofs.check.mask_refusal.Tie as tie
+use Rattle.traces.proofs.masks.mask_refusal.Statement.{statement}
+use Rattle.traces.proofs.masks.mask_refusal.Tie as tie
 
 pick-requires : tie.Need-pick-requires
 pick-requires c κs = search needs

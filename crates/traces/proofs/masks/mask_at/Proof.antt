@@ -1,8 +1,8 @@
--- `traces::check::mask_at` meets its contract.
+-- `traces::masks::mask_at` meets its contract.
 use borrow.Author.Needs.{needs}
 use Rattle.traces.proofs.CheckLaws.{output-laws}
-use Rattle.traces.proofs.check.mask_at.Statement.{statement}
-use Rattle.traces.proofs.check.mask_at.Tie as tie
+use Rattle.traces.proofs.masks.mask_at.Statement.{statement}
+use Rattle.traces.proofs.masks.mask_at.Tie as tie
 
 mul-result : tie.Need-mul-result
 mul-result c = search needs
