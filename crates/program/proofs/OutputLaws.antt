@@ -29,11 +29,11 @@ use Rattle.fields.proofs.PartLaws.{part-to-end}
 use Rattle.formula_reader.proofs.ReadLaws.{rule-low}
 use Rattle.trace_reader.proofs.ScanLaws.{recording-low}
 use Rattle.joint_text.specs.Joining.{ReadJoint}
-use Rattle.program.specs.Reporting.{maxOutputBytes, reportText}
+use Rattle.report.specs.Reporting.{maxOutputBytes, reportText}
 use Rattle.program.specs.Judged.{ReportIs}
 use Rattle.program.specs.Splitting.{SplitAt}
 use Rattle.program.specs.Output.{TextsRoom, Room, foundRule, foundRecording, Found, foundText, ProgramPrinted}
-use Rattle.program.specs.declared.report.Report.{Report}
+use Rattle.report.specs.declared.Report.{Report}
 use Rattle.program.specs.declared.split.Parts.{Parts}
 use Rattle.program.proofs.RecordingAccepted.{TextsAccepted, texts-accepted, recording-fine, masks-count, states-count}
 

@@ -40,9 +40,9 @@ use Rattle.judging.specs.Rewritten as judging
 use Rattle.judging.specs.Rewritten.{Judgeable, Judgements, rewrittenFor, numberOf}
 use Rattle.judging.specs.declared.rewritten.Judgement.{Judgement}
 use Rattle.judging.specs.declared.rewritten.Judgement.the-variants as judged
-use Rattle.program.specs.Reporting.{maxOutputBytes, verdictsLine, ownLine, rewrittenLine, reportText}
+use Rattle.report.specs.Reporting.{maxOutputBytes, verdictsLine, ownLine, rewrittenLine, reportText}
 use Rattle.program.specs.Judged.{Recorded, RewrittenIs, RewritingsAre, ReportIs}
-use Rattle.program.specs.declared.report.Rewritings.{Rewritings}
+use Rattle.report.specs.declared.Rewritings.{Rewritings}
 
 -- ---- answers
 accepted-values : (values : List ℕ) → (answer accepted values) .values ≡ values

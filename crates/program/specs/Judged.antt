@@ -10,10 +10,10 @@ use Rattle.definitions.specs.Recordings.{Recording, recordingRefusal}
 use Rattle.definitions.specs.Readings.{whole, verdict}
 use Rattle.definitions.specs.Program.{judgedText}
 use Rattle.judging.specs.Rewritten.{rewrittenFor}
-use Rattle.program.specs.Reporting.{maxOutputBytes, reportText}
-use Rattle.program.specs.declared.report.Report.{Report}
-use Rattle.program.specs.declared.report.Rewritten.{Rewritten}
-use Rattle.program.specs.declared.report.Rewritings.{Rewritings}
+use Rattle.report.specs.Reporting.{maxOutputBytes, reportText}
+use Rattle.report.specs.declared.Report.{Report}
+use Rattle.report.specs.declared.Rewritten.{Rewritten}
+use Rattle.report.specs.declared.Rewritings.{Rewritings}
 
 -- an accepted recording that has the controller, and space for its places
 pub record Recorded (R : Recording) (c : ℕ) (places : List ℕ) : Type 0 where

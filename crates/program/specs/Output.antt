@@ -8,7 +8,7 @@ use Rattle.definitions.specs.Tables.{Rule, nodesIn, ruleOf}
 use Rattle.definitions.specs.Recordings.{Recording}
 use Rattle.definitions.specs.Program.{judgedText, programOutput}
 use Rattle.theorems.proofs.ScheduleIndependence.{Accepted}
-use Rattle.program.specs.Reporting.{maxOutputBytes}
+use Rattle.report.specs.Reporting.{maxOutputBytes}
 
 -- two texts of one input, and space for what is printed of them
 pub record TextsRoom (rule recording text : List ℕ) : Type 0 where

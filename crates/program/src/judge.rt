@@ -2,13 +2,13 @@
 ghost use Rattle.definitions.specs.Program.{textsOutput};
 ghost use Rattle.printing.specs.Printing.{Printed};
 ghost use Rattle.program.specs.Output.{TextsRoom, Room, Found, foundText, ProgramPrinted};
-use super::report::put_refused;
-use super::report::put_report;
 use super::split::split;
 use super::tables::judge_tables;
 use formulas::limits::Limits;
 use formulas::limits::Refusal;
 use joint_text::joint::read_joint;
+use report::put_refused;
+use report::put_report;
 
 // The bytes of the longest output: `refused`, a number of two digits, two tabs, byte 10 and a line that is all of the longest input.
 pub const OUTPUT_BYTES: usize = Limits::INPUT_BYTES + 12;

@@ -7,9 +7,6 @@ ghost use Rattle.definitions.specs.Projection.{localTrace};
 ghost use Rattle.judging.specs.Rewritten.{Judgeable};
 ghost use Rattle.theorems.proofs.ScheduleIndependence.{Accepted};
 ghost use Rattle.program.specs.Judged.{Recorded, RewrittenIs, RewritingsAre, ReportIs};
-use super::report::Report;
-use super::report::Rewritings;
-use super::report::Rewritten;
 use formulas::limits::Limits;
 use judges::headings::RecordingHeading;
 use judges::headings::RuleHeading;
@@ -19,6 +16,9 @@ use judging::rewritten::Judgement;
 use judging::rewritten::judge_rewritten;
 use projection::project::Projection;
 use projection::project::project;
+use report::Report;
+use report::Rewritings;
+use report::Rewritten;
 
 // How many places the local trace has. An accepted recording is not refused.
 fn count_places(

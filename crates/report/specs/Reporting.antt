@@ -5,7 +5,7 @@ use mathlib.Core.List.{List, [], _∷_, _++_}
 use Rattle.definitions.specs.Limits.{maxInputBytes}
 use Rattle.definitions.specs.Lines.{tab, newline, digits}
 use Rattle.definitions.specs.Program.{yesNo, ownWord, plainWord, shortWord, localText}
-use Rattle.program.specs.declared.report.Report.{Report}
+use Rattle.report.specs.declared.Report.{Report}
 
 -- the longest output: the word `refused`, a number of two digits, two tabs, byte 10 and a line that is all of the longest input
 abbrev pub maxOutputBytes : ℕ

@@ -1,7 +1,7 @@
--- `program::report::put_report` meets its contract.
-use Rattle.program.proofs.ReportLaws.{report-laws}
-use Rattle.program.proofs.report.put_report.Statement.{statement}
-use Rattle.program.proofs.report.put_report.Tie as tie
+-- `report::put_report` meets its contract.
+use Rattle.report.proofs.ReportLaws.{report-laws}
+use Rattle.report.proofs.put_report.Statement.{statement}
+use Rattle.report.proofs.put_report.Tie as tie
 
 put-local-requires : tie.Need-put-local-requires
 put-local-requires c κs = search report-laws

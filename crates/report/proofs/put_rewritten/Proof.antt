@@ -1,7 +1,7 @@
--- `program::report::put_rewritten` meets its contract.
-use Rattle.program.proofs.ReportLaws.{rewritten-laws}
-use Rattle.program.proofs.report.put_rewritten.Statement.{statement}
-use Rattle.program.proofs.report.put_rewritten.Tie as tie
+-- `report::put_rewritten` meets its contract.
+use Rattle.report.proofs.ReportLaws.{rewritten-laws}
+use Rattle.report.proofs.put_rewritten.Statement.{statement}
+use Rattle.report.proofs.put_rewritten.Tie as tie
 
 put-requires : tie.Need-put-requires
 put-requires c κs = search rewritten-laws

@@ -1,7 +1,7 @@
--- `program::report::put_local` meets its contract.
-use Rattle.program.proofs.ReportLaws.{local-laws}
-use Rattle.program.proofs.report.put_local.Statement.{statement}
-use Rattle.program.proofs.report.put_local.Tie as tie
+-- `report::put_local` meets its contract.
+use Rattle.report.proofs.ReportLaws.{local-laws}
+use Rattle.report.proofs.put_local.Statement.{statement}
+use Rattle.report.proofs.put_local.Tie as tie
 
 slice-aggregate-put : tie.Need-slice-aggregate-put
 slice-aggregate-put c = search local-laws

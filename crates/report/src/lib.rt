@@ -1,11 +1,11 @@
-// What is printed, line by line.
+// What the program prints, line by line: of a refusal, and of an accepted rule and recording. Nothing is decided here.
 ghost use mathlib.Core.List.{_∷_};
 ghost use Prim.Native.Nat.{_+_, _≤_};
 ghost use lib.ListN.{length};
 ghost use Rattle.definitions.specs.Lines.{tab};
 ghost use Rattle.definitions.specs.Program.{yesNo, localText, refusedText};
 ghost use Rattle.printing.specs.Printing.{Printed};
-ghost use Rattle.program.specs.Reporting.{lineField, verdictsLine, ownLine, rewrittenLine, reportText};
+ghost use Rattle.report.specs.Reporting.{lineField, verdictsLine, ownLine, rewrittenLine, reportText};
 use fields::scan;
 use judges::verdicts::Verdicts;
 use printing::put;

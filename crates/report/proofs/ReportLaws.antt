@@ -10,8 +10,8 @@ use Rattle.definitions.specs.Lines.{bytes, tab, newline, digits}
 use Rattle.definitions.specs.Program.{yesNo, refusedWord, localWord, ownWord, plainWord, shortWord, localText, refusedText}
 use Rattle.printing.specs.Printing.{Printed}
 use Rattle.printing.proofs.PrintLaws.{printed-seq}
-use Rattle.program.specs.Reporting.{lineField, verdictsLine, ownLine, rewrittenLine, reportText}
-use Rattle.program.specs.declared.report.Report.{Report}
+use Rattle.report.specs.Reporting.{lineField, verdictsLine, ownLine, rewrittenLine, reportText}
+use Rattle.report.specs.declared.Report.{Report}
 
 from-start : (n m : ℕ) → n ≤ m → 0 + n ≤ m
 from-start n m h = omega arith

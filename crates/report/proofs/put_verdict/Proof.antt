@@ -1,7 +1,7 @@
--- `program::report::put_verdict` meets its contract.
-use Rattle.program.proofs.ReportLaws.{verdict-laws}
-use Rattle.program.proofs.report.put_verdict.Statement.{statement}
-use Rattle.program.proofs.report.put_verdict.Tie as tie
+-- `report::put_verdict` meets its contract.
+use Rattle.report.proofs.ReportLaws.{verdict-laws}
+use Rattle.report.proofs.put_verdict.Statement.{statement}
+use Rattle.report.proofs.put_verdict.Tie as tie
 
 put-byte-requires : tie.Need-put-byte-requires
 put-byte-requires c κs = search verdict-laws

@@ -1,7 +1,7 @@
--- `program::report::put_verdicts` meets its contract.
-use Rattle.program.proofs.ReportLaws.{verdicts-laws}
-use Rattle.program.proofs.report.put_verdicts.Statement.{statement}
-use Rattle.program.proofs.report.put_verdicts.Tie as tie
+-- `report::put_verdicts` meets its contract.
+use Rattle.report.proofs.ReportLaws.{verdicts-laws}
+use Rattle.report.proofs.put_verdicts.Statement.{statement}
+use Rattle.report.proofs.put_verdicts.Tie as tie
 
 put-verdict-requires : tie.Need-put-verdict-requires
 put-verdict-requires c κs = search verdicts-laws

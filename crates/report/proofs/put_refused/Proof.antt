@@ -1,7 +1,7 @@
--- `program::report::put_refused` meets its contract.
-use Rattle.program.proofs.ReportLaws.{refused-laws}
-use Rattle.program.proofs.report.put_refused.Statement.{statement}
-use Rattle.program.proofs.report.put_refused.Tie as tie
+-- `report::put_refused` meets its contract.
+use Rattle.report.proofs.ReportLaws.{refused-laws}
+use Rattle.report.proofs.put_refused.Statement.{statement}
+use Rattle.report.proofs.put_refused.Tie as tie
 
 slice-aggregate-put : tie.Need-slice-aggregate-put
 slice-aggregate-put c = search refused-laws

@@ -1,7 +1,7 @@
--- `program::report::put_line` meets its contract.
-use Rattle.program.proofs.ReportLaws.{line-laws}
-use Rattle.program.proofs.report.put_line.Statement.{statement}
-use Rattle.program.proofs.report.put_line.Tie as tie
+-- `report::put_line` meets its contract.
+use Rattle.report.proofs.ReportLaws.{line-laws}
+use Rattle.report.proofs.put_line.Statement.{statement}
+use Rattle.report.proofs.put_line.Tie as tie
 
 put-byte-requires : tie.Need-put-byte-requires
 put-byte-requires c κs = search line-laws

@@ -1,7 +1,7 @@
--- `program::report::put_own` meets its contract.
-use Rattle.program.proofs.ReportLaws.{own-laws}
-use Rattle.program.proofs.report.put_own.Statement.{statement}
-use Rattle.program.proofs.report.put_own.Tie as tie
+-- `report::put_own` meets its contract.
+use Rattle.report.proofs.ReportLaws.{own-laws}
+use Rattle.report.proofs.put_own.Statement.{statement}
+use Rattle.report.proofs.put_own.Tie as tie
 
 slice-aggregate-put : tie.Need-slice-aggregate-put
 slice-aggregate-put c = search own-laws
