@@ -15,13 +15,12 @@ use lib.Seq.{set-split, length-take-le, getD-set-same, getD-set-other}
 use Rattle.definitions.specs.Nodes as table
 use Rattle.definitions.specs.Nodes.{node, nodeOf, nodeWord, kindOf, kindNumber, operandSpan}
 use Rattle.definitions.specs.Bounded.{pick}
-use Rattle.definitions.specs.Rewriting.{Emit}
 use Rattle.formulas.specs.Meaning.{meaning, OfWord, Built, Wordable}
 use Rattle.formulas.specs.declared.node.Node.{Node}
 use Rattle.formulas.proofs.KindLaws.{number-of}
 use Rattle.images.specs.declared.blocks.Block.{Block}
 use Rattle.images.specs.Emission.{Room, Follows}
-use Rattle.images.specs.Blocks.{dot, rowsOf, formOf, FineRow, FineRows, rowsIn, IsBlock, SmallNames, become, Made, laid}
+use Rattle.images.specs.Blocks.{dot, Lists, rowsOf, formOf, FineRow, FineRows, rowsIn, IsBlock, SmallNames, become, Made, laid}
 use Rattle.images.proofs.EmitLaws.{seam-take, seam-drop, map-append, map-length}
 
 -- a test at each of the first words
@@ -50,52 +49,61 @@ all-there f (suc n) [] e = absurd (true≢false (sym e))
 all-there f (suc n) (w ∷ ws) e = omega (arith, all-there f n ws (right-of (f w) (allOf f n ws) e))
 
 abbrev isFine : ℕ → Bool
-isFine w = ltb (w % 256) 10 && (ltb (w / 256 % 4096) 17 && ltb (w / 1048576) 17)
+isFine w = ltb (w % 256) 10 && (ltb (w / 256 % 4096) 18 && ltb (w / 1048576) 18)
 
 fine-row : (w : ℕ) → isFine w ≡ true → FineRow w
 fine-row w e =
-    let f = right-of (ltb (w % 256) 10) (ltb (w / 256 % 4096) 17 && ltb (w / 1048576) 17) e in
+    let f = right-of (ltb (w % 256) 10) (ltb (w / 256 % 4096) 18 && ltb (w / 1048576) 18) e in
     record {
-      kind = omega (arith, ltb-true (w % 256) 10 (left-of (ltb (w % 256) 10) (ltb (w / 256 % 4096) 17 && ltb (w / 1048576) 17) e));
-      first = ltb-true (w / 256 % 4096) 17 (left-of (ltb (w / 256 % 4096) 17) (ltb (w / 1048576) 17) f);
-      second = ltb-true (w / 1048576) 17 (right-of (ltb (w / 256 % 4096) 17) (ltb (w / 1048576) 17) f);
+      kind = omega (arith, ltb-true (w % 256) 10 (left-of (ltb (w % 256) 10) (ltb (w / 256 % 4096) 18 && ltb (w / 1048576) 18) e));
+      first = ltb-true (w / 256 % 4096) 18 (left-of (ltb (w / 256 % 4096) 18) (ltb (w / 1048576) 18) f);
+      second = ltb-true (w / 1048576) 18 (right-of (ltb (w / 256 % 4096) 18) (ltb (w / 1048576) 18) f);
     }
 
-pub fine-rows : (n : ℕ) (ws : List ℕ) → allOf isFine n ws ≡ true → FineRows n ws
-fine-rows n ws e = record { there = all-there isFine n ws e; fine = λ i h. fine-row (getD ws i 0) (all-at isFine n ws i e h) }
+pub fine-rows : (n : ℕ) (ws : List ℕ) → n ≤ 11 → allOf isFine n ws ≡ true → FineRows n ws
+fine-rows n ws h e = record { few = h; there = all-there isFine n ws e; fine = λ i h. fine-row (getD ws i 0) (all-at isFine n ws i e h) }
 
--- what a block shows of itself, and what a list wants of its block
+-- what a block shows of itself, and what lists want of their block
 pub record Shown : Type 0 where
+  pub some : Bool
   pub few : Bool
   pub fine : Bool
-  pub size : ℕ
+  pub weak : ℕ
+  pub count : ℕ
   pub rows : List table.Node
 
 abbrev pub shown : Block → Shown
-shown k = record { few = ltb (k .count) 7; fine = allOf isFine (k .count) (k .rows); size = k .count; rows = rowsIn (k .count) (k .rows) }
+shown k = record {
+  some = ltb 0 (k .weak);
+  few = ltb (k .count) 12;
+  fine = allOf isFine (k .count) (k .rows);
+  weak = k .weak;
+  count = k .count;
+  rows = rowsIn (k .count) (k .rows);
+}
 
-abbrev pub wanted : List Emit → Shown
-wanted es = record { few = true; fine = true; size = length es; rows = rowsOf es }
+abbrev pub wanted : Lists → Shown
+wanted l = record {
+  some = true;
+  few = true;
+  fine = true;
+  weak = length (l .weak);
+  count = length (l .weak) + length (l .strong);
+  rows = rowsOf (l .weak ++ l .strong);
+}
 
-pub is-block : (es : List Emit) (k : Block) → shown k ≡ wanted es → IsBlock es k
-is-block es k e = record {
-  few = omega (arith, ltb-true (k .count) 7 (ap (λ (s : Shown). s .few) e));
-  size = ap (λ (s : Shown). s .size) e;
-  fine = fine-rows (k .count) (k .rows) (ap (λ (s : Shown). s .fine) e);
+pub is-block : (l : Lists) (k : Block) → shown k ≡ wanted l → IsBlock l k
+is-block l k e = record {
+  some = ltb-true 0 (k .weak) (ap (λ (s : Shown). s .some) e);
+  weak = ap (λ (s : Shown). s .weak) e;
+  count = ap (λ (s : Shown). s .count) e;
+  fine = fine-rows (k .count) (k .rows) (omega (arith, ltb-true (k .count) 12 (ap (λ (s : Shown). s .few) e))) (ap (λ (s : Shown). s .fine) e);
   same = ap (λ (s : Shown). s .rows) e;
 }
 
-pub weak-block : (weak : Bool) (f : ℕ) (k : Block) → weak ≡ true → IsBlock (formOf f true) k → IsBlock (formOf f weak) k
-weak-block weak f k e b = rw e b
-
-pub strong-block : (weak : Bool) (f : ℕ) (k : Block) → weak ≡ false → IsBlock (formOf f false) k → IsBlock (formOf f weak) k
-strong-block weak f k e b = rw e b
-
-pub ruleset reading-blocks = (needs, weak-block, strong-block)
-
 -- the block of form f, which is j
-pub form-block : (weak : Bool) (f j : ℕ) (k : Block) → f ≡ j → shown k ≡ wanted (formOf j weak) → IsBlock (formOf f weak) k
-form-block weak f j k e s = rw e (is-block (formOf j weak) k s)
+pub form-block : (f j : ℕ) (k : Block) → f ≡ j → shown k ≡ wanted (formOf j) → IsBlock (formOf f) k
+form-block f j k e s = rw e (is-block (formOf j) k s)
 
 six-up : (f : ℕ) → (f ≡ 0 → ⊥) → (f ≡ 1 → ⊥) → (f ≡ 2 → ⊥) → (f ≡ 3 → ⊥) → (f ≡ 4 → ⊥) → (f ≡ 5 → ⊥) → 6 ≤ f
 six-up f n0 n1 n2 n3 n4 n5 = omega arith
@@ -110,10 +118,10 @@ only-last f h n0 n1 n2 n3 n4 n5 n6 n7 n8 n9 = ten-left f (six-up f n0 n1 n2 n3 n
 pub row-kind : (w : ℕ) (t : Node) → OfWord w t → FineRow w → t .kind ≤ 9
 row-kind w t o m = omega (arith, o .kind, m .kind)
 
-pub row-first : (w : ℕ) (t : Node) → OfWord w t → FineRow w → t .first < 17
+pub row-first : (w : ℕ) (t : Node) → OfWord w t → FineRow w → t .first < 18
 row-first w t o m = omega (arith, o .first, m .first)
 
-pub row-second : (w : ℕ) (t : Node) → OfWord w t → FineRow w → t .second < 17
+pub row-second : (w : ℕ) (t : Node) → OfWord w t → FineRow w → t .second < 18
 row-second w t o m = omega (arith, o .second, m .second)
 
 pub is-made : (w : ℕ) (f : List ℕ) (t r : Node) → OfWord w t → FineRow w → SmallNames f → Built (kindOf (t .kind)) (getD f (t .first) 0) (getD f (t .second) 0) r → Made w f r
@@ -150,7 +158,7 @@ laid-more f n i [] d h = absurd (not-suc-le-zero h)
 laid-more f n zero (t ∷ ts) d h = refl
 laid-more f n (suc i) (t ∷ ts) d h = ap (λ (l : List table.Node). become f t ∷ l) (laid-more (set f dot n) (suc n) i ts d (le-of-suc-le-suc h))
 
-small-set : (f : List ℕ) (v : ℕ) → length f ≡ 17 → v < operandSpan → SmallNames f → SmallNames (set f dot v)
+small-set : (f : List ℕ) (v : ℕ) → length f ≡ 18 → v < operandSpan → SmallNames f → SmallNames (set f dot v)
 small-set f v l h s = record { low = λ o. go o (ℕ-discrete o dot) }
   where
     go : (o : ℕ) → Dec (o ≡ dot) → getD (set f dot v) o 0 < operandSpan
@@ -162,7 +170,7 @@ pub record Laying (f : List ℕ) (at : ℕ) (ws : List ℕ) (count i : ℕ) (o o
   pub few : i ≤ count
   pub room : Room count at o
   pub rows : FineRows count ws
-  pub wide : length F ≡ 17
+  pub wide : length F ≡ 18
   pub small : SmallNames F
   pub names : F ≡ moved f at i
   pub done : Follows (laid f at (rowsIn i ws)) o at (at + i) o′
@@ -188,14 +196,14 @@ follows-more ns n o o′ at m w h e p =
           (append-assoc (take at o) (map nodeWord ns) (nodeWord n ∷ drop (m + 1) o) ∙ ap (λ (y : List ℕ). take at o ++ y) (sym (append-assoc (map nodeWord ns) (nodeWord n ∷ []) (drop (m + 1) o))));
     }
 
-pub laying-start : (f : List ℕ) (at : ℕ) (ws : List ℕ) (count : ℕ) (o : List ℕ) → length f ≡ 17 → Room count at o → FineRows count ws → SmallNames f →
+pub laying-start : (f : List ℕ) (at : ℕ) (ws : List ℕ) (count : ℕ) (o : List ℕ) → length f ≡ 18 → Room count at o → FineRows count ws → SmallNames f →
     Laying f at ws count 0 o o f
 laying-start f at ws count o l r t s =
     record { few = omega arith; room = r; rows = t; wide = l; small = s; names = refl; done = follows-none o at (omega (arith, r .low, r .held)) }
 
 module _ (f : List ℕ) (at : ℕ) (ws : List ℕ) (count i : ℕ) (o o′ F : List ℕ) (p : Laying f at ws count i o o′ F) (h : i < count) where
-  pub laying-there : i < length ws
-  laying-there = omega (arith, p .rows .there)
+  pub laying-there : i < 11
+  laying-there = omega (arith, p .rows .few)
 
   pub laying-fine : FineRow (getD ws i 0)
   laying-fine = p .rows .fine i h

@@ -1,42 +1,30 @@
 -- The images of one node of a rule: one law for each return.
 use mathlib.Core.Bool.{Bool, true, false, not, _&&_, _||_}
-use mathlib.Core.List.{List, [], _∷_, map}
+use mathlib.Core.List.{List, [], _∷_, _++_, map}
 use mathlib.Core.Path.{_≡_, refl, sym, ap, _∙_}
 use Prim.Native.Nat.{ℕ, zero, suc, _+_, _-_, _<_, _≤_}
 use native.Mathlib.Omega.{arith}
 use borrow.Author.Needs.{needs}
 use borrow.Author.Tests.{ne-eqb}
 use lib.Dec.{eqb, lit≤}
-use mir.Syntax.{w16}
+use mir.Syntax.{w16, w64}
 use mir.Val.{Fits}
 use native.Mathlib.Nat.{lt-of-lt-of-le}
-use lib.ListN.{length, set, getD, length-take}
+use lib.ListN.{length, set, getD, length-map}
+use lib.Seq.{length-take-le}
 use Rattle.definitions.specs.Bounded.{pick}
 use Rattle.definitions.specs.Nodes as words
 use Rattle.definitions.specs.Nodes.{Kind, node, nodeOf, nodeWord, kindOf, operandSpan}
 use Rattle.definitions.specs.Rewriting as table
-use Rattle.definitions.specs.Rewriting.{Emit, emitted, opening, closing, imageOf}
+use Rattle.definitions.specs.Rewriting.{Emit, emitted, opening, closing}
 use Rattle.formulas.proofs.KindLaws.{kind-cases}
 use Rattle.images.specs.Emission.{Room, Emitted, Follows, Holds}
-use Rattle.images.specs.Blocks.{a, dot, rowsOf, forms, formOf, FineRows, rowsIn, IsBlock, naming, SmallNames, laid}
-use Rattle.images.specs.Images.{meant, Small, Named, partOf, formBy, tolerantBy, Parted, Stepped}
+use Rattle.images.specs.Blocks.{dot, Lists, rowsOf, forms, formOf, closingLists, FineRows, rowsIn, IsBlock, naming, SmallNames, laid}
+use Rattle.images.specs.Images.{meant, Small, Begun, Named, partOf, formBy, tolerantBy, Stepped, ClosedBy}
 use Rattle.images.specs.declared.blocks.Block.{Block}
 use Rattle.images.specs.declared.image.Image.{Image}
 use Rattle.images.proofs.EmitLaws.{emitted-follows}
 use Rattle.images.proofs.BlockLaws.{fine-rows}
-
-pub reading-weak : (weak : Bool) (i : table.Image) → weak ≡ true → i .weak ≡ imageOf weak i
-reading-weak weak i e = rw e
-
-pub reading-strong : (weak : Bool) (i : table.Image) → weak ≡ false → i .strong ≡ imageOf weak i
-reading-strong weak i e = rw e
-
-pub ruleset reading-laws = (reading-weak, reading-strong)
-
--- the image of one reading is small
-reading-small : (weak : Bool) (i : Image) (r : ℕ) → r ≡ imageOf weak (meant i) → Small i → r < operandSpan
-reading-small true i r e s = omega (arith, s .weak)
-reading-small false i r e s = omega (arith, s .strong)
 
 -- every name stands for a small number
 data Low : List ℕ → Type 0 where
@@ -48,35 +36,37 @@ low-at none o = omega arith
 low-at (more h r) zero = h
 low-at (more h r) (suc o) = low-at r o
 
-pub naming-small : (j u v w g x n : ℕ) → j < operandSpan → u < operandSpan → v < operandSpan → w < operandSpan → g < operandSpan → x < operandSpan → n < operandSpan →
-    SmallNames (naming j u v w g x n)
-naming-small j u v w g x n hj hu hv hw hg hx hn = record {
+pub naming-small : (j a a′ b b′ x g n : ℕ) → j < operandSpan → a < operandSpan → a′ < operandSpan → b < operandSpan → b′ < operandSpan → x < operandSpan →
+    g < operandSpan → n < operandSpan → SmallNames (naming j a a′ b b′ x g n)
+naming-small j a a′ b b′ x g n hj ha ha′ hb hb′ hx hg hn = record {
   low = low-at (
       more {x = 0} (omega arith) (more {x = 1} (omega arith) (more {x = 2} (omega arith) (more {x = 3} (omega arith) (more {x = 4} (omega arith)
       (more {x = 5} (omega arith) (more {x = 6} (omega arith) (more {x = 7} (omega arith) (more {x = 8} (omega arith) (more {x = 9} (omega arith)
-      (more hj (more hu (more hv (more hw (more hg (more hx (more hn none)))))))))))))))));
+      (more hj (more ha (more ha′ (more hb (more hb′ (more hx (more hg (more hn none))))))))))))))))));
 }
 
-pub names-are : (weak : Bool) (at x n : ℕ) (p q : Image) (u v w : ℕ) → u ≡ imageOf weak (meant p) → v ≡ imageOf weak (meant q) → w ≡ imageOf (not weak) (meant p) →
-    at < operandSpan → x < operandSpan → n < operandSpan → Small p → Small q → Named weak at x n (meant p) (meant q) (naming (at - 1) u v w at x n)
-names-are weak at x n p q u v w eu ev ew ha hx hn sp sq = record {
-  same = rw (eu, ev, ew);
-  small = naming-small (at - 1) u v w at x n (omega arith) (reading-small weak p u eu sp) (reading-small weak q v ev sq) (reading-small (not weak) p w ew sp) ha hx hn;
+pub names-are : (at weak n : ℕ) (p q : Image) → Begun at weak → n < operandSpan → Small p → Small q →
+    Named at weak n (meant p) (meant q) (naming (at - 1) (p .weak) (p .strong) (q .weak) (q .strong) at (at + weak) n)
+names-are at weak n p q h hn sp sq = record {
+  same = refl;
+  small = naming-small (at - 1) (p .weak) (p .strong) (q .weak) (q .strong) at (at + weak) n (omega (arith, h .low)) (omega (arith, sp .weak))
+      (omega (arith, sp .strong)) (omega (arith, sq .weak)) (omega (arith, sq .strong)) (omega (arith, h .low)) (h .low) hn;
 }
 
 pub ruleset names-laws = (needs, names-are)
 
-pub opened-small : SmallNames (naming 0 0 0 0 0 0 0)
-opened-small = naming-small 0 0 0 0 0 0 0 (omega arith) (omega arith) (omega arith) (omega arith) (omega arith) (omega arith) (omega arith)
+pub opened-small : SmallNames (naming 0 0 0 0 0 0 0 0)
+opened-small =
+    naming-small 0 0 0 0 0 0 0 0 (omega arith) (omega arith) (omega arith) (omega arith) (omega arith) (omega arith) (omega arith) (omega arith)
 
 -- the opening's rows, as the code has them
 abbrev opened : List ℕ
 opened = map nodeWord opening
 
 pub opened-fine : FineRows 11 opened
-opened-fine = fine-rows 11 opened refl
+opened-fine = fine-rows 11 opened (omega arith) refl
 
-pub opening-laid : (o o′ : List ℕ) (r : ℕ) → Follows (laid (naming 0 0 0 0 0 0 0) 0 (rowsIn 11 opened)) o 0 r o′ → Holds opening o r o′
+pub opening-laid : (o o′ : List ℕ) (r : ℕ) → Follows (laid (naming 0 0 0 0 0 0 0 0) 0 (rowsIn 11 opened)) o 0 r o′ → Holds opening o r o′
 unfolding kindOf pick
 opening-laid o o′ r p = record { next = p .next; inside = p .inside; size = p .size; words = p .words }
 
@@ -131,123 +121,152 @@ pub form-there : (short own p q : Bool) (K : Kind) (f : ℕ) → f ≡ formBy sh
 form-there short own p q K f e = rw e (form-low short own p q K)
 
 -- the lists of a form, their names replaced, are the nodes that the definitions emit
-module _ (u v w x n at j : ℕ) where
-  abbrev Laid : List Emit → List words.Node
-  Laid es = laid (naming j u v w at x n) at (rowsOf es)
+module _ (P Q : table.Image) (n at g j : ℕ) where
+  abbrev Laid : Lists → List words.Node
+  Laid l = laid (naming j (P .weak) (P .strong) (Q .weak) (Q .strong) at g n) at (rowsOf (l .weak ++ l .strong))
 
-  next-emits : (c weak : Bool) → emitted j at (pick c (table.shortNext weak u) (table.plainNext weak u)) ≡ Laid (formOf (pick c 9 4) weak)
+  abbrev Emits : Bool → Bool → Kind → List words.Node
+  Emits short own K = emitted j at (partOf short own P Q at at true K n ++ partOf short own P Q at g false K n)
+
+  atom-emits : (short own : Bool) → Emits short own words.Atom ≡ Laid (formOf (pick own 8 1))
+  unfolding pick partOf forms
+  atom-emits short true = refl
+  atom-emits short false = refl
+
+  next-emits : (c : Bool) → emitted j at (pick c (table.shortNext true (P .weak)) (table.plainNext true (P .weak)) ++ pick c (table.shortNext false (P .strong)) (table.plainNext false (P .strong)))
+      ≡ Laid (formOf (pick c 9 4))
   unfolding pick forms
-  next-emits true true = refl
-  next-emits true false = refl
-  next-emits false true = refl
-  next-emits false false = refl
+  next-emits true = refl
+  next-emits false = refl
 
-  until-emits : (c weak : Bool) → emitted j at (pick c (table.shortUntil weak u v) (table.plainUntil weak at u v)) ≡ Laid (formOf (pick c 10 5) weak)
+  until-emits : (c : Bool) → emitted j at (pick c (table.shortUntil true (P .weak) (Q .weak)) (table.plainUntil true at (P .weak) (Q .weak))
+      ++ pick c (table.shortUntil false (P .strong) (Q .strong)) (table.plainUntil false g (P .strong) (Q .strong)))
+      ≡ Laid (formOf (pick c 10 5))
   unfolding pick forms
-  until-emits true true = refl
-  until-emits true false = refl
-  until-emits false true = refl
-  until-emits false false = refl
+  until-emits true = refl
+  until-emits false = refl
 
-  atom-emits : (own weak : Bool) → emitted j at (pick own (table.itself weak words.Atom n) (table.foreignAtom weak x n)) ≡ Laid (formOf (pick own 8 1) weak)
+  form-emits : (short own : Bool) (k : ℕ) → k ≤ 7 → Emits short own (kindOf k) ≡ Laid (formOf (formBy short own (P .tolerant) (Q .tolerant) (kindOf k)))
+  unfolding pick partOf forms
+  form-emits short own =
+      kind-cases (λ k K. k ≤ 7 → Emits short own K ≡ Laid (formOf (formBy short own (P .tolerant) (Q .tolerant) K)))
+      (λ h. refl) (λ h. atom-emits short own) (λ h. refl) (λ h. refl) (λ h. next-emits (short && P .tolerant))
+      (λ h. until-emits (short && (P .tolerant && Q .tolerant))) (λ h. refl) (λ h. refl)
+      (λ h. absurd (omega arith)) (λ h. absurd (omega arith)) (λ k l h. absurd (omega arith))
+
+-- how many nodes one image is
+module _ (short own : Bool) (P Q : table.Image) (n at : ℕ) where
+  atom-count : (c : Bool) → length ((formOf (pick c 8 1)) .weak) ≡ length (pick c (table.itself true words.Atom n) (table.foreignAtom true at n))
   unfolding pick forms
-  atom-emits true true = refl
-  atom-emits true false = refl
-  atom-emits false true = refl
-  atom-emits false false = refl
+  atom-count true = refl
+  atom-count false = refl
 
-  true-emits : (weak : Bool) → emitted j at (table.itself weak words.True 0) ≡ Laid (formOf 0 weak)
-  unfolding forms
-  true-emits true = refl
-  true-emits false = refl
+  next-count : (c : Bool) → length ((formOf (pick c 9 4)) .weak) ≡ length (pick c (table.shortNext true (P .weak)) (table.plainNext true (P .weak)))
+  unfolding pick forms
+  next-count true = refl
+  next-count false = refl
 
-form-emits : (short own weak : Bool) (P Q : table.Image) (x n at j k : ℕ) → k ≤ 7 →
-    emitted j at (partOf short own P Q x at weak (kindOf k) n)
-    ≡ laid (naming j (imageOf weak P) (imageOf weak Q) (imageOf (not weak) P) at x n) at (rowsOf (formOf (formBy short own (P .tolerant) (Q .tolerant) (kindOf k)) weak))
-unfolding pick partOf forms
-form-emits short own weak P Q x n at j =
-    let u = imageOf weak P in
-    let v = imageOf weak Q in
-    let w = imageOf (not weak) P in
-    kind-cases (λ k K. k ≤ 7 → emitted j at (partOf short own P Q x at weak K n) ≡ Laid u v w x n at j (formOf (formBy short own (P .tolerant) (Q .tolerant) K) weak))
-    (λ h. true-emits u v w x n at j weak) (λ h. atom-emits u v w x n at j own weak) (λ h. refl) (λ h. refl) (λ h. next-emits u v w x n at j (short && P .tolerant) weak)
-    (λ h. until-emits u v w x n at j (short && (P .tolerant && Q .tolerant)) weak) (λ h. refl) (λ h. refl)
-    (λ h. absurd (omega arith)) (λ h. absurd (omega arith)) (λ k l h. absurd (omega arith))
+  until-count : (c : Bool) → length ((formOf (pick c 10 5)) .weak)
+      ≡ length (pick c (table.shortUntil true (P .weak) (Q .weak)) (table.plainUntil true at (P .weak) (Q .weak)))
+  unfolding pick forms
+  until-count true = refl
+  until-count false = refl
+
+  weak-count : (k : ℕ) → k ≤ 7 →
+      length ((formOf (formBy short own (P .tolerant) (Q .tolerant) (kindOf k))) .weak) ≡ length (partOf short own P Q at at true (kindOf k) n)
+  unfolding pick partOf forms
+  weak-count =
+      kind-cases (λ k K. k ≤ 7 → length ((formOf (formBy short own (P .tolerant) (Q .tolerant) K)) .weak) ≡ length (partOf short own P Q at at true K n))
+      (λ h. refl) (λ h. atom-count own) (λ h. refl) (λ h. refl) (λ h. next-count (short && P .tolerant))
+      (λ h. until-count (short && (P .tolerant && Q .tolerant))) (λ h. refl) (λ h. refl)
+      (λ h. absurd (omega arith)) (λ h. absurd (omega arith)) (λ k l h. absurd (omega arith))
 
 emitted-count : (j n : ℕ) (es : List Emit) → length (emitted j n es) ≡ length es
 emitted-count j n [] = refl
 emitted-count j n (e ∷ es) = rw (emitted-count n (suc n) es)
 
+-- a block is laid: its lists are emitted
+module _ (es : List Emit) (l : Lists) (k : Block) (F o o′ : List ℕ) (at r : ℕ) (b : IsBlock l k) (e : emitted (at - 1) at es ≡ laid F at (rowsOf (l .weak ++ l .strong)))
+    (p : Follows (laid F at (rowsIn (k .count) (k .rows))) o at r o′) where
+  emitted-laid : Emitted es o at r o′
+  emitted-laid =
+      let h : emitted (at - 1) at es ≡ laid F at (rowsIn (k .count) (k .rows)) = e ∙ ap (laid F at) (sym (b .same)) in
+      emitted-follows es (laid F at (rowsIn (k .count) (k .rows))) o o′ at r h (sym (emitted-count (at - 1) at es) ∙ ap length h) p
+
 laid-count : (f : List ℕ) (n : ℕ) (ts : List words.Node) → length (laid f n ts) ≡ length ts
 laid-count f n [] = refl
 laid-count f n (t ∷ ts) = rw (laid-count (set f dot n) (suc n) ts)
 
--- a list's block is laid: the list is emitted
-emitted-laid : (es es′ : List Emit) (k : Block) (F o o′ : List ℕ) (at r : ℕ) → IsBlock es′ k → emitted (at - 1) at es ≡ laid F at (rowsOf es′) →
-    Follows (laid F at (rowsIn (k .count) (k .rows))) o at r o′ → Emitted es o at r o′
-emitted-laid es es′ k F o o′ at r b e p =
-    let h : emitted (at - 1) at es ≡ laid F at (rowsIn (k .count) (k .rows)) = e ∙ ap (laid F at) (sym (b .same)) in
-    emitted-follows es (laid F at (rowsIn (k .count) (k .rows))) o o′ at r h (sym (emitted-count (at - 1) at es) ∙ ap length h) p
+-- the next number after a block
+end-is : (l : Lists) (k : Block) (F o o′ : List ℕ) (at r : ℕ) → IsBlock l k → Follows (laid F at (rowsIn (k .count) (k .rows))) o at r o′ → r ≡ at + k .count
+end-is l k F o o′ at r b p =
+    let m : length (map nodeOf (k .rows)) ≡ length (k .rows) = length-map (k .rows) nodeOf in
+    let t : length (rowsIn (k .count) (k .rows)) ≡ k .count = length-take-le (k .count) (map nodeOf (k .rows)) (omega (arith, b .fine .there)) in
+    omega (arith, p .next, laid-count F at (rowsIn (k .count) (k .rows)))
 
--- a block's nodes are at most six
-few-more : (es : List Emit) (k : Block) (F o o′ : List ℕ) (at r : ℕ) → IsBlock es k → Follows (laid F at (rowsIn (k .count) (k .rows))) o at r o′ → (at ≤ r) × (r ≤ at + 6)
-few-more es k F o o′ at r b p =
-    let l : length (laid F at (rowsIn (k .count) (k .rows))) ≤ k .count = omega (arith, laid-count F at (rowsIn (k .count) (k .rows)), length-take (k .count) (map nodeOf (k .rows))) in
-    (omega (arith, p .next), omega (arith, p .next, b .few))
+weak-below : (l : Lists) (k : Block) → IsBlock l k → k .weak ≤ k .count
+weak-below l k b = omega (arith, b .weak, b .count)
 
-pub closing-emitted : (weak : Bool) (at : ℕ) (P : table.Image) (k : Block) (F o o′ : List ℕ) (r : ℕ) → IsBlock (closing weak a) k → Named weak at 0 0 P P F →
-    Follows (laid F at (rowsIn (k .count) (k .rows))) o at r o′ → Emitted (closing weak (imageOf weak P)) o at r o′
-closing-emitted true at P k F o o′ r b n p = emitted-laid (closing true (P .weak)) (closing true a) k F o o′ at r b (rw (n .same)) p
-closing-emitted false at P k F o o′ r b n p = emitted-laid (closing false (P .strong)) (closing false a) k F o o′ at r b (rw (n .same)) p
+-- room for the block of a node
+module _ (l : Lists) (k : Block) (at : ℕ) (o : List ℕ) (b : IsBlock l k) (h : Room 11 at o) where
+  pub block-begun : 0 < at → Begun at (k .weak)
+  block-begun z = record { some = z; low = omega (arith, weak-below l k b, b .fine .few, h .low) }
 
-pub closing-room : (weak : Bool) (k : Block) (at : ℕ) (o : List ℕ) → IsBlock (closing weak a) k → Room 4 at o → Room (k .count) at o
-closing-room true k at o b h = record { low = omega (arith, b .size, h .low); held = h .held }
-closing-room false k at o b h = record { low = omega (arith, b .size, h .low); held = h .held }
+  pub block-room : Room (k .count) at o
+  block-room = record { low = omega (arith, b .fine .few, h .low); held = h .held }
 
-pub ruleset closing-laws = (needs, closing-room, closing-emitted)
+  pub weak-fits : Fits w16 (at + k .weak - 1)
+  weak-fits = record { fits = lt-of-lt-of-le {m = 4096} (omega (arith, weak-below l k b, b .fine .few, h .low)) (lit≤ tt) }
 
-pub part-room : (es : List Emit) (k : Block) (at : ℕ) (o : List ℕ) → IsBlock es k → Room 6 at o → Room (k .count) at o
-part-room es k at o b h = record { low = omega (arith, b .few, h .low); held = h .held }
+  pub weak-sum : Fits w64 (at + k .weak)
+  weak-sum = record { fits = lt-of-lt-of-le {m = 4096} (omega (arith, weak-below l k b, b .fine .few, h .low)) (lit≤ tt) }
 
-pub parted : (short own weak : Bool) (P Q : table.Image) (x n c f at : ℕ) (k : Block) (F o o′ : List ℕ) (r : ℕ) → Follows (laid F at (rowsIn (k .count) (k .rows))) o at r o′ →
-    IsBlock (formOf f weak) k → Named weak at x n P Q F → f ≡ formBy short own (P .tolerant) (Q .tolerant) (kindOf c) → c ≤ 7 →
-    Parted (partOf short own P Q x at weak (kindOf c) n) o at r o′
-parted short own weak P Q x n c f at k F o o′ r p b m e h =
-    let few = few-more (formOf f weak) k F o o′ at r b p in
+pub strong-fits : (l : Lists) (k : Block) (F o o′ : List ℕ) (at r : ℕ) → Follows (laid F at (rowsIn (k .count) (k .rows))) o at r o′ → IsBlock l k → Room 11 at o → Fits w16 (r - 1)
+strong-fits l k F o o′ at r p b h = record { fits = lt-of-lt-of-le {m = 4096} (omega (arith, end-is l k F o o′ at r b p, b .fine .few, h .low)) (lit≤ tt) }
+
+pub stepped : (short own : Bool) (P Q : table.Image) (c x y f : ℕ) (k : Block) (F o o′ : List ℕ) (at r : ℕ) (t : Bool) →
+    Follows (laid F at (rowsIn (k .count) (k .rows))) o at r o′ → IsBlock (formOf f) k → Named at (k .weak) x P Q F →
+    f ≡ formBy short own (P .tolerant) (Q .tolerant) (kindOf c) → c ≤ 7 → t ≡ tolerantBy own (P .tolerant) (Q .tolerant) (kindOf c) →
+    Stepped short own P Q (node (kindOf c) x y) o at (record { weak = at + k .weak - 1; strong = r - 1; tolerant = t }) o′
+stepped short own P Q c x y f k F o o′ at r t p b m ef h et =
+    let end = end-is (formOf f) k F o o′ at r b p in
+    let low = weak-below (formOf f) k b in
+    let back : r - 1 + 1 ≡ r = omega (arith, b .some) in
+    let same : emitted (at - 1) at (partOf short own P Q at at true (kindOf c) x ++ partOf short own P Q at (at + k .weak) false (kindOf c) x)
+    ≡ laid F at (rowsOf ((formOf f) .weak ++ (formOf f) .strong)) = form-emits P Q x at (at + k .weak) (at - 1) short own c h ∙ rw (m .same, ef) in
+    let count : k .weak ≡ length (partOf short own P Q at at true (kindOf c) x) =
+    b .weak ∙ (ap (λ (d : ℕ). length ((formOf d) .weak)) ef ∙ weak-count short own P Q x at c h) in
     record {
-      emits = emitted-laid (partOf short own P Q x at weak (kindOf c) n) (formOf f weak) k F o o′ at r b (form-emits short own weak P Q x n at (at - 1) c h ∙ rw (m .same, e)) p;
-      grown = few .0;
-      few = few .1;
+      middle = at + k .weak;
+      weakly = omega (arith, count);
+      emits = rw back (emitted-laid _ (formOf f) k F o o′ at r b same p);
+      weak = omega (arith, b .some);
+      grown = omega (arith, b .some);
+      most = omega (arith, b .some, b .fine .few);
+      tolerant = et;
     }
 
-pub ruleset part-laws = (needs, form-there, part-room, parted)
+pub ruleset step-laws = (needs, form-there, block-begun, block-room, weak-fits, weak-sum, strong-fits, stepped)
 
--- the first image is there: its next number is m
-module _ (es : List Emit) (o o′ : List ℕ) (at m : ℕ) (p : Parted es o at m o′) (h : Room 12 at o) where
-  pub middle-room : Room 6 m o′
-  middle-room = record { low = omega (arith, p .few, h .low); held = omega (arith, p .emits .size, h .held) }
+-- the closing's rows, as the code has them
+abbrev closingRows : List ℕ
+closingRows = map nodeWord (rowsOf (closingLists .weak ++ closingLists .strong)) ++ (0 ∷ 0 ∷ 0 ∷ [])
 
-  pub middle-fits : Fits w16 (m - 1)
-  middle-fits = record { fits = lt-of-lt-of-le {m = 4096} (omega (arith, p .few, h .low)) (lit≤ tt) }
+pub closing-fine : FineRows 8 closingRows
+closing-fine = fine-rows 8 closingRows (omega arith) refl
 
--- the later premise first: its end is the goal's
-pub end-fits : (es es′ : List Emit) (o o′ o″ : List ℕ) (at m r : ℕ) → Parted es′ o′ m r o″ → Parted es o at m o′ → Room 12 at o → Fits w16 (r - 1)
-end-fits es es′ o o′ o″ at m r q p h = record { fits = lt-of-lt-of-le {m = 4096} (omega (arith, q .few, p .few, h .low)) (lit≤ tt) }
+pub closing-begun : (at : ℕ) (o : List ℕ) → 0 < at → Room 8 at o → Begun at 4
+closing-begun at o z h = record { some = z; low = omega (arith, h .low) }
 
-pub stepped : (short own : Bool) (P Q : table.Image) (K : Kind) (x y : ℕ) (o o′ o″ : List ℕ) (at m r : ℕ) (t : Bool) →
-    Parted (partOf short own P Q at at true K x) o at m o′ → Parted (partOf short own P Q at m false K x) o′ m r o″ → 0 < at →
-    t ≡ tolerantBy own (P .tolerant) (Q .tolerant) K → Stepped short own P Q (node K x y) o at (record { weak = m - 1; strong = r - 1; tolerant = t }) o″
-stepped short own P Q K x y o o′ o″ at m r t p q z e =
-    let back : r - 1 + 1 ≡ r = omega (arith, p .grown, q .grown) in
+pub closed-by : (i : table.Image) (at : ℕ) (F o o′ : List ℕ) (r : ℕ) → Follows (laid F at (rowsIn 8 closingRows)) o at r o′ → Named at 4 0 i i F → 0 < at →
+    ClosedBy i o at (record { count = r; weak = at + 4 - 1; strong = r - 1 }) o′
+unfolding kindOf pick
+closed-by i at F o o′ r p n z =
+    let l : r ≡ at + 8 = p .next ∙ ap (λ (k : ℕ). at + k) (laid-count F at (rowsIn 8 closingRows)) in
     record {
-      middle = m;
-      between = o′;
-      weakly = p .emits;
-      strongly = rw back (q .emits);
-      weak = omega (arith, p .grown);
-      grown = (p .grown, omega (arith, p .grown, q .grown));
-      most = omega (arith, p .grown, q .grown, p .few, q .few);
-      tolerant = e;
+      emits = emitted-follows (closing true (i .weak) ++ closing false (i .strong)) (laid F at (rowsIn 8 closingRows)) o o′ at r (rw (n .same)) (sym (laid-count F at (rowsIn 8 closingRows))) p;
+      weak = omega arith;
+      strong = omega arith;
     }
 
-pub ruleset step-laws = (needs, middle-room, middle-fits, stepped)
+pub ruleset closing-laws = (needs, closing-fine, closing-begun, closed-by)

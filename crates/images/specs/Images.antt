@@ -1,15 +1,16 @@
 -- The images of one node of a rule, from those of its operands: `part` and `tolerantOf` of the definitions with the operands' images looked up.
 use mathlib.Core.Bool.{Bool, true, false, not, _&&_}
-use mathlib.Core.List.{List, [], _∷_}
+use mathlib.Core.List.{List, [], _∷_, _++_}
 use mathlib.Core.Path.{_≡_}
 use Prim.Native.Nat.{ℕ, _+_, _-_, _<_, _≤_}
+use lib.ListN.{length}
 use Rattle.definitions.specs.Limits.{maxTableNodes}
 use Rattle.definitions.specs.Bounded.{pick}
-use Rattle.definitions.specs.Nodes.{Kind, True, Atom, Not, Or, Next, Until, Prev, Since, Run, End, Unknown, Node, kindOf, operandSpan}
+use Rattle.definitions.specs.Nodes.{Kind, True, Atom, Not, Or, Next, Until, Prev, Since, Run, End, Unknown, Node, operandSpan}
 use Rattle.definitions.specs.Rewriting as table
-use Rattle.definitions.specs.Rewriting.{Emit, #, one, two, itself, foreignAtom, plainNext, plainUntil, plainPrev, plainSince, shortNext, shortUntil, imageOf}
+use Rattle.definitions.specs.Rewriting.{Emit, #, one, two, itself, foreignAtom, plainNext, plainUntil, plainPrev, plainSince, shortNext, shortUntil, closing, imageOf}
 use Rattle.images.specs.declared.image.Image.{Image}
-use Rattle.images.specs.declared.image.Turn.{Turn}
+use Rattle.images.specs.declared.image.Tops.{Tops}
 use Rattle.images.specs.Emission.{Emitted}
 use Rattle.images.specs.Blocks.{naming, SmallNames}
 
@@ -22,9 +23,14 @@ pub record Small (i : Image) : Type 0 where
   pub weak : i .weak < maxTableNodes
   pub strong : i .strong < maxTableNodes
 
--- r says what the operands of rows stand for in the first row of an image
-pub record Named (weak : Bool) (at x number : ℕ) (P Q : table.Image) (r : List ℕ) : Type 0 where
-  pub same : r ≡ naming (at - 1) (imageOf weak P) (imageOf weak Q) (imageOf (not weak) P) at x number
+-- a block begins at number `at`, and so many of its rows are the weak image's
+pub record Begun (at weak : ℕ) : Type 0 where
+  pub some : 0 < at
+  pub low : at + weak < operandSpan
+
+-- r says what the operands of rows stand for as the block begins
+pub record Named (at weak n : ℕ) (P Q : table.Image) (r : List ℕ) : Type 0 where
+  pub same : r ≡ naming (at - 1) (P .weak) (P .strong) (Q .weak) (Q .strong) at (at + weak) n
   pub small : SmallNames r
 
 -- `part` of the definitions: `own` is whether the atom is own, P and Q are the operands' images
@@ -70,31 +76,18 @@ tolerantBy own p q Run = false
 tolerantBy own p q End = false
 tolerantBy own p q Unknown = false
 
--- a turn at a node of an accepted rule
-pub record Turnable (t : Turn) : Type 0 where
-  pub kind : t .n .kind ≤ 7
-  pub first : t .n .first < operandSpan
-  pub number : t .x < operandSpan
-  pub left : Small (t .p)
-  pub right : Small (t .q)
-
--- what is emitted for one image
-abbrev pub turnPart : Turn → ℕ → Bool → List Emit
-turnPart t g weak = partOf (t .short) (t .own) (meant (t .p)) (meant (t .q)) (t .x) g weak (kindOf (t .n .kind)) (t .n .first)
-
--- it is emitted, and is at most six nodes
-pub record Parted (es : List Emit) (o : List ℕ) (at r : ℕ) (o′ : List ℕ) : Type 0 where
-  pub emits : Emitted es o at r o′
-  pub grown : at ≤ r
-  pub few : r ≤ at + 6
-
 -- both images of node n are emitted from node `at` on, and r is what they are
 pub record Stepped (short own : Bool) (P Q : table.Image) (n : Node) (o : List ℕ) (at : ℕ) (r : Image) (o′ : List ℕ) : Type 0 where
   pub middle : ℕ
-  pub between : List ℕ
-  pub weakly : Emitted (partOf short own P Q at at true (n .kind) (n .first)) o at middle between
-  pub strongly : Emitted (partOf short own P Q at middle false (n .kind) (n .first)) between middle (r .strong + 1) o′
+  pub weakly : middle ≡ at + length (partOf short own P Q at at true (n .kind) (n .first))
+  pub emits : Emitted (partOf short own P Q at at true (n .kind) (n .first) ++ partOf short own P Q at middle false (n .kind) (n .first)) o at (r .strong + 1) o′
   pub weak : r .weak + 1 ≡ middle
-  pub grown : (at ≤ middle) × (middle ≤ r .strong + 1)
-  pub most : r .strong + 1 ≤ at + 12
+  pub grown : r .weak ≤ r .strong
+  pub most : r .strong + 1 ≤ at + 11
   pub tolerant : r .tolerant ≡ tolerantBy own (P .tolerant) (Q .tolerant) (n .kind)
+
+-- the closing is emitted from node `at` on, and r tells the count and the tops
+pub record ClosedBy (i : table.Image) (o : List ℕ) (at : ℕ) (r : Tops) (o′ : List ℕ) : Type 0 where
+  pub emits : Emitted (closing true (i .weak) ++ closing false (i .strong)) o at (r .count) o′
+  pub weak : r .weak ≡ at + 3
+  pub strong : r .strong ≡ at + 7

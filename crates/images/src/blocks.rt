@@ -1,33 +1,32 @@
-// Document 01's lists of nodes as data: a row for each node, a block of rows for each list, and which block is the image of which node.
+// Document 01's lists of nodes as data: a row for each node, a block of rows for each list, and which block a node of a rule becomes.
 ghost use Prim.Native.Nat.{_<_};
-ghost use mathlib.Core.Bool.{true, false};
-ghost use Rattle.definitions.specs.Rewriting.{closing};
-ghost use Rattle.images.specs.Blocks.{a, formCount, formOf, IsBlock};
+ghost use Rattle.images.specs.Blocks.{formCount, formOf, IsBlock};
 use formulas::node::Node;
 
-// A row is the word of a node whose operands are numbers of the opening, which stand for themselves, or these names.
+// A row is the word of a node whose operands are numbers of the opening, which stand for themselves, or one of these names.
 // "·", the node just emitted.
 pub const DOT: u32 = 10;
 
-// "a and b are the operands' images of the same reading"
-const A: u32 = 11;
+// "a and b are the operands' images of the same reading": of the weak one AW and BW, of the strong one AS and BS.
+const AW: u32 = 11;
 
-const B: u32 = 12;
+const AS: u32 = 12;
 
-// The first operand's image of the other reading.
-const OTHER: u32 = 13;
+const BW: u32 = 13;
 
-// "call it g": the first node of the block.
-const G: u32 = 14;
+const BS: u32 = 14;
 
-// The first node emitted for the rule's node: of a foreign atom "the atom".
+// The first node of the weak image: of a foreign atom "the atom", of a weak until or since "g".
 const X: u32 = 15;
 
+// The first node of the strong image: of a strong until or since "g".
+const G: u32 = 16;
+
 // An atom's number.
-const N: u32 = 16;
+const N: u32 = 17;
 
 // How many operands have a meaning.
-pub const MEANINGS: usize = 17;
+pub const MEANINGS: usize = 18;
 
 // The places of a row's operands, and its kinds.
 const FIRST: u32 = Node::KIND_SPAN;
@@ -74,11 +73,13 @@ const NOT_X: u32 = NOT + X * FIRST;
 
 const NOT_DOT: u32 = NOT + DOT * FIRST;
 
-const NOT_OTHER: u32 = NOT + OTHER * FIRST;
+const NOT_AS: u32 = NOT + AS * FIRST;
 
-const NOT_A: u32 = NOT + A * FIRST;
+const NOT_AW: u32 = NOT + AW * FIRST;
 
-const NOT_B: u32 = NOT + B * FIRST;
+const NOT_BW: u32 = NOT + BW * FIRST;
+
+const NOT_BS: u32 = NOT + BS * FIRST;
 
 const OR_2_4: u32 = OR + 2 * FIRST + 4 * SECOND;
 
@@ -86,29 +87,39 @@ const OR_0_6: u32 = OR + 0 * FIRST + 6 * SECOND;
 
 const OR_1_DOT: u32 = OR + 1 * FIRST + DOT * SECOND;
 
-const OR_A_B: u32 = OR + A * FIRST + B * SECOND;
+const OR_AW_BW: u32 = OR + AW * FIRST + BW * SECOND;
 
-const OR_8_A: u32 = OR + 8 * FIRST + A * SECOND;
+const OR_AS_BS: u32 = OR + AS * FIRST + BS * SECOND;
+
+const OR_8_AW: u32 = OR + 8 * FIRST + AW * SECOND;
 
 const OR_8_DOT: u32 = OR + 8 * FIRST + DOT * SECOND;
 
 const OR_DOT_9: u32 = OR + DOT * FIRST + 9 * SECOND;
 
+const OR_8_AS: u32 = OR + 8 * FIRST + AS * SECOND;
+
 const OR_3_DOT: u32 = OR + 3 * FIRST + DOT * SECOND;
 
-const OR_9_B: u32 = OR + 9 * FIRST + B * SECOND;
+const OR_9_BW: u32 = OR + 9 * FIRST + BW * SECOND;
 
 const OR_9_DOT: u32 = OR + 9 * FIRST + DOT * SECOND;
 
 const NEXT_DOT: u32 = NEXT + DOT * FIRST;
 
-const NEXT_A: u32 = NEXT + A * FIRST;
+const NEXT_AW: u32 = NEXT + AW * FIRST;
+
+const NEXT_AS: u32 = NEXT + AS * FIRST;
 
 const UNTIL_8_DOT: u32 = UNTIL + 8 * FIRST + DOT * SECOND;
 
+const UNTIL_X_DOT: u32 = UNTIL + X * FIRST + DOT * SECOND;
+
 const UNTIL_G_DOT: u32 = UNTIL + G * FIRST + DOT * SECOND;
 
-const UNTIL_A_DOT: u32 = UNTIL + A * FIRST + DOT * SECOND;
+const UNTIL_AW_DOT: u32 = UNTIL + AW * FIRST + DOT * SECOND;
+
+const UNTIL_AS_DOT: u32 = UNTIL + AS * FIRST + DOT * SECOND;
 
 const PREV_1: u32 = PREV + 1 * FIRST;
 
@@ -118,10 +129,15 @@ const PREV_DOT: u32 = PREV + DOT * FIRST;
 
 const SINCE_1_DOT: u32 = SINCE + 1 * FIRST + DOT * SECOND;
 
+const SINCE_X_DOT: u32 = SINCE + X * FIRST + DOT * SECOND;
+
 const SINCE_G_DOT: u32 = SINCE + G * FIRST + DOT * SECOND;
 
+// The most rows of a block.
+pub const MOST: usize = 11;
+
 // "Opening, numbers 0 to 10: run; not 0; prev 1; end; not 3; or 2 4; not 5; or 0 6 (*state*); not 7; prev 3; not 9"
-pub const OPENING: [u32; 11] = [
+pub const OPENING: [u32; MOST] = [
     RUN,
     NOT_0,
     PREV_1,
@@ -135,124 +151,239 @@ pub const OPENING: [u32; 11] = [
     NOT_9,
 ];
 
-// A list of document 01: how many rows, and the rows.
+// A list of document 01: how many of its rows are the weak image's, how many there are, the rows.
 pub struct Block {
+    pub weak: usize,
     pub count: usize,
-    pub rows: [u32; 6],
+    pub rows: [u32; MOST],
 }
 
 // "true, own atom: itself, w and s the same (1 node)"
-const TRUE_ALONE: Block = Block {
+const TRUE_ITSELF: Block = Block {
+    weak: 1,
     count: 1,
-    rows: [TRUE, NONE, NONE, NONE, NONE, NONE],
+    rows: [
+        TRUE,
+        NONE,
+        NONE,
+        NONE,
+        NONE,
+        NONE,
+        NONE,
+        NONE,
+        NONE,
+        NONE,
+        NONE,
+    ],
 };
 
 // The same, of an own atom.
 const OWN_ATOM: Block = Block {
+    weak: 1,
     count: 1,
-    rows: [ATOM_N, NONE, NONE, NONE, NONE, NONE],
+    rows: [
+        ATOM_N,
+        NONE,
+        NONE,
+        NONE,
+        NONE,
+        NONE,
+        NONE,
+        NONE,
+        NONE,
+        NONE,
+        NONE,
+    ],
 };
 
-// "w and s the same": nothing more for s.
-const SAME: Block = Block {
-    count: 0,
-    rows: [NONE, NONE, NONE, NONE, NONE, NONE],
-};
-
-// "foreign atom: atom; or 1 · (w)"
-const FOREIGN_W: Block = Block {
-    count: 2,
-    rows: [ATOM_N, OR_1_DOT, NONE, NONE, NONE, NONE],
-};
-
-// "not of the atom; or 1 ·; not · (s) (5)"
-const FOREIGN_S: Block = Block {
-    count: 3,
-    rows: [NOT_X, OR_1_DOT, NOT_DOT, NONE, NONE, NONE],
+// "foreign atom: atom; or 1 · (w); not of the atom; or 1 ·; not · (s) (5)"
+const FOREIGN_ATOM: Block = Block {
+    weak: 2,
+    count: 5,
+    rows: [
+        ATOM_N,
+        OR_1_DOT,
+        NOT_X,
+        OR_1_DOT,
+        NOT_DOT,
+        NONE,
+        NONE,
+        NONE,
+        NONE,
+        NONE,
+        NONE,
+    ],
 };
 
 // "not: not of the operand's s (w); not of its w (s) (2)"
-const NOT_OF: Block = Block {
-    count: 1,
-    rows: [NOT_OTHER, NONE, NONE, NONE, NONE, NONE],
+const NOT_BOTH: Block = Block {
+    weak: 1,
+    count: 2,
+    rows: [
+        NOT_AS,
+        NOT_AW,
+        NONE,
+        NONE,
+        NONE,
+        NONE,
+        NONE,
+        NONE,
+        NONE,
+        NONE,
+        NONE,
+    ],
 };
 
 // "or: or a b, twice (2)"
-const OR_OF: Block = Block {
-    count: 1,
-    rows: [OR_A_B, NONE, NONE, NONE, NONE, NONE],
+const OR_BOTH: Block = Block {
+    weak: 1,
+    count: 2,
+    rows: [
+        OR_AW_BW,
+        OR_AS_BS,
+        NONE,
+        NONE,
+        NONE,
+        NONE,
+        NONE,
+        NONE,
+        NONE,
+        NONE,
+        NONE,
+    ],
 };
 
-// "next: w: or 8 a; not ·; until 8 ·; not ·; next ·"
-const NEXT_W: Block = Block {
-    count: 5,
-    rows: [OR_8_A, NOT_DOT, UNTIL_8_DOT, NOT_DOT, NEXT_DOT, NONE],
+// "next: w: or 8 a; not ·; until 8 ·; not ·; next ·. s: not a; or 8 ·; not ·; until 8 ·; next · (10)"
+const PLAIN_NEXT: Block = Block {
+    weak: 5,
+    count: 10,
+    rows: [
+        OR_8_AW,
+        NOT_DOT,
+        UNTIL_8_DOT,
+        NOT_DOT,
+        NEXT_DOT,
+        NOT_AS,
+        OR_8_DOT,
+        NOT_DOT,
+        UNTIL_8_DOT,
+        NEXT_DOT,
+        NONE,
+    ],
 };
 
-// "s: not a; or 8 ·; not ·; until 8 ·; next · (10)"
-const NEXT_S: Block = Block {
-    count: 5,
-    rows: [NOT_A, OR_8_DOT, NOT_DOT, UNTIL_8_DOT, NEXT_DOT, NONE],
-};
-
-// "until: w: or 8 a (call it g); not b; or 8 ·; not ·; or · 9; until g ·"
-const UNTIL_W: Block = Block {
-    count: 6,
-    rows: [OR_8_A, NOT_B, OR_8_DOT, NOT_DOT, OR_DOT_9, UNTIL_G_DOT],
-};
-
-// "s: the same without "or · 9" (11)"
-const UNTIL_S: Block = Block {
-    count: 5,
-    rows: [OR_8_A, NOT_B, OR_8_DOT, NOT_DOT, UNTIL_G_DOT, NONE],
+// "until: w: or 8 a (call it g); not b; or 8 ·; not ·; or · 9; until g ·. s: the same without "or · 9" (11)"
+const PLAIN_UNTIL: Block = Block {
+    weak: 6,
+    count: 11,
+    rows: [
+        OR_8_AW,
+        NOT_BW,
+        OR_8_DOT,
+        NOT_DOT,
+        OR_DOT_9,
+        UNTIL_X_DOT,
+        OR_8_AS,
+        NOT_BS,
+        OR_8_DOT,
+        NOT_DOT,
+        UNTIL_G_DOT,
+    ],
 };
 
 // "prev: not a; or 1 ·; not ·; since 1 ·; prev ·, twice (10)"
-const PREV_OF: Block = Block {
-    count: 5,
-    rows: [NOT_A, OR_1_DOT, NOT_DOT, SINCE_1_DOT, PREV_DOT, NONE],
+const PLAIN_PREV: Block = Block {
+    weak: 5,
+    count: 10,
+    rows: [
+        NOT_AW,
+        OR_1_DOT,
+        NOT_DOT,
+        SINCE_1_DOT,
+        PREV_DOT,
+        NOT_AS,
+        OR_1_DOT,
+        NOT_DOT,
+        SINCE_1_DOT,
+        PREV_DOT,
+        NONE,
+    ],
 };
 
 // "since: or 8 a (g); not b; or 8 ·; not ·; since g ·, twice (10)"
-const SINCE_OF: Block = Block {
-    count: 5,
-    rows: [OR_8_A, NOT_B, OR_8_DOT, NOT_DOT, SINCE_G_DOT, NONE],
+const PLAIN_SINCE: Block = Block {
+    weak: 5,
+    count: 10,
+    rows: [
+        OR_8_AW,
+        NOT_BW,
+        OR_8_DOT,
+        NOT_DOT,
+        SINCE_X_DOT,
+        OR_8_AS,
+        NOT_BS,
+        OR_8_DOT,
+        NOT_DOT,
+        SINCE_G_DOT,
+        NONE,
+    ],
 };
 
-// "Closing, from the rule's w: or 8 w; not ·; until 8 ·; not · (top weak)"
-const CLOSING_W: Block = Block {
-    count: 4,
-    rows: [OR_8_A, NOT_DOT, UNTIL_8_DOT, NOT_DOT, NONE, NONE],
+// "Closing, from the rule's w: or 8 w; not ·; until 8 ·; not · (top weak); from its s: not s; or 8 ·; not ·; until 8 · (top strong) (8)"
+pub const CLOSING: Block = Block {
+    weak: 4,
+    count: 8,
+    rows: [
+        OR_8_AW,
+        NOT_DOT,
+        UNTIL_8_DOT,
+        NOT_DOT,
+        NOT_AS,
+        OR_8_DOT,
+        NOT_DOT,
+        UNTIL_8_DOT,
+        NONE,
+        NONE,
+        NONE,
+    ],
 };
 
-// "from its s: not s; or 8 ·; not ·; until 8 · (top strong) (8)"
-const CLOSING_S: Block = Block {
-    count: 4,
-    rows: [NOT_A, OR_8_DOT, NOT_DOT, UNTIL_8_DOT, NONE, NONE],
+// "next of a tolerant operand: w: next a; or 3 ·. s: next a; not ·; or 3 ·; not · (6)"
+const SHORT_NEXT: Block = Block {
+    weak: 2,
+    count: 6,
+    rows: [
+        NEXT_AW,
+        OR_3_DOT,
+        NEXT_AS,
+        NOT_DOT,
+        OR_3_DOT,
+        NOT_DOT,
+        NONE,
+        NONE,
+        NONE,
+        NONE,
+        NONE,
+    ],
 };
 
-// "next of a tolerant operand: w: next a; or 3 ·"
-const SHORT_NEXT_W: Block = Block {
-    count: 2,
-    rows: [NEXT_A, OR_3_DOT, NONE, NONE, NONE, NONE],
-};
-
-// "s: next a; not ·; or 3 ·; not · (6)"
-const SHORT_NEXT_S: Block = Block {
-    count: 4,
-    rows: [NEXT_A, NOT_DOT, OR_3_DOT, NOT_DOT, NONE, NONE],
-};
-
-// "until of two tolerant operands: w: or 9 b; until a ·"
-const SHORT_UNTIL_W: Block = Block {
-    count: 2,
-    rows: [OR_9_B, UNTIL_A_DOT, NONE, NONE, NONE, NONE],
-};
-
-// "s: not b; or 9 ·; not ·; until a · (6)"
-const SHORT_UNTIL_S: Block = Block {
-    count: 4,
-    rows: [NOT_B, OR_9_DOT, NOT_DOT, UNTIL_A_DOT, NONE, NONE],
+// "until of two tolerant operands: w: or 9 b; until a ·. s: not b; or 9 ·; not ·; until a · (6)"
+const SHORT_UNTIL: Block = Block {
+    weak: 2,
+    count: 6,
+    rows: [
+        OR_9_BW,
+        UNTIL_AW_DOT,
+        NOT_BS,
+        OR_9_DOT,
+        NOT_DOT,
+        UNTIL_AS_DOT,
+        NONE,
+        NONE,
+        NONE,
+        NONE,
+        NONE,
+    ],
 };
 
 // A form is a kind's number, or one of these.
@@ -266,63 +397,22 @@ impl Form {
     pub const SHORT_UNTIL: u8 = 10;
 }
 
-// The list of a form's "weak image w".
-fn weak_block(form: u8) -> Block
+// The list of a form.
+pub fn block_of(form: u8) -> Block
     requires { ⌜ form < formCount ⌝ }
-    ensures { λ r. ⌜ IsBlock (formOf form true) r ⌝ }
+    ensures { λ r. ⌜ IsBlock (formOf form) r ⌝ }
 {
     match form {
-        Node::TRUE => TRUE_ALONE,
-        Node::ATOM => FOREIGN_W,
-        Node::NOT => NOT_OF,
-        Node::OR => OR_OF,
-        Node::NEXT => NEXT_W,
-        Node::UNTIL => UNTIL_W,
-        Node::PREV => PREV_OF,
-        Node::SINCE => SINCE_OF,
+        Node::TRUE => TRUE_ITSELF,
+        Node::ATOM => FOREIGN_ATOM,
+        Node::NOT => NOT_BOTH,
+        Node::OR => OR_BOTH,
+        Node::NEXT => PLAIN_NEXT,
+        Node::UNTIL => PLAIN_UNTIL,
+        Node::PREV => PLAIN_PREV,
+        Node::SINCE => PLAIN_SINCE,
         Form::OWN_ATOM => OWN_ATOM,
-        Form::SHORT_NEXT => SHORT_NEXT_W,
-        _ => SHORT_UNTIL_W,
+        Form::SHORT_NEXT => SHORT_NEXT,
+        _ => SHORT_UNTIL,
     }
-}
-
-// The list of its "strong image s".
-fn strong_block(form: u8) -> Block
-    requires { ⌜ form < formCount ⌝ }
-    ensures { λ r. ⌜ IsBlock (formOf form false) r ⌝ }
-{
-    match form {
-        Node::TRUE => SAME,
-        Node::ATOM => FOREIGN_S,
-        Node::NOT => NOT_OF,
-        Node::OR => OR_OF,
-        Node::NEXT => NEXT_S,
-        Node::UNTIL => UNTIL_S,
-        Node::PREV => PREV_OF,
-        Node::SINCE => SINCE_OF,
-        Form::OWN_ATOM => SAME,
-        Form::SHORT_NEXT => SHORT_NEXT_S,
-        _ => SHORT_UNTIL_S,
-    }
-}
-
-// The list of one image of a form.
-pub fn block_of(form: u8, weak: bool) -> Block
-    requires { ⌜ form < formCount ⌝ }
-    ensures { λ r. ⌜ IsBlock (formOf form weak) r ⌝ }
-{
-    if weak {
-        return weak_block(form);
-    }
-    strong_block(form)
-}
-
-// "Closing, from the rule's w: .. (top weak); from its s: .. (top strong) (8)"
-pub fn closing_block(weak: bool) -> Block
-    ensures { λ r. ⌜ IsBlock (closing weak a) r ⌝ }
-{
-    if weak {
-        return CLOSING_W;
-    }
-    CLOSING_S
 }

@@ -2,15 +2,15 @@
 ghost use mathlib.Core.Path.{_≡_};
 ghost use Prim.Native.Nat.{_<_, _≤_};
 ghost use Rattle.definitions.specs.Nodes.{kindOf, operandSpan};
-ghost use Rattle.definitions.specs.Rewriting.{opening, closing, imageOf};
+ghost use Rattle.definitions.specs.Rewriting.{opening};
 ghost use Rattle.formulas.specs.Meaning.{meaning};
-ghost use Rattle.images.specs.Emission.{Room, Emitted, Holds};
-ghost use Rattle.images.specs.Images.{meant, Small, Named, formBy, tolerantBy, Turnable, turnPart, Parted, Stepped};
+ghost use Rattle.images.specs.Emission.{Room, Holds};
+ghost use Rattle.images.specs.Images.{meant, Small, Begun, Named, formBy, tolerantBy, Stepped, ClosedBy};
+use super::blocks::CLOSING;
 use super::blocks::Form;
 use super::blocks::MEANINGS;
 use super::blocks::OPENING;
 use super::blocks::block_of;
-use super::blocks::closing_block;
 use super::lay::lay;
 use formulas::choice::pick;
 use formulas::node::Node;
@@ -22,27 +22,11 @@ pub struct Image {
     pub tolerant: bool,
 }
 
-// The image of one reading.
-fn reading(i: Image, weak: bool) -> u16
-    ensures { λ r. ⌜ r ≡ imageOf weak (meant i) ⌝ }
-{
-    if weak {
-        return i.weak;
-    }
-    i.strong
-}
-
-// What the operands of rows stand for, in the order of their names, as an image begins: x is the first number emitted for the rule's node, n its first operand, p and q are its operands' images.
-fn meanings(weak: bool, at: usize, x: u16, n: u16, p: Image, q: Image) -> [u16; MEANINGS]
-    requires { ⌜ (0 < at) × (at < operandSpan) × (x < operandSpan) × (n < operandSpan) × (Small p) × (Small q) ⌝ }
-    ensures { λ r. ⌜ Named weak at x n (meant p) (meant q) r ⌝ }
-{
-    let dot = (at - 1) as u16;
-    let a = reading(p, weak);
-    let b = reading(q, weak);
-    let other = reading(p, !weak);
-    let g = at as u16;
-    [0, 1, 2, 3, 4, 5, 6, 7, 8, 9, dot, a, b, other, g, x, n]
+// "The result carries node count and both tops."
+pub struct Tops {
+    pub count: usize,
+    pub weak: usize,
+    pub strong: usize,
 }
 
 // "Opening, numbers 0 to 10"
@@ -50,24 +34,39 @@ pub fn opening(table: &mut [u32]) -> usize
     requires { ⌜ Room 11 0 (now table) ⌝ }
     ensures { λ r. ⌜ Holds opening (now (table .entry)) r (now (table .exit)) ⌝ }
 {
-    let none = [0, 1, 2, 3, 4, 5, 6, 7, 8, 9, 0, 0, 0, 0, 0, 0, 0];
+    let none = [0, 1, 2, 3, 4, 5, 6, 7, 8, 9, 0, 0, 0, 0, 0, 0, 0, 0];
     lay(table, 0, &OPENING, 11, none)
 }
 
-// "Closing, from the rule's w: .. (top weak); from its s: .. (top strong) (8)"
-pub fn closing_of(table: &mut [u32], at: usize, weak: bool, rule: Image) -> usize
-    requires { ⌜ (Room 4 at (now table)) × (0 < at) × (Small rule) ⌝ }
-    ensures { λ r. ⌜ Emitted (closing weak (imageOf weak (meant rule))) (now (table .entry)) at r (now (table .exit)) ⌝ }
+// What the operands of rows stand for as a block begins at number `at`, in the order of their names: `weak` of its rows are the weak image's, n is the
+// node's first operand, p and q are its operands' images.
+fn meanings(at: usize, weak: usize, n: u16, p: Image, q: Image) -> [u16; MEANINGS]
+    requires { ⌜ (Begun at weak) × (n < operandSpan) × (Small p) × (Small q) ⌝ }
+    ensures { λ r. ⌜ Named at weak n (meant p) (meant q) r ⌝ }
 {
-    let block = closing_block(weak);
-    let rows = block.rows;
-    lay(
-        table,
-        at,
-        &rows,
-        block.count,
-        meanings(weak, at, 0, 0, rule, rule),
-    )
+    let dot = (at - 1) as u16;
+    let x = at as u16;
+    let g = (at + weak) as u16;
+    [
+        0,
+        1,
+        2,
+        3,
+        4,
+        5,
+        6,
+        7,
+        8,
+        9,
+        dot,
+        p.weak,
+        p.strong,
+        q.weak,
+        q.strong,
+        x,
+        g,
+        n,
+    ]
 }
 
 // The form of a node: its kind, but for an own atom, a short "next of a tolerant operand" and a short "until of two tolerant operands".
@@ -92,36 +91,6 @@ fn tolerant_of(own: bool, kind: u8, p: bool, q: bool) -> bool
     always | (((kind == Node::ATOM) & own) | (((kind == Node::NOT) & p) | both))
 }
 
-// What both images of a node are made from: x is the first number emitted for it, p and q are its operands' images.
-struct Turn {
-    short: bool,
-    own: bool,
-    x: u16,
-    n: Node,
-    p: Image,
-    q: Image,
-}
-
-// One image of a node: the nodes of its block.
-fn part(table: &mut [u32], at: usize, weak: bool, t: Turn) -> usize
-    requires { ⌜ (Room 6 at (now table)) × (0 < at) × (Turnable t) ⌝ }
-    ensures { λ r. ⌜ Parted (turnPart t at weak) (now (table .entry)) at r (now (table .exit)) ⌝ }
-{
-    let n = t.n;
-    let p = t.p;
-    let q = t.q;
-    let form = form_of(t.short, t.own, n.kind, p.tolerant, q.tolerant);
-    let block = block_of(form, weak);
-    let rows = block.rows;
-    lay(
-        table,
-        at,
-        &rows,
-        block.count,
-        meanings(weak, at, t.x, n.first, p, q),
-    )
-}
-
 // "each rule node in turn, weak image w first, then strong image s"
 pub fn step(
     table: &mut [u32],
@@ -132,22 +101,32 @@ pub fn step(
     p: Image,
     q: Image,
 ) -> Image
-    requires { ⌜ (0 < at) × (Room 12 at (now table)) × (n .kind ≤ 7) × (n .first < operandSpan) × (Small p) × (Small q) ⌝ }
+    requires { ⌜ (0 < at) × (Room 11 at (now table)) × (n .kind ≤ 7) × (n .first < operandSpan) × (Small p) × (Small q) ⌝ }
     ensures { λ r. ⌜ Stepped short own (meant p) (meant q) (meaning n) (now (table .entry)) at r (now (table .exit)) ⌝ }
 {
-    let turn = Turn {
-        short: short,
-        own: own,
-        x: at as u16,
-        n: n,
-        p: p,
-        q: q,
-    };
-    let middle = part(table, at, true, turn);
-    let end = part(table, middle, false, turn);
+    let block = block_of(form_of(short, own, n.kind, p.tolerant, q.tolerant));
+    let rows = block.rows;
+    let names = meanings(at, block.weak, n.first, p, q);
+    let end = lay(table, at, &rows, block.count, names);
     Image {
-        weak: (middle - 1) as u16,
+        weak: (at + block.weak - 1) as u16,
         strong: (end - 1) as u16,
         tolerant: tolerant_of(own, n.kind, p.tolerant, q.tolerant),
+    }
+}
+
+// The closing of a rule, from its images.
+pub fn closing(table: &mut [u32], at: usize, rule: Image) -> Tops
+    requires { ⌜ (0 < at) × (Room 8 at (now table)) × (Small rule) ⌝ }
+    ensures { λ r. ⌜ ClosedBy (meant rule) (now (table .entry)) at r (now (table .exit)) ⌝ }
+{
+    let block = CLOSING;
+    let rows = block.rows;
+    let names = meanings(at, block.weak, 0, rule, rule);
+    let end = lay(table, at, &rows, block.count, names);
+    Tops {
+        count: end,
+        weak: at + block.weak - 1,
+        strong: end - 1,
     }
 }

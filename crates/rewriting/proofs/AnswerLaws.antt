@@ -1,6 +1,6 @@
 -- The rewriting of a rule: one law for each return.
 use mathlib.Core.Bool.{Bool, true, false, _&&_}
-use mathlib.Core.List.{List, map}
+use mathlib.Core.List.{List, _++_, map}
 use mathlib.Core.Path.{_≡_, sym, ap, _∙_}
 use Prim.Native.Nat.{ℕ, _+_, _-_, _<_, _≤_}
 use native.Mathlib.Omega.{arith}
@@ -15,6 +15,7 @@ use Rattle.definitions.specs.Tables.{Rule, nodesIn, ruleRefusal, ruleOf}
 use Rattle.definitions.specs.Rewriting as table
 use Rattle.definitions.specs.Rewriting.{emit, closing, closed, lastImage, rewriting}
 use Rattle.definitions.specs.Operations.{answer, rewrittenOf, sizeRefusal, rewriteNumber, rewriteAnswer, rewriteTable}
+use Rattle.theorems.proofs.Counts.{emit-count}
 use Rattle.theorems.proofs.NodeLaws.{accepted-rule}
 use Rattle.theorems.proofs.RuleNodes.{rule-some, rule-few}
 use Rattle.theorems.proofs.RefusalBounds.{rule-low}
@@ -24,12 +25,11 @@ use Rattle.lent.specs.Space.{cleared}
 use Rattle.rewriting.specs.declared.drafts.Draft.{Draft}
 use Rattle.rewriting.specs.declared.rewrite.Rewriting.{Rewriting}
 use Rattle.rewriting.specs.declared.rewrite.Rewriting.the-variants.{Rewritten, Refused}
-use Rattle.rewriting.specs.declared.rewrite.Tops.{Tops}
-use Rattle.images.specs.Emission.{Emitted}
-use Rattle.images.specs.Images.{meant}
+use Rattle.images.specs.declared.image.Tops.{Tops}
+use Rattle.images.specs.Images.{meant, ClosedBy}
 use Rattle.rewriting.specs.Drafts.{Ruled, Drawn, draftOf}
 use Rattle.rewriting.specs.Answers.{Tabled, TableOf, Rewrote}
-use Rattle.images.proofs.EmitLaws.{holds-more, map-length, seam-take, seam-drop}
+use Rattle.images.proofs.EmitLaws.{emit-append, holds-more, map-length, seam-take, seam-drop}
 
 module _ (short : Bool) (mask count : ℕ) (ws o : List ℕ) (d : Draft) (o′ : List ℕ) (w : Drawn short mask count ws o d o′) where
   is-closed : rewriting short mask (nodesIn count ws) ≡ closed (short && d .last .tolerant) ((draftOf short mask count ws) .nodes) (meant (d .last))
@@ -41,17 +41,20 @@ module _ (short : Bool) (mask count : ℕ) (ws o : List ℕ) (d : Draft) (o′ :
       let c : rewriting short mask (nodesIn count ws) ≡ closed true ((draftOf short mask count ws) .nodes) (meant (d .last)) = rw e at is-closed in
       record { holds = rw c (w .holds); weak = rw c; strong = rw c; low = omega (arith, w .low) }
 
-  pub tabled-closed : (o″ o‴ : List ℕ) (m r : ℕ) → (short && d .last .tolerant) ≡ false → Emitted (closing true (d .last .weak)) o′ (d .at) m o″
-      → Emitted (closing false (d .last .strong)) o″ m r o‴ → Tabled short mask count ws o (record { count = r; weak = m - 1; strong = r - 1 }) o‴
-  tabled-closed o″ o‴ m r e p q =
-      let c : rewriting short mask (nodesIn count ws) ≡ closed false ((draftOf short mask count ws) .nodes) (meant (d .last)) = rw e at is-closed in
-      let h = holds-more ((draftOf short mask count ws) .nodes) (closing true (d .last .weak)) o o′ o″ (d .at) m (w .holds) p in
-      let g = holds-more (emit ((draftOf short mask count ws) .nodes) (closing true (d .last .weak))) (closing false (d .last .strong)) o o″ o‴ m r h q in
+  pub tabled-closed : (o″ : List ℕ) (t : Tops) → (short && d .last .tolerant) ≡ false → ClosedBy (meant (d .last)) o′ (d .at) t o″ → Tabled short mask count ws o t o″
+  tabled-closed o″ t e p =
+      let T = (draftOf short mask count ws) .nodes in
+      let weak = closing true (d .last .weak) in
+      let strong = closing false (d .last .strong) in
+      let c : rewriting short mask (nodesIn count ws) ≡ closed false T (meant (d .last)) = rw e at is-closed in
+      let h = rw (emit-append T weak strong) at (holds-more T (weak ++ strong) o o′ o″ (d .at) (t .count) (w .holds) (p .emits)) in
+      let u : length (emit T weak) ≡ length T + 4 = emit-count T weak in
+      let v : length (emit (emit T weak) strong) ≡ length T + 8 = emit-count (emit T weak) strong ∙ omega arith in
       record {
-        holds = rw c g;
-        weak = rw c (ap (λ (n : ℕ). n - 1) (h .next));
-        strong = rw c (ap (λ (n : ℕ). n - 1) (g .next));
-        low = omega (arith, w .low, p .next, q .next);
+        holds = rw c h;
+        weak = rw c (omega (arith, p .weak, w .holds .next));
+        strong = rw c (omega (arith, p .strong, w .holds .next));
+        low = omega (arith, w .low, p .emits .next);
       }
 
 pub ruleset tabled-laws = (needs, tabled-open, tabled-closed)

@@ -18,6 +18,7 @@ use Rattle.definitions.specs.Nodes.{Kind, kindOf, nodeOf}
 use Rattle.definitions.specs.Tables.{isUnknown, isRewritten, nodeRefusal, nodesRefusal, nodesIn}
 use Rattle.definitions.specs.Rewriting as table
 use Rattle.definitions.specs.Rewriting.{Emit, emit, opening, noImage, imageOf, image, tolerantAt, tolerantOf, part, step, steps, lastImage}
+use Rattle.theorems.proofs.Counts.{emit-count}
 use Rattle.theorems.proofs.Choice.{or-else-none}
 use Rattle.theorems.proofs.NodeLaws.{AcceptedNode, accepted-node, first-below, second-below}
 use Rattle.theorems.proofs.NodeWords.{by-kind}
@@ -28,7 +29,7 @@ use Rattle.images.specs.declared.image.Image.{Image}
 use Rattle.images.specs.Emission.{Room, Emitted, Holds}
 use Rattle.images.specs.Images.{meant, Small, partOf, tolerantBy, Stepped}
 use Rattle.rewriting.specs.Drafts.{Index, Ruled, opened, draftOf, Drawn}
-use Rattle.images.proofs.EmitLaws.{holds-more, holds-self, holds-under}
+use Rattle.images.proofs.EmitLaws.{emit-append, holds-more, holds-self, holds-under}
 
 -- the shift by an atom's number
 pub own-bit : (mask a : ℕ) → eqb (mask / 2 ^ a % 2) 1 ≡ bitOf mask a
@@ -102,7 +103,7 @@ pub record Drafting (short : Bool) (mask count : ℕ) (ws o : List ℕ) (i at : 
   pub fine : nodesRefusal false i (count - i) (drop i ws) ≡ 0
   pub sizes : length (D .images) ≡ i
   pub big : 11 ≤ at
-  pub most : at ≤ 11 + 12 * i
+  pub most : at ≤ 11 + 11 * i
   pub room : maxTableNodes ≤ length o
   pub holds : Holds (D .nodes) o at o′
   pub low : (weak : Bool) (a : ℕ) → image weak (D .images) a < at
@@ -193,7 +194,7 @@ module _ (short : Bool) (mask count : ℕ) (ws o : List ℕ) (i at : ℕ) (I : L
     pub second-low : n .second < maxRuleNodes
     second-low = omega (arith, w .second, second-below i (nodeOf (getD ws i 0)) accepted (omega (arith, d .few)))
 
-  pub drafting-room : Room 12 at o′
+  pub drafting-room : Room 11 at o′
   drafting-room = record { low = omega (arith, d .most, d .few); held = omega (arith, d .room, d .holds .size) }
 
   pub image-small : (a : ℕ) → Small (getD I a nothing)
@@ -245,17 +246,15 @@ module _ (short : Bool) (mask count : ℕ) (ws o : List ℕ) (i at : ℕ) (I : L
     abbrev strongPart : List Emit
     strongPart = part short mask is at (s .middle) false (N .kind) (N .first) (N .second)
 
-    weakly : Emitted weakPart o′ at (s .middle) (s .between)
-    weakly = rw (parted at at true) at (s .weakly)
-
-    strongly : Emitted strongPart (s .between) (s .middle) (r .strong + 1) o″
-    strongly = rw (parted at (s .middle) false) at (s .strongly)
-
-    holds-weak : Holds (emit (d .D .nodes) weakPart) o (s .middle) (s .between)
-    holds-weak = holds-more (d .D .nodes) weakPart o o′ (s .between) at (s .middle) (d .holds) weakly
-
     holds-both : Holds (emit (emit (d .D .nodes) weakPart) strongPart) o (r .strong + 1) o″
-    holds-both = holds-more (emit (d .D .nodes) weakPart) strongPart o (s .between) o″ (s .middle) (r .strong + 1) holds-weak strongly
+    holds-both =
+        let both : Emitted (weakPart ++ strongPart) o′ at (r .strong + 1) o″ = rw (parted at at true, parted at (s .middle) false) at (s .emits) in
+        rw (emit-append (d .D .nodes) weakPart strongPart) at (holds-more (d .D .nodes) (weakPart ++ strongPart) o o′ o″ at (r .strong + 1) (d .holds) both)
+
+    middle-is : s .middle ≡ length (emit (d .D .nodes) weakPart)
+    middle-is =
+        let w : s .middle ≡ at + length weakPart = rw (parted at at true) at (s .weakly) in
+        omega (arith, d .holds .next, emit-count (d .D .nodes) weakPart)
 
     abbrev E : table.Draft
     E = record { nodes = emit (emit (d .D .nodes) weakPart) strongPart; images = is ++ (meant r ∷ []) }
@@ -264,7 +263,7 @@ module _ (short : Bool) (mask count : ℕ) (ws o : List ℕ) (i at : ℕ) (I : L
     stepped-is =
         let u : s .middle - 1 ≡ r .weak = omega (arith, s .weak) in
         let v : r .strong + 1 - 1 ≡ r .strong = omega arith in
-        step-is short mask (d .D) N at (s .middle) (r .strong + 1) (d .holds .next) (holds-weak .next) (holds-both .next) ∙ rw (u, v, ← tolerated)
+        step-is short mask (d .D) N at (s .middle) (r .strong + 1) (d .holds .next) middle-is (holds-both .next) ∙ rw (u, v, ← tolerated)
 
     left-more : steps short mask opened (nodesIn count ws) ≡ steps short mask E (nodesIn (count - (i + 1)) (drop (i + 1) ws))
     left-more =
@@ -272,7 +271,7 @@ module _ (short : Bool) (mask count : ℕ) (ws o : List ℕ) (i at : ℕ) (I : L
         ∙ ap (λ (F : table.Draft). steps short mask F (nodesIn (count - (i + 1)) (drop (i + 1) ws))) stepped-is
 
     below : (weak : Bool) → imageOf weak (meant r) < r .strong + 1
-    below true = omega (arith, s .weak, s .grown .1)
+    below true = omega (arith, s .grown)
     below false = omega arith
 
     pub drafting-next : Drafting short mask count ws o (i + 1) (r .strong + 1) (set I i r) r o″
@@ -286,11 +285,11 @@ module _ (short : Bool) (mask count : ℕ) (ws o : List ℕ) (i at : ℕ) (I : L
           left = left-more;
           fine = both-fine .1;
           sizes = length-append is (meant r ∷ []) ∙ rw (d .sizes);
-          big = omega (arith, d .big, s .grown .0, s .grown .1);
+          big = omega (arith, d .big, s .weakly, s .weak, s .grown);
           most = omega (arith, d .most, s .most);
           room = d .room;
           holds = holds-both;
-          low = λ weak. low-more is (meant r) i (r .strong + 1) weak (d .sizes) (omega arith) (λ a. omega (arith, d .low weak a, s .grown .0, s .grown .1)) (below weak);
+          low = λ weak. low-more is (meant r) i (r .strong + 1) weak (d .sizes) (omega arith) (λ a. omega (arith, d .low weak a, s .weakly, s .weak, s .grown)) (below weak);
           wide = length-set I i r ∙ d .wide;
           held = found coded I is (meant r) nothing i (omega (arith, d .wide)) (d .sizes) refl (d .held);
           last = sym (rw z (getD-at is (meant r) [] noImage i (d .sizes)));

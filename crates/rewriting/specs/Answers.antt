@@ -12,7 +12,7 @@ use Rattle.definitions.specs.Rewriting.{rewriting}
 use Rattle.definitions.specs.Operations.{Answer, left, rewriteAnswer, rewriteTable}
 use Rattle.rewriting.specs.declared.rewrite.Rewriting.{Rewriting}
 use Rattle.rewriting.specs.declared.rewrite.Rewriting.the-variants.{Rewritten, Refused}
-use Rattle.rewriting.specs.declared.rewrite.Tops.{Tops}
+use Rattle.images.specs.declared.image.Tops.{Tops}
 use Rattle.images.specs.Emission.{Holds}
 
 -- document 01's number and values for each case

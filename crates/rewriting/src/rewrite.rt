@@ -10,7 +10,8 @@ ghost use Rattle.rewriting.specs.Answers.{Tabled, TableOf, Rewrote};
 use super::drafts::steps;
 use formulas::limits::Limits;
 use formulas::limits::Refusal;
-use images::image::closing_of;
+use images::image::Tops;
+use images::image::closing;
 use lent::clear_u32;
 use table_check::rule_refusal;
 
@@ -18,13 +19,6 @@ use table_check::rule_refusal;
 pub enum Rewriting {
     Rewritten(usize, usize, usize),
     Refused(u8),
-}
-
-// "The result carries node count and both tops."
-pub struct Tops {
-    pub count: usize,
-    pub weak: usize,
-    pub strong: usize,
 }
 
 // "a tolerant rule has no closing; its tops are its own w and s", for the short rewriting only.
@@ -41,13 +35,7 @@ fn tabled(table: &mut [u32], short: bool, mask: u32, count: usize, nodes: &[u32]
             strong: last.strong as usize,
         };
     }
-    let middle = closing_of(table, draft.at, true, last);
-    let end = closing_of(table, middle, false, last);
-    Tops {
-        count: end,
-        weak: middle - 1,
-        strong: end - 1,
-    }
+    closing(table, draft.at, last)
 }
 
 // The table of an accepted rule, with the rest of its full size zero.

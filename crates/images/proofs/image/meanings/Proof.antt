@@ -10,14 +10,11 @@ sub-dot c = search needs
 cast-dot : tie.Need-cast-dot
 cast-dot c = search needs
 
-reading-requires : tie.Need-reading-requires
-reading-requires c κs = search needs
+cast-x : tie.Need-cast-x
+cast-x c = search needs
 
-reading-requires-2 : tie.Need-reading-requires-2
-reading-requires-2 c κs = search needs
-
-reading-requires-3 : tie.Need-reading-requires-3
-reading-requires-3 c κs = search needs
+add-g : tie.Need-add-g
+add-g c = search needs
 
 cast-g : tie.Need-cast-g
 cast-g c = search needs
@@ -26,13 +23,4 @@ returns : tie.Need-returns
 returns c = search names-laws
 
 pub meanings-spec : {M : Type 1} → statement M
-meanings-spec =
-    tie.close
-    (tie.spec
-    sub-dot
-    cast-dot
-    reading-requires
-    reading-requires-2
-    reading-requires-3
-    cast-g
-    returns)
+meanings-spec = tie.close (tie.spec sub-dot cast-dot cast-x add-g cast-g returns)

@@ -4,9 +4,6 @@ use Rattle.images.proofs.ImageLaws.{opening-laws}
 use Rattle.images.proofs.image.opening.Statement.{statement}
 use Rattle.images.proofs.image.opening.Tie as tie
 
-slice-aggregate-lay : tie.Need-slice-aggregate-lay
-slice-aggregate-lay c = search needs
-
 lay-requires : tie.Need-lay-requires
 lay-requires c κs = search opening-laws
 
@@ -17,4 +14,4 @@ returns : tie.Need-returns
 returns c = search opening-laws
 
 pub opening-spec : {M : Type 1} → statement M
-opening-spec = tie.close (tie.spec slice-aggregate-lay lay-requires same-length returns)
+opening-spec = tie.close (tie.spec lay-requires same-length returns)

@@ -4,26 +4,32 @@ use Rattle.images.proofs.ImageLaws.{step-laws}
 use Rattle.images.proofs.image.step.Statement.{statement}
 use Rattle.images.proofs.image.step.Tie as tie
 
-cast-t11 : tie.Need-cast-t11
-cast-t11 c = search needs
+form-of-requires : tie.Need-form-of-requires
+form-of-requires c κs = search needs
 
-part-requires : tie.Need-part-requires
-part-requires c κs = search needs
+block-of-requires : tie.Need-block-of-requires
+block-of-requires c κs = search step-laws
 
-part-requires-2 : tie.Need-part-requires-2
-part-requires-2 c κs = search needs
+meanings-requires : tie.Need-meanings-requires
+meanings-requires c κs = search needs
 
-sub-t16 : tie.Need-sub-t16
-sub-t16 c = search needs
+lay-requires : tie.Need-lay-requires
+lay-requires c κs = search needs
 
-cast-t11-2 : tie.Need-cast-t11-2
-cast-t11-2 c = search needs
+add-t16 : tie.Need-add-t16
+add-t16 c = search needs
 
 sub-t17 : tie.Need-sub-t17
 sub-t17 c = search needs
 
 cast-t18 : tie.Need-cast-t18
 cast-t18 c = search needs
+
+sub-t19 : tie.Need-sub-t19
+sub-t19 c = search needs
+
+cast-t20 : tie.Need-cast-t20
+cast-t20 c = search step-laws
 
 tolerant-of-requires : tie.Need-tolerant-of-requires
 tolerant-of-requires c κs = search needs
@@ -38,13 +44,15 @@ pub step-spec : {M : Type 1} → statement M
 step-spec =
     tie.close
     (tie.spec
-    cast-t11
-    part-requires
-    part-requires-2
-    sub-t16
-    cast-t11-2
+    form-of-requires
+    block-of-requires
+    meanings-requires
+    lay-requires
+    add-t16
     sub-t17
     cast-t18
+    sub-t19
+    cast-t20
     tolerant-of-requires
     same-length
     returns)

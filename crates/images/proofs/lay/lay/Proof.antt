@@ -17,8 +17,8 @@ loop-holds c = search lay-laws
 mul-made : tie.Need-mul-made Inv-loop μ-loop
 mul-made c = search lay-laws
 
-shared-slice-read-made : tie.Need-shared-slice-read-made Inv-loop μ-loop
-shared-slice-read-made c = search lay-laws
+element-copy-out-made : tie.Need-element-copy-out-made Inv-loop μ-loop
+element-copy-out-made c = search lay-laws
 
 made-requires : tie.Need-made-requires Inv-loop μ-loop
 made-requires c κs = search lay-laws
@@ -51,7 +51,7 @@ loop-less : tie.Need-loop-less Inv-loop μ-loop
 loop-less c = search lay-laws
 
 loop-again : tie.Need-loop-again Inv-loop μ-loop
-loop-again c = laying-next _ _ _ _ _ _ _ _ (c .before .before .before .before .loop .inv) (search needs) _ _ (c .before .made .ensures) (search needs)
+loop-again c = laying-next _ _ _ _ _ _ _ _ (c .before .before .before .before .before .loop .inv) (search needs) _ _ (c .before .made .ensures) (search needs)
 
 add-result : tie.Need-add-result Inv-loop μ-loop
 add-result c = search lay-laws
@@ -70,7 +70,7 @@ lay-spec =
     μ-loop
     loop-holds
     mul-made
-    shared-slice-read-made
+    element-copy-out-made
     made-requires
     word-requires
     add-table

@@ -12,8 +12,8 @@ cast-of-kind c = search made-laws
 mul-of-kind : tie.Need-mul-of-kind
 mul-of-kind c = search made-laws
 
-array-read-of-kind : tie.Need-array-read-of-kind
-array-read-of-kind c = search made-laws
+element-copy-out-of-kind : tie.Need-element-copy-out-of-kind
+element-copy-out-of-kind c = search made-laws
 
 cast-of-kind-2 : tie.Need-cast-of-kind-2
 cast-of-kind-2 c = search made-laws
@@ -21,8 +21,8 @@ cast-of-kind-2 c = search made-laws
 mul-of-kind-2 : tie.Need-mul-of-kind-2
 mul-of-kind-2 c = search made-laws
 
-array-read-of-kind-2 : tie.Need-array-read-of-kind-2
-array-read-of-kind-2 c = search made-laws
+element-copy-out-of-kind-2 : tie.Need-element-copy-out-of-kind-2
+element-copy-out-of-kind-2 c = search made-laws
 
 of-kind-requires : tie.Need-of-kind-requires
 of-kind-requires c κs = search made-laws
@@ -37,9 +37,9 @@ made-spec =
     of-word-requires
     cast-of-kind
     mul-of-kind
-    array-read-of-kind
+    element-copy-out-of-kind
     cast-of-kind-2
     mul-of-kind-2
-    array-read-of-kind-2
+    element-copy-out-of-kind-2
     of-kind-requires
     returns)
