@@ -16,10 +16,10 @@ use Rattle.theorems.proofs.ScheduleIndependence.{Accepted, local-judging, local
 use Rattle.judges.specs.Verdicts as judges
 use Rattle.judges.specs.declared.verdicts.Judgement as judged
 use Rattle.judging.specs.Rewritten.{answerOf, rewrittenFor, numberOf, Judgements}
-use Rattle.judging.specs.declared.rewritten.Judgement.{Judgement}
+use Rattle.judging.specs.declared.rewritten.RewrittenJudgement.{RewrittenJudgement}
 
 -- a call of `judge_rewritten` with lent space of full size, and what its contract says of it
-pub record Call (short : Bool) (r : Rule) (R : Recording) (j : Judgement) : Type 0 where
+pub record Call (short : Bool) (r : Rule) (R : Recording) (j : RewrittenJudgement) : Type 0 where
   pub table : List ℕ
   pub rows : List ℕ
   pub table′ : List ℕ
@@ -33,7 +33,7 @@ abbrev own : Rule → Recording → List ℕ
 own r R = verdictValues (localVerdicts (nodesIn (r .count) (r .nodes)) (maskOf R (r .controller)) (localTrace R (r .controller)))
 
 -- such a call answers the node count of the rewritten rule and the rule's own verdicts
-call-answers : (short : Bool) (r : Rule) (R : Recording) (j : Judgement) → Accepted r R → Call short r R j →
+call-answers : (short : Bool) (r : Rule) (R : Recording) (j : RewrittenJudgement) → Accepted r R → Call short r R j →
     answerOf j ≡ answer accepted (length ((rewrittenFor short r R) .nodes) ∷ own r R)
 unfolding numberOf pick
 call-answers short r R j A c =
@@ -42,7 +42,7 @@ call-answers short r R j A c =
     rw z at (c .meets .answered)
 
 -- the six answers, one pair of verdicts
-pub record FourJudgements (r : Rule) (R S : Recording) (plainR shortR plainS shortS : Judgement) (localR localS : judged.Judgement) (verdicts : List ℕ) : Type 0 where
+pub record FourJudgements (r : Rule) (R S : Recording) (plainR shortR plainS shortS : RewrittenJudgement) (localR localS : judged.Judgement) (verdicts : List ℕ) : Type 0 where
   pub plainFirst : answerOf plainR ≡ answer accepted (length ((rewrittenFor false r R) .nodes) ∷ verdicts)
   pub shortFirst : answerOf shortR ≡ answer accepted (length ((rewrittenFor true r R) .nodes) ∷ verdicts)
   pub plainSecond : answerOf plainS ≡ answer accepted (length ((rewrittenFor false r S) .nodes) ∷ verdicts)
@@ -54,7 +54,7 @@ pub record FourJudgements (r : Rule) (R S : Recording) (plainR shortR plainS sho
 -- answers over them, plain and short, and whatever `judge_local` answers, the verdicts are one pair, the rule's own on that local trace.
 pub code-schedule-independence : (r : Rule) (R S : Recording) → Accepted r R → Accepted r S →
     localTrace R (r .controller) ≡ localTrace S (r .controller) → maskOf R (r .controller) ≡ maskOf S (r .controller) →
-    (plainR shortR plainS shortS : Judgement) (localR localS : judged.Judgement) →
+    (plainR shortR plainS shortS : RewrittenJudgement) (localR localS : judged.Judgement) →
     Call false r R plainR → Call true r R shortR → Call false r S plainS → Call true r S shortS →
     judges.answerOf localR ≡ judgeLocalAnswer r R → judges.answerOf localS ≡ judgeLocalAnswer r S →
     FourJudgements r R S plainR shortR plainS shortS localR localS

@@ -1,28 +1,17 @@
 // What the program prints, line by line: of a refusal, and of an accepted rule and recording. Nothing is decided here.
-ghost use mathlib.Core.List.{_∷_};
+ghost use mathlib.Core.List.{[], _∷_, _++_};
 ghost use Prim.Native.Nat.{_+_, _≤_};
 ghost use lib.ListN.{length};
-ghost use Rattle.definitions.specs.Lines.{tab};
-ghost use Rattle.definitions.specs.Program.{yesNo, localText, refusedText};
+ghost use Rattle.definitions.specs.Lines.{newline};
+ghost use Rattle.definitions.specs.Program.{ownWord, refusedText};
 ghost use Rattle.printing.specs.Printing.{Printed};
-ghost use Rattle.report.specs.Reporting.{lineField, verdictsLine, ownLine, rewrittenLine, reportText};
+ghost use Rattle.report.specs.Reporting.{verdictsEnd, Ends, countedLine, ownLine, rewrittenLine, reportText};
 use fields::scan;
 use judges::verdicts::Verdicts;
+use judging::rewritten::Rewritten;
 use printing::put;
 use printing::put_byte;
 use printing::put_field;
-
-// The node count of a rewritten rule, and its verdicts.
-pub struct Rewritten {
-    pub count: u32,
-    pub verdicts: Verdicts,
-}
-
-// The rule rewritten plain and short.
-pub struct Rewritings {
-    pub plain: Rewritten,
-    pub short: Rewritten,
-}
 
 // All that is printed of an accepted rule and recording.
 pub struct Report {
@@ -32,62 +21,79 @@ pub struct Report {
     pub short: Rewritten,
 }
 
-// A tab and the verdict.
-fn put_verdict(verdict: bool, at: usize, text: &mut [u8]) -> usize
-    requires { ⌜ at + length (tab ∷ yesNo verdict) ≤ length (now text) ⌝ }
-    ensures { λ r. ⌜ Printed (tab ∷ yesNo verdict) (now (text .entry)) at r (now (text .exit)) ⌝ }
+// How a line ends: so many bytes of these.
+struct Ending {
+    bytes: [u8; 9],
+    count: usize,
+}
+
+const YES_YES: Ending = Ending {
+    bytes: *b"\tyes\tyes\n",
+    count: 9,
+};
+
+const YES_NO: Ending = Ending {
+    bytes: *b"\tyes\tno\n ",
+    count: 8,
+};
+
+const NO_YES: Ending = Ending {
+    bytes: *b"\tno\tyes\n ",
+    count: 8,
+};
+
+const NO_NO: Ending = Ending {
+    bytes: *b"\tno\tno\n  ",
+    count: 7,
+};
+
+// "(weak, strong ..)", closed by byte 10.
+fn end_of(v: Verdicts) -> Ending
+    ensures { λ r. ⌜ Ends (verdictsEnd v) r ⌝ }
 {
-    let next = put_byte(scan::TAB, at, text);
-    if verdict {
-        return put(b"yes", next, text);
+    if v.weak & v.strong {
+        return YES_YES;
     }
-    put(b"no", next, text)
+    if v.weak {
+        return YES_NO;
+    }
+    if v.strong {
+        return NO_YES;
+    }
+    NO_NO
 }
 
-// The verdicts that end a line, weak first.
-fn put_verdicts(weak: bool, strong: bool, at: usize, text: &mut [u8]) -> usize
-    requires { ⌜ at + length (verdictsLine weak strong) ≤ length (now text) ⌝ }
-    ensures { λ r. ⌜ Printed (verdictsLine weak strong) (now (text .entry)) at r (now (text .exit)) ⌝ }
-{
-    let after_weak = put_verdict(weak, at, text);
-    let after_strong = put_verdict(strong, after_weak, text);
-    put_byte(scan::NEWLINE, after_strong, text)
-}
-
-// The line `local`.
-fn put_local(places: u32, text: &mut [u8]) -> usize
-    requires { ⌜ length (localText places) ≤ length (now text) ⌝ }
-    ensures { λ r. ⌜ Printed (localText places) (now (text .entry)) 0 r (now (text .exit)) ⌝ }
-{
-    let after_word = put(b"local", 0, text);
-    let after_places = put_field(places, after_word, text);
-    put_byte(scan::NEWLINE, after_places, text)
-}
-
-// The line `own`.
-fn put_own(weak: bool, strong: bool, at: usize, text: &mut [u8]) -> usize
-    requires { ⌜ at + length (ownLine weak strong) ≤ length (now text) ⌝ }
-    ensures { λ r. ⌜ Printed (ownLine weak strong) (now (text .entry)) at r (now (text .exit)) ⌝ }
-{
-    let after_word = put(b"own", at, text);
-    put_verdicts(weak, strong, after_word, text)
-}
-
-// The line of a rewritten rule.
-fn put_rewritten(
-    word: &[u8],
-    count: u32,
-    weak: bool,
-    strong: bool,
-    at: usize,
-    text: &mut [u8],
-) -> usize
-    requires { ⌜ at + length (rewrittenLine (now word) count weak strong) ≤ length (now text) ⌝ }
-    ensures { λ r. ⌜ Printed (rewrittenLine (now (word .entry)) count weak strong) (now (text .entry)) at r (now (text .exit)) ⌝ }
+// A word, a number and how the line ends.
+fn put_line(word: &[u8], number: u32, end: &[u8], at: usize, text: &mut [u8]) -> usize
+    requires { ⌜ at + length (countedLine (now word) number (now end)) ≤ length (now text) ⌝ }
+    ensures { λ r. ⌜ Printed (countedLine (now (word .entry)) number (now (end .entry))) (now (text .entry)) at r (now (text .exit)) ⌝ }
 {
     let after_word = put(word, at, text);
-    let after_count = put_field(count, after_word, text);
-    put_verdicts(weak, strong, after_count, text)
+    let after_number = put_field(number, after_word, text);
+    put(end, after_number, text)
+}
+
+// "`own yes no` (weak, strong on the local trace)"
+fn put_own(own: Verdicts, at: usize, text: &mut [u8]) -> usize
+    requires { ⌜ at + length (ownLine own) ≤ length (now text) ⌝ }
+    ensures { λ r. ⌜ Printed (ownLine own) (now (text .entry)) at r (now (text .exit)) ⌝ }
+{
+    let end = end_of(own);
+    let bytes = end.bytes;
+    let count = end.count;
+    let after_word = put(b"own", at, text);
+    put(&bytes[..count], after_word, text)
+}
+
+// "`plain 55 yes no` (nodes, weak, strong)", and so for `short`.
+fn put_rewritten(word: &[u8], rewritten: Rewritten, at: usize, text: &mut [u8]) -> usize
+    requires { ⌜ at + length (rewrittenLine (now word) rewritten) ≤ length (now text) ⌝ }
+    ensures { λ r. ⌜ Printed (rewrittenLine (now (word .entry)) rewritten) (now (text .entry)) at r (now (text .exit)) ⌝ }
+{
+    let end = end_of(rewritten.verdicts);
+    let bytes = end.bytes;
+    let count = end.count;
+    put_line(word, rewritten.count, &bytes[..count], at, text)
 }
 
 // The four lines of an accepted rule and recording.
@@ -95,47 +101,18 @@ pub fn put_report(report: Report, text: &mut [u8]) -> usize
     requires { ⌜ length (reportText report) ≤ length (now text) ⌝ }
     ensures { λ r. ⌜ Printed (reportText report) (now (text .entry)) 0 r (now (text .exit)) ⌝ }
 {
-    let own = report.own;
-    let plain = report.plain;
-    let short = report.short;
-    let plain_verdicts = plain.verdicts;
-    let short_verdicts = short.verdicts;
-    let after_local = put_local(report.places, text);
-    let after_own = put_own(own.weak, own.strong, after_local, text);
-    let after_plain = put_rewritten(
-        b"plain",
-        plain.count,
-        plain_verdicts.weak,
-        plain_verdicts.strong,
-        after_own,
-        text,
-    );
-    put_rewritten(
-        b"short",
-        short.count,
-        short_verdicts.weak,
-        short_verdicts.strong,
-        after_plain,
-        text,
-    )
+    let after_local = put_line(b"local", report.places, b"\n", 0, text);
+    let after_own = put_own(report.own, after_local, text);
+    let after_plain = put_rewritten(b"plain", report.plain, after_own, text);
+    put_rewritten(b"short", report.short, after_plain, text)
 }
 
-// A tab, the bytes of a line, and byte 10.
-fn put_line(line: &[u8], at: usize, text: &mut [u8]) -> usize
-    requires { ⌜ at + length (lineField (now line)) ≤ length (now text) ⌝ }
-    ensures { λ r. ⌜ Printed (lineField (now (line .entry))) (now (text .entry)) at r (now (text .exit)) ⌝ }
-{
-    let after_tab = put_byte(scan::TAB, at, text);
-    let after_line = put(line, after_tab, text);
-    put_byte(scan::NEWLINE, after_line, text)
-}
-
-// The only line of a refusal: its number and the refused line.
+// "Refused, it prints only `refused`, number, line, tab-parted"
 pub fn put_refused(number: u32, line: &[u8], text: &mut [u8]) -> usize
     requires { ⌜ length (refusedText number (now line)) ≤ length (now text) ⌝ }
     ensures { λ r. ⌜ Printed (refusedText number (now (line .entry))) (now (text .entry)) 0 r (now (text .exit)) ⌝ }
 {
-    let after_word = put(b"refused", 0, text);
-    let after_number = put_field(number, after_word, text);
-    put_line(line, after_number, text)
+    let after_number = put_line(b"refused", number, b"\t", 0, text);
+    let after_line = put(line, after_number, text);
+    put_byte(scan::NEWLINE, after_line, text)
 }

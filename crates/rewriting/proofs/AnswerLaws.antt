@@ -80,6 +80,7 @@ table-of short mask count ws o t o′ o″ h b c =
     record {
       table = c ∙ rw (front, rest, ← l) (sym (left-accepted maxTableNodes (map nodeWord T) o));
       count = n;
+      few = b .low;
       weak = b .weak;
       strong = b .strong;
     }

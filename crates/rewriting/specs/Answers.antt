@@ -31,6 +31,7 @@ pub record Tabled (short : Bool) (mask count : ℕ) (ws o : List ℕ) (r : Tops)
 pub record TableOf (T : table.Rewritten) (o : List ℕ) (r : Tops) (o′ : List ℕ) : Type 0 where
   pub table : o′ ≡ left accepted maxTableNodes (map nodeWord (T .nodes)) o
   pub count : r .count ≡ length (T .nodes)
+  pub few : r .count ≤ maxTableNodes
   pub weak : r .weak ≡ T .weakTop
   pub strong : r .strong ≡ T .strongTop
 
