@@ -1,6 +1,6 @@
 /*
  * Ragyvosin: judges the rule of one controller over the recording of a whole
- * rack. Link the archive that `rt staticlib ragyvosin` writes.
+ * rack. Link the archive that `rt staticlib ragyvosin_c` writes.
  *
  * Every function takes any input: any bytes, any tables, any lent space, each
  * slice as a pointer and the number of its entries. What C owes: a pointer is

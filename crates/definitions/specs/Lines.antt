@@ -1,15 +1,16 @@
 -- "Texts": bytes, lines, fields, decimal and hexadecimal forms, and printed numbers.
 use Prim.Native.Nat.{ℕ, zero, suc, _+_, _-_, _*_, _/_, _%_}
-use mathlib.Core.Bool.{Bool, true, false, not, _&&_, _||_, cond}
+use mathlib.Core.Bool.{Bool, true, false, not, _&&_}
 use mathlib.Core.List.{List, [], _∷_, _++_}
 use Prim.Native.String.{String, len, charAt}
 use Prim.Native.Char.{code}
 use lib.ListN.{length, take, drop}
-use lib.Dec.{eqb, ltb, leb}
+use lib.Dec.{eqb, ltb}
+use Rattle.definitions.specs.Limits.{accepted}
 use Rattle.definitions.specs.Bounded.{pick, within}
 
 -- the n bytes of a quoted word from byte i on
-abbrev pub bytesFrom : String → ℕ → ℕ → List ℕ
+abbrev pub bytesFrom : (s : String) (i n : ℕ) → List ℕ
 bytesFrom s i zero = []
 bytesFrom s i (suc n) = code (charAt s i) ∷ bytesFrom s (suc i) n
 
@@ -30,37 +31,25 @@ abbrev pub carriageReturn : ℕ
 carriageReturn = 13
 
 -- how many bytes stand before the first byte b; all of them where there is none
-unfoldable pub before : ℕ → List ℕ → ℕ
+unfoldable pub before : (b : ℕ) (t : List ℕ) → ℕ
 before b [] = 0
-before b (x ∷ t) = cond (eqb x b) 0 (suc (before b t))
+before b (x ∷ t) = pick (eqb x b) 0 (suc (before b t))
 
 -- nothing is left of a text
 abbrev pub isEmpty : List ℕ → Bool
 isEmpty t = eqb (length t) 0
 
--- the first line is "closed by byte 10"
-abbrev pub isClosed : List ℕ → Bool
-isClosed t = ltb (before newline t) (length t)
+-- byte b is there: a line is "closed by byte 10", "fields parted by one tab"
+abbrev pub has : ℕ → List ℕ → Bool
+has b t = ltb (before b t) (length t)
 
--- the first line, "without byte 10"; all that is left where none closes it
-abbrev pub lineOf : List ℕ → List ℕ
-lineOf t = take (before newline t) t
+-- what stands before the first byte b: the line "without byte 10", the field before a tab; all that is left where there is none
+abbrev pub upTo : ℕ → List ℕ → List ℕ
+upTo b t = take (before b t) t
 
--- the text after the first line
-abbrev pub restOf : List ℕ → List ℕ
-restOf t = drop (before newline t + 1) t
-
--- "fields parted by one tab"
-abbrev pub hasTab : List ℕ → Bool
-hasTab s = ltb (before tab s) (length s)
-
--- the first field: all of the line where no tab follows
-abbrev pub fieldOf : List ℕ → List ℕ
-fieldOf s = take (before tab s) s
-
--- "the rest of the text after each tab"
-abbrev pub afterTab : List ℕ → List ℕ
-afterTab s = drop (before tab s + 1) s
+-- what follows the first byte b: the lines that are left, "the rest of the text after each tab"
+abbrev pub after : ℕ → List ℕ → List ℕ
+after b t = drop (before b t + 1) t
 
 -- what a line or a field is, where it is of its form
 pub data Parsed (A : Type 0) : Type 0 where
@@ -92,7 +81,7 @@ hexOn v [] = formed v
 hexOn v (x ∷ t) = pick (ltb (hexDigit x) 16) (hexOn (v * 16 + hexDigit x) t) malformed
 
 -- "eight lower-case hexadecimal digits", or as many as the width says
-unfoldable pub hexadecimal : ℕ → List ℕ → Parsed ℕ
+unfoldable pub hexadecimal : (width : ℕ) (s : List ℕ) → Parsed ℕ
 hexadecimal width s = pick (eqb (length s) width) (hexOn 0 s) malformed
 
 -- two lists of bytes are the same
@@ -107,24 +96,32 @@ unfoldable pub letters : List ℕ → Bool
 letters [] = true
 letters (x ∷ t) = within 97 122 x && letters t
 
--- two decimal fields
+-- two numbers of a line
 pub record Heading : Type 0 where
   pub first : ℕ
   pub second : ℕ
 
+-- a heading of these numbers
+abbrev pub heading : ℕ → ℕ → Heading
+heading a b = record { first = a; second = b }
+
 -- two fields parted by a tab, each by its reader
-unfoldable pub twoFields : {A : Type 0} → (List ℕ → Parsed ℕ) → (List ℕ → Parsed ℕ) → (ℕ → ℕ → A) → List ℕ → Parsed A
+unfoldable pub twoFields : {A : Type 0} (f g : List ℕ → Parsed ℕ) (make : ℕ → ℕ → A) (s : List ℕ) → Parsed A
 twoFields f g make s =
-    pick (hasTab s)
-    (onParsed (f (fieldOf s)) malformed (λ a. onParsed (g (afterTab s)) malformed (λ b. formed (make a b))))
+    pick (has tab s)
+    (onParsed (f (upTo tab s)) malformed (λ a. onParsed (g (after tab s)) malformed (λ b. formed (make a b))))
     malformed
 
 -- a line of a word and what follows its tab
-unfoldable pub worded : {A : Type 0} → List ℕ → (List ℕ → Parsed A) → List ℕ → Parsed A
-worded word fields s = pick (same (fieldOf s) word && hasTab s) (fields (afterTab s)) malformed
+unfoldable pub worded : {A : Type 0} (word : List ℕ) (fields : List ℕ → Parsed A) (s : List ℕ) → Parsed A
+worded word fields s = pick (same (upTo tab s) word && has tab s) (fields (after tab s)) malformed
 
--- "Numbers are printed highest digit first": the digits of n, at most one more than the first number says
-unfoldable pub digitsBy : ℕ → ℕ → List ℕ
+-- a word and two decimal fields: the first line of a text
+unfoldable pub headingForm : (word s : List ℕ) → Parsed Heading
+headingForm word s = worded word (twoFields decimal decimal heading) s
+
+-- "Numbers are printed highest digit first": the digits of n, at most one more than `more` says
+unfoldable pub digitsBy : (more n : ℕ) → List ℕ
 digitsBy zero n = (48 + n) ∷ []
 digitsBy (suc more) n = pick (ltb n 10) ((48 + n) ∷ []) (digitsBy more (n / 10) ++ ((48 + n % 10) ∷ []))
 
@@ -132,9 +129,24 @@ digitsBy (suc more) n = pick (ltb n 10) ((48 + n) ∷ []) (digitsBy more (n / 10
 unfoldable pub digits : ℕ → List ℕ
 digits n = digitsBy n n
 
--- the refusal of the next line of a text: it is missing, it is not closed, or it is refused as a line
-unfoldable pub nextRefusal : ℕ → ℕ → List ℕ → ℕ → ℕ
-nextRefusal missing unclosed t refusal = pick (isEmpty t) missing (pick (isClosed t) refusal unclosed)
+-- the next line of a text: refused with a number, or read as this, with the text after it
+pub data NextLine (A : Type 0) : Type 0 where
+  refused : ℕ → NextLine A
+  read : A → List ℕ → NextLine A
+
+-- by the cases of the next line
+unfoldable pub onNext : {A B : Type 0} → NextLine A → (ℕ → B) → (A → List ℕ → B) → B
+onNext (refused number) stops goes = stops number
+onNext (read a rest) stops goes = goes a rest
+
+-- the next line, by its form and its check: it is missing, it is "not closed by byte 10, or not of its form", its check refuses it, or it is read
+unfoldable pub nextLine : {A : Type 0} (missing unformed : ℕ) (form : List ℕ → Parsed A) (check : A → ℕ) → List ℕ → NextLine A
+nextLine missing unformed form check t =
+    pick (isEmpty t) (refused missing)
+    (pick (has newline t)
+    (onParsed (form (upTo newline t)) (refused unformed)
+    (λ a. pick (eqb (check a) accepted) (read a (after newline t)) (refused (check a))))
+    (refused unformed))
 
 -- what a reader of lines has: the refusal or 0, the words read, and the text from the refused line on (of an accepted text, its empty end)
 pub record Scan : Type 0 where

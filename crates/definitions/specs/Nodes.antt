@@ -42,7 +42,7 @@ pub record Node : Type 0 where
   pub second : ℕ
 
 -- a node of a kind with its operands
-abbrev pub node : Kind → ℕ → ℕ → Node
+abbrev pub node : (k : Kind) (a b : ℕ) → Node
 node k a b = record { kind = k; first = a; second = b }
 
 -- how many operands a kind uses

@@ -1,19 +1,19 @@
 -- "The operations": what each answers on any input, and what every lent slice holds afterwards.
-use Prim.Native.Nat.{ℕ, zero, suc, _+_, _-_}
-use mathlib.Core.Bool.{Bool, true, false, not, _&&_, _||_}
+use Prim.Native.Nat.{ℕ, _-_}
+use mathlib.Core.Bool.{Bool, _||_}
 use mathlib.Core.List.{List, [], _∷_, _++_, map}
 use lib.ListN.{length, take, drop, getD, replicate}
 use lib.Dec.{eqb, ltb}
-use Rattle.definitions.specs.Limits.{accepted, lentShort, noController, tooManyNodes, maxRuleNodes, maxControllers, maxStates, maxTableNodes, maxRowWords, maxRuleBytes}
+use Rattle.definitions.specs.Limits.{accepted, lentShort, tooManyNodes, maxRuleNodes, maxControllers, maxStates, maxTableNodes, maxRowWords, maxRuleBytes}
 use Rattle.definitions.specs.Bounded.{pick, orElse, bit}
-use Rattle.definitions.specs.Nodes.{Node, nodeWord}
-use Rattle.definitions.specs.Tables.{Rule, Table, ruleRefusal, tableRefusal, nodesIn}
-use Rattle.definitions.specs.Recordings.{Recording, recordingRefusal, maskOf}
+use Rattle.definitions.specs.Nodes.{nodeWord}
+use Rattle.definitions.specs.Tables.{Rule, Table, tableOf, ruleRefusal, tableRefusal, nodesIn}
+use Rattle.definitions.specs.Recordings.{Recording, recordingRefusal, controllerRefusal, maskOf}
 use Rattle.definitions.specs.Projection.{localTrace}
-use Rattle.definitions.specs.Readings.{Trace, local, whole, verdict, rowsOf, pairsWords}
+use Rattle.definitions.specs.Readings.{whole, rowsOf, Verdicts, verdicts, localVerdicts, pairsWords}
 use Rattle.definitions.specs.Rewriting.{Rewritten, rewriting}
-use Rattle.definitions.specs.RuleText.{RuleScan, scanRule, ruleText}
-use Rattle.definitions.specs.RecordingText.{RecordingScan, scanRecording, Part, emptyStart, jointNumber, jointPart}
+use Rattle.definitions.specs.RuleText.{scanRule, ruleText}
+use Rattle.definitions.specs.RecordingText.{scanRecording, Part, emptyStart, jointNumber, jointPart}
 
 -- what an operation answers: the refusal number or 0, and its values
 pub record Answer : Type 0 where
@@ -21,30 +21,30 @@ pub record Answer : Type 0 where
   pub values : List ℕ
 
 -- "A refusal carries its number alone"
-unfoldable pub answer : ℕ → List ℕ → Answer
+unfoldable pub answer : (number : ℕ) (values : List ℕ) → Answer
 answer number values = record { number = number; values = pick (eqb number accepted) values [] }
 
 -- "shorter than its full size"
-abbrev pub tooShort : ℕ → List ℕ → Bool
+abbrev pub tooShort : (full : ℕ) (entry : List ℕ) → Bool
 tooShort full entry = ltb (length entry) full
 
 -- what a lent slice holds afterwards: "After 13 lent space is untouched; after another refusal its full size is zero.
 -- Accepted, unused entries are zero. What is lent past the full size is never touched"
-unfoldable pub left : ℕ → ℕ → List ℕ → List ℕ → List ℕ
+unfoldable pub left : (number full : ℕ) (content entry : List ℕ) → List ℕ
 left number full content entry =
     pick (eqb number lentShort) entry
     (pick (eqb number accepted) (content ++ (replicate (full - length content) 0 ++ drop full entry)) (replicate full 0 ++ drop full entry))
 
 -- "read a rule (controller, count, nodes)"
-unfoldable pub readRuleNumber : List ℕ → List ℕ → ℕ
+unfoldable pub readRuleNumber : (text nodes : List ℕ) → ℕ
 readRuleNumber text nodes = pick (tooShort maxRuleNodes nodes) lentShort ((scanRule text) .number)
 
 -- its answer: controller and count
-unfoldable pub readRuleAnswer : List ℕ → List ℕ → Answer
+unfoldable pub readRuleAnswer : (text nodes : List ℕ) → Answer
 readRuleAnswer text nodes = answer (readRuleNumber text nodes) ((scanRule text) .controller ∷ (scanRule text) .count ∷ [])
 
 -- its lent nodes
-unfoldable pub readRuleNodes : List ℕ → List ℕ → List ℕ
+unfoldable pub readRuleNodes : (text nodes : List ℕ) → List ℕ
 readRuleNodes text nodes = left (readRuleNumber text nodes) maxRuleNodes ((scanRule text) .words) nodes
 
 -- "write one (length, text)"
@@ -52,42 +52,42 @@ abbrev pub textOf : Rule → List ℕ
 textOf r = ruleText (r .controller) (r .count) (take (r .count) (r .nodes))
 
 -- its refusal: 13, then the rule
-unfoldable pub writeRuleNumber : Rule → List ℕ → ℕ
+unfoldable pub writeRuleNumber : (r : Rule) (text : List ℕ) → ℕ
 writeRuleNumber r text = pick (tooShort maxRuleBytes text) lentShort (ruleRefusal r)
 
 -- its answer: the length
-unfoldable pub writeRuleAnswer : Rule → List ℕ → Answer
+unfoldable pub writeRuleAnswer : (r : Rule) (text : List ℕ) → Answer
 writeRuleAnswer r text = answer (writeRuleNumber r text) (length (textOf r) ∷ [])
 
 -- its lent text
-unfoldable pub writeRuleText : Rule → List ℕ → List ℕ
+unfoldable pub writeRuleText : (r : Rule) (text : List ℕ) → List ℕ
 writeRuleText r text = left (writeRuleNumber r text) maxRuleBytes (textOf r) text
 
 -- "read a recording (C, N, masks, states)"
-unfoldable pub readRecordingNumber : List ℕ → List ℕ → List ℕ → ℕ
+unfoldable pub readRecordingNumber : (text masks states : List ℕ) → ℕ
 readRecordingNumber text masks states =
     pick (tooShort maxControllers masks || tooShort maxStates states) lentShort ((scanRecording text) .number)
 
 -- its answer: C and N
-unfoldable pub readRecordingAnswer : List ℕ → List ℕ → List ℕ → Answer
+unfoldable pub readRecordingAnswer : (text masks states : List ℕ) → Answer
 readRecordingAnswer text masks states =
     answer (readRecordingNumber text masks states) ((scanRecording text) .controllers ∷ (scanRecording text) .count ∷ [])
 
 -- its lent masks
-unfoldable pub readRecordingMasks : List ℕ → List ℕ → List ℕ → List ℕ
+unfoldable pub readRecordingMasks : (text masks states : List ℕ) → List ℕ
 readRecordingMasks text masks states = left (readRecordingNumber text masks states) maxControllers ((scanRecording text) .masks) masks
 
 -- its lent states
-unfoldable pub readRecordingStates : List ℕ → List ℕ → List ℕ → List ℕ
+unfoldable pub readRecordingStates : (text masks states : List ℕ) → List ℕ
 readRecordingStates text masks states = left (readRecordingNumber text masks states) maxStates ((scanRecording text) .states) states
 
 -- "the joint reading": the number and, accepted, controller, node count, C and N; the three lent slices; the part handed back
-unfoldable pub readJointNumber : List ℕ → List ℕ → List ℕ → List ℕ → List ℕ → ℕ
+unfoldable pub readJointNumber : (rule recording nodes masks states : List ℕ) → ℕ
 readJointNumber rule recording nodes masks states =
     pick (tooShort maxRuleNodes nodes || tooShort maxControllers masks || tooShort maxStates states) lentShort (jointNumber rule recording)
 
 -- the heading: the number, then controller, node count, C and N, all zero on a refusal
-unfoldable pub readJointHeading : List ℕ → List ℕ → List ℕ → List ℕ → List ℕ → List ℕ
+unfoldable pub readJointHeading : (rule recording nodes masks states : List ℕ) → List ℕ
 readJointHeading rule recording nodes masks states =
     readJointNumber rule recording nodes masks states
     ∷ pick (eqb (readJointNumber rule recording nodes masks states) accepted)
@@ -95,61 +95,53 @@ readJointHeading rule recording nodes masks states =
     (0 ∷ 0 ∷ 0 ∷ 0 ∷ [])
 
 -- its lent nodes
-unfoldable pub readJointNodes : List ℕ → List ℕ → List ℕ → List ℕ → List ℕ → List ℕ
+unfoldable pub readJointNodes : (rule recording nodes masks states : List ℕ) → List ℕ
 readJointNodes rule recording nodes masks states =
     left (readJointNumber rule recording nodes masks states) maxRuleNodes ((scanRule rule) .words) nodes
 
 -- its lent masks
-unfoldable pub readJointMasks : List ℕ → List ℕ → List ℕ → List ℕ → List ℕ → List ℕ
+unfoldable pub readJointMasks : (rule recording nodes masks states : List ℕ) → List ℕ
 readJointMasks rule recording nodes masks states =
     left (readJointNumber rule recording nodes masks states) maxControllers ((scanRecording recording) .masks) masks
 
 -- its lent states
-unfoldable pub readJointStates : List ℕ → List ℕ → List ℕ → List ℕ → List ℕ → List ℕ
+unfoldable pub readJointStates : (rule recording nodes masks states : List ℕ) → List ℕ
 readJointStates rule recording nodes masks states =
     left (readJointNumber rule recording nodes masks states) maxStates ((scanRecording recording) .states) states
 
 -- "hands back the refused line itself": "for 13 the empty start of the rule text"
-unfoldable pub readJointPart : List ℕ → List ℕ → List ℕ → List ℕ → List ℕ → Part
+unfoldable pub readJointPart : (rule recording nodes masks states : List ℕ) → Part
 readJointPart rule recording nodes masks states =
     pick (eqb (readJointNumber rule recording nodes masks states) lentShort) emptyStart (jointPart rule recording)
 
--- "a controller not below C is 11"
-unfoldable pub controllerRefusal : Recording → ℕ → ℕ
-controllerRefusal R c = pick (ltb c (R .controllers)) accepted noController
-
 -- "project (recording and c)": L and the places
-unfoldable pub projectNumber : Recording → ℕ → List ℕ → ℕ
-projectNumber R c places = pick (tooShort maxStates places) lentShort (orElse (recordingRefusal R) (controllerRefusal R c))
+unfoldable pub projectNumber : (R : Recording) (c : ℕ) (places : List ℕ) → ℕ
+projectNumber R c places = pick (tooShort maxStates places) lentShort (orElse (recordingRefusal R) (controllerRefusal (R .controllers) c))
 
 -- its answer: L
-unfoldable pub projectAnswer : Recording → ℕ → List ℕ → Answer
+unfoldable pub projectAnswer : (R : Recording) (c : ℕ) (places : List ℕ) → Answer
 projectAnswer R c places = answer (projectNumber R c places) (length (localTrace R c) ∷ [])
 
 -- its lent places
-unfoldable pub projectPlaces : Recording → ℕ → List ℕ → List ℕ
+unfoldable pub projectPlaces : (R : Recording) (c : ℕ) (places : List ℕ) → List ℕ
 projectPlaces R c places = left (projectNumber R c places) maxStates (localTrace R c) places
 
--- the weak verdict at one top, the strong verdict at another
-abbrev pub verdicts : Trace → List Node → ℕ → ℕ → List ℕ
-verdicts t ns weakTop strongTop = bit (verdict t ns weakTop true) ∷ bit (verdict t ns strongTop false) ∷ []
+-- verdicts as values: the weak one, then the strong one
+abbrev pub verdictValues : Verdicts → List ℕ
+verdictValues v = bit (v .weak) ∷ bit (v .strong) ∷ []
 
--- "judge a rule on its local trace (rule and recording, for the rule's controller)"; "the last is the rule"
-unfoldable pub judgeLocalNumber : Rule → Recording → ℕ
-judgeLocalNumber r R = orElse (ruleRefusal r) (orElse (recordingRefusal R) (controllerRefusal R (r .controller)))
-
--- the verdicts of a rule on a local trace
-abbrev pub localVerdicts : List Node → ℕ → List ℕ → List ℕ
-localVerdicts ns mask places = verdicts (local mask places) ns (length ns - 1) (length ns - 1)
+-- "judge a rule on its local trace (rule and recording, for the rule's controller)"
+unfoldable pub judgeLocalNumber : (r : Rule) (R : Recording) → ℕ
+judgeLocalNumber r R = orElse (ruleRefusal r) (orElse (recordingRefusal R) (controllerRefusal (R .controllers) (r .controller)))
 
 -- its answer: the weak and the strong verdict
-unfoldable pub judgeLocalAnswer : Rule → Recording → Answer
+unfoldable pub judgeLocalAnswer : (r : Rule) (R : Recording) → Answer
 judgeLocalAnswer r R =
     answer (judgeLocalNumber r R)
-    (localVerdicts (nodesIn (r .count) (r .nodes)) (maskOf R (r .controller)) (localTrace R (r .controller)))
+    (verdictValues (localVerdicts (nodesIn (r .count) (r .nodes)) (maskOf R (r .controller)) (localTrace R (r .controller))))
 
 -- "rewrite plain or short (rule and own mask, any 32 bits)": node count and both tops, and the table
-abbrev pub rewrittenOf : Bool → Rule → ℕ → Rewritten
+abbrev pub rewrittenOf : (short : Bool) (r : Rule) (mask : ℕ) → Rewritten
 rewrittenOf short r mask = rewriting short mask (nodesIn (r .count) (r .nodes))
 
 -- "12 over 1,024 nodes"
@@ -157,41 +149,38 @@ unfoldable pub sizeRefusal : Rewritten → ℕ
 sizeRefusal w = pick (ltb maxTableNodes (length (w .nodes))) tooManyNodes accepted
 
 -- its refusal: 13, then the rule, then 12
-unfoldable pub rewriteNumber : Bool → Rule → ℕ → List ℕ → ℕ
+unfoldable pub rewriteNumber : (short : Bool) (r : Rule) (mask : ℕ) (table : List ℕ) → ℕ
 rewriteNumber short r mask table =
     pick (tooShort maxTableNodes table) lentShort (orElse (ruleRefusal r) (sizeRefusal (rewrittenOf short r mask)))
 
 -- its answer: "node count and both tops"
-unfoldable pub rewriteAnswer : Bool → Rule → ℕ → List ℕ → Answer
+unfoldable pub rewriteAnswer : (short : Bool) (r : Rule) (mask : ℕ) (table : List ℕ) → Answer
 rewriteAnswer short r mask table =
     answer (rewriteNumber short r mask table)
     (length ((rewrittenOf short r mask) .nodes) ∷ (rewrittenOf short r mask) .weakTop ∷ (rewrittenOf short r mask) .strongTop ∷ [])
 
 -- its lent table
-unfoldable pub rewriteTable : Bool → Rule → ℕ → List ℕ → List ℕ
+unfoldable pub rewriteTable : (short : Bool) (r : Rule) (mask : ℕ) (table : List ℕ) → List ℕ
 rewriteTable short r mask table =
     left (rewriteNumber short r mask table) maxTableNodes (map nodeWord ((rewrittenOf short r mask) .nodes)) table
 
 -- "the table, count and tops that a rewriting answered"
-abbrev pub answeredTable : Bool → Rule → ℕ → List ℕ → Table
-answeredTable short r mask table = record {
-  count = getD ((rewriteAnswer short r mask table) .values) 0 0;
-  nodes = rewriteTable short r mask table;
-  weakTop = getD ((rewriteAnswer short r mask table) .values) 1 0;
-  strongTop = getD ((rewriteAnswer short r mask table) .values) 2 0;
-}
+abbrev pub answeredTable : (short : Bool) (r : Rule) (mask : ℕ) (table : List ℕ) → Table
+answeredTable short r mask table =
+    let values = (rewriteAnswer short r mask table) .values in
+    tableOf (getD values 0 0) (rewriteTable short r mask table) (getD values 1 0) (getD values 2 0)
 
 -- "judge the whole recording": the verdicts at the tops, and "a weak and a strong row for each node, the rest zero"
-unfoldable pub judgeRecordingNumber : Table → Recording → ℕ → List ℕ → ℕ
+unfoldable pub judgeRecordingNumber : (t : Table) (R : Recording) (c : ℕ) (rows : List ℕ) → ℕ
 judgeRecordingNumber t R c rows =
-    pick (tooShort maxRowWords rows) lentShort (orElse (tableRefusal t) (orElse (recordingRefusal R) (controllerRefusal R c)))
+    pick (tooShort maxRowWords rows) lentShort (orElse (tableRefusal t) (orElse (recordingRefusal R) (controllerRefusal (R .controllers) c)))
 
 -- its answer: the weak and the strong verdict
-unfoldable pub judgeRecordingAnswer : Table → Recording → ℕ → List ℕ → Answer
+unfoldable pub judgeRecordingAnswer : (t : Table) (R : Recording) (c : ℕ) (rows : List ℕ) → Answer
 judgeRecordingAnswer t R c rows =
-    answer (judgeRecordingNumber t R c rows) (verdicts (whole R c) (nodesIn (t .count) (t .nodes)) (t .weakTop) (t .strongTop))
+    answer (judgeRecordingNumber t R c rows) (verdictValues (verdicts (whole R c) (nodesIn (t .count) (t .nodes)) (t .weakTop) (t .strongTop)))
 
 -- its lent rows
-unfoldable pub judgeRecordingRows : Table → Recording → ℕ → List ℕ → List ℕ
+unfoldable pub judgeRecordingRows : (t : Table) (R : Recording) (c : ℕ) (rows : List ℕ) → List ℕ
 judgeRecordingRows t R c rows =
     left (judgeRecordingNumber t R c rows) maxRowWords (pairsWords (rowsOf (whole R c) (nodesIn (t .count) (t .nodes)))) rows

@@ -1,6 +1,6 @@
 -- "The program": from the bytes of standard input to the bytes printed.
-use Prim.Native.Nat.{ℕ, zero, suc, _+_, _-_}
-use mathlib.Core.Bool.{Bool, true, false, not, _&&_, _||_}
+use Prim.Native.Nat.{ℕ, zero, suc, _+_}
+use mathlib.Core.Bool.{Bool, true, false}
 use mathlib.Core.List.{List, [], _∷_, _++_}
 use lib.ListN.{length, take, drop}
 use lib.Dec.{eqb, ltb}
@@ -8,12 +8,12 @@ use Rattle.definitions.specs.Limits.{accepted, maxInputBytes, inputLong,
 use Rattle.definitions.specs.Bounded.{pick, orElse}
 use Rattle.definitions.specs.Nodes.{Node}
 use Rattle.definitions.specs.Tables.{nodesIn}
-use Rattle.definitions.specs.Recordings.{Recording, maskOf}
+use Rattle.definitions.specs.Recordings.{Recording, recordingOf, maskOf}
 use Rattle.definitions.specs.Projection.{localTrace}
-use Rattle.definitions.specs.Readings.{Trace, local, whole, verdict}
+use Rattle.definitions.specs.Readings.{Trace, whole, Verdicts, verdicts, localVerdicts}
 use Rattle.definitions.specs.Rewriting.{Rewritten, rewriting}
-use Rattle.definitions.specs.Lines.{bytes, tab, newline, before, isClosed, lineOf, restOf, same, digits}
-use Rattle.definitions.specs.RuleText.{RuleScan, scanRule}
+use Rattle.definitions.specs.Lines.{bytes, tab, newline, before, has, upTo, after, same, digits}
+use Rattle.definitions.specs.RuleText.{scanRule}
 use Rattle.definitions.specs.RecordingText.{RecordingScan, scanRecording, Part, jointNumber, jointPart}
 use Rattle.definitions.specs.Operations.{sizeRefusal}
 
@@ -21,24 +21,21 @@ use Rattle.definitions.specs.Operations.{sizeRefusal}
 abbrev pub splitLine : List ℕ
 splitLine = bytes "-"
 
--- "split at the first such line": the length of the rule text among at most so many lines; "with none, the recording text is empty"
-unfoldable pub ruleLength : ℕ → List ℕ → ℕ
+-- "split at the first such line": the length of the rule text among at most so many lines; all of the text with none
+unfoldable pub ruleLength : (lines : ℕ) → List ℕ → ℕ
 ruleLength zero t = length t
 ruleLength (suc lines) t =
-    pick (isClosed t) (pick (same (lineOf t) splitLine) 0 (before newline t + 1 + ruleLength lines (restOf t))) (length t)
-
--- the text after the first line `-`
-unfoldable pub afterSplit : ℕ → List ℕ → List ℕ
-afterSplit zero t = []
-afterSplit (suc lines) t = pick (isClosed t) (pick (same (lineOf t) splitLine) (restOf t) (afterSplit lines (restOf t))) []
+    pick (has newline t)
+    (pick (same (upTo newline t) splitLine) 0 (before newline t + 1 + ruleLength lines (after newline t)))
+    (length t)
 
 -- the rule text of the input
 abbrev pub ruleIn : List ℕ → List ℕ
 ruleIn input = take (ruleLength (length input) input) input
 
--- the recording text of the input
+-- the recording text of the input, after the line `-`; "with none, the recording text is empty"
 abbrev pub recordingIn : List ℕ → List ℕ
-recordingIn input = afterSplit (length input) input
+recordingIn input = after newline (drop (ruleLength (length input) input) input)
 
 -- the words that it prints
 abbrev pub refusedWord : List ℕ
@@ -62,31 +59,31 @@ yesNo true = bytes "yes"
 yesNo false = bytes "no"
 
 -- "Refused, it prints only `refused`, number, line, tab-parted"
-unfoldable pub refusedText : ℕ → List ℕ → List ℕ
+unfoldable pub refusedText : (number : ℕ) (line : List ℕ) → List ℕ
 refusedText number line = refusedWord ++ (tab ∷ (digits number ++ (tab ∷ (line ++ (newline ∷ [])))))
 
 -- the bytes of a part
-abbrev pub bytesOf : List ℕ → List ℕ → Part → List ℕ
+abbrev pub bytesOf : (rule recording : List ℕ) (p : Part) → List ℕ
 bytesOf rule recording p = take (p .count) (drop (p .from) (pick (p .ofRule) rule recording))
 
--- "(weak, strong ..)", closed by byte 10
-abbrev pub verdictsText : Trace → List Node → ℕ → ℕ → List ℕ
-verdictsText t ns weakTop strongTop = yesNo (verdict t ns weakTop true) ++ (tab ∷ (yesNo (verdict t ns strongTop false) ++ (newline ∷ [])))
+-- the weak and the strong verdict, closed by byte 10
+abbrev pub verdictsText : Verdicts → List ℕ
+verdictsText v = yesNo (v .weak) ++ (tab ∷ (yesNo (v .strong) ++ (newline ∷ [])))
 
 -- "`local 3` (places)"
 unfoldable pub localText : ℕ → List ℕ
 localText L = localWord ++ (tab ∷ (digits L ++ (newline ∷ [])))
 
 -- "`own yes no` (weak, strong on the local trace)"
-unfoldable pub ownText : List Node → ℕ → List ℕ → List ℕ
-ownText ns mask places = ownWord ++ (tab ∷ verdictsText (local mask places) ns (length ns - 1) (length ns - 1))
+unfoldable pub ownText : (ns : List Node) (mask : ℕ) (places : List ℕ) → List ℕ
+ownText ns mask places = ownWord ++ (tab ∷ verdictsText (localVerdicts ns mask places))
 
 -- "`plain 55 yes no` (nodes, weak, strong)", and so for `short`
-unfoldable pub rewrittenText : List ℕ → Trace → Rewritten → List ℕ
-rewrittenText word t w = word ++ (tab ∷ (digits (length (w .nodes)) ++ (tab ∷ verdictsText t (w .nodes) (w .weakTop) (w .strongTop))))
+unfoldable pub rewrittenText : (word : List ℕ) (t : Trace) (w : Rewritten) → List ℕ
+rewrittenText word t w = word ++ (tab ∷ (digits (length (w .nodes)) ++ (tab ∷ verdictsText (verdicts t (w .nodes) (w .weakTop) (w .strongTop)))))
 
 -- what is printed of an accepted rule and recording; "for 12 and 14 an empty line field"
-unfoldable pub judgedText : ℕ → List Node → Recording → List ℕ
+unfoldable pub judgedText : (c : ℕ) (ns : List Node) (R : Recording) → List ℕ
 judgedText c ns R =
     pick (eqb (orElse (sizeRefusal (rewriting false (maskOf R c) ns)) (sizeRefusal (rewriting true (maskOf R c) ns))) accepted)
     (localText (length (localTrace R c))
@@ -96,15 +93,15 @@ judgedText c ns R =
 
 -- the recording that was read
 abbrev pub scanned : RecordingScan → Recording
-scanned s = record { controllers = s .controllers; count = s .count; masks = s .masks; states = s .states }
+scanned s = recordingOf (s .controllers) (s .count) (s .masks) (s .states)
 
 -- what is printed of the two texts
-unfoldable pub textsOutput : List ℕ → List ℕ → List ℕ
+unfoldable pub textsOutput : (rule recording : List ℕ) → List ℕ
 textsOutput rule recording =
     pick (eqb (jointNumber rule recording) accepted)
     (judgedText ((scanRule rule) .controller) (nodesIn ((scanRule rule) .count) ((scanRule rule) .words)) (scanned (scanRecording recording)))
     (refusedText (jointNumber rule recording) (bytesOf rule recording (jointPart rule recording)))
 
--- "program input: 14 over 16,384 bytes"
+-- "program input": "14 over 16,384 bytes"
 unfoldable pub programOutput : List ℕ → List ℕ
 programOutput input = pick (ltb maxInputBytes (length input)) (refusedText inputLong []) (textsOutput (ruleIn input) (recordingIn input))

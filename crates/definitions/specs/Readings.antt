@@ -1,11 +1,11 @@
 -- "Weak and strong": the readings of a table's nodes over a trace. A reading is a Bool: true is weak, false is strong.
-use Prim.Native.Nat.{ℕ, zero, suc, _+_, _-_, _*_}
-use mathlib.Core.Bool.{Bool, true, false, not, _&&_, _||_, cond}
+use Prim.Native.Nat.{ℕ, suc, _+_, _-_, _*_}
+use mathlib.Core.Bool.{Bool, true, false, not, _&&_, _||_}
 use mathlib.Core.List.{List, [], _∷_, _++_}
 use lib.ListN.{length, getD, take, drop}
 use lib.Dec.{ltb}
 use Rattle.definitions.specs.Limits.{wordMarks}
-use Rattle.definitions.specs.Bounded.{some, every, tabulate, bitOf, bit}
+use Rattle.definitions.specs.Bounded.{pick, some, every, tabulate, bitOf, bit}
 use Rattle.definitions.specs.Nodes.{Kind, True, Atom, Not, Or, Next, Until, Prev, Since, Run, End, Unknown, Node}
 use Rattle.definitions.specs.Recordings.{Recording, wordAt, runsAt}
 use Rattle.definitions.specs.Projection.{endAt}
@@ -13,21 +13,21 @@ use Rattle.definitions.specs.Projection.{endAt}
 -- "a trace of L places": how an atom is read at a place, and where run and end hold
 pub record Trace : Type 0 where
   pub places : ℕ
-  pub atom : ℕ → Bool → ℕ → Bool
+  pub atom : (a : ℕ) (weak : Bool) (i : ℕ) → Bool
   pub run : ℕ → Bool
   pub end : ℕ → Bool
 
 -- "Own atom: its bit. Foreign atom: its bit if i < L-1, else weak yes, strong no"
-abbrev pub localAtom : ℕ → List ℕ → ℕ → Bool → ℕ → Bool
+abbrev pub localAtom : (mask : ℕ) (ws : List ℕ) (a : ℕ) (weak : Bool) (i : ℕ) → Bool
 localAtom mask ws a weak i =
-    cond (bitOf mask a) (bitOf (getD ws i 0) a) (cond (ltb (suc i) (length ws)) (bitOf (getD ws i 0) a) weak)
+    pick (bitOf mask a) (bitOf (getD ws i 0) a) (pick (ltb (suc i) (length ws)) (bitOf (getD ws i 0) a) weak)
 
 -- a local trace of the places ws, for a controller that owns the atoms of the mask
-abbrev pub local : ℕ → List ℕ → Trace
+abbrev pub local : (mask : ℕ) (ws : List ℕ) → Trace
 local mask ws = record { places = length ws; atom = localAtom mask ws; run = λ i. false; end = λ i. false }
 
 -- "Over the whole recording L is N, and every atom, run and end (of c) is read as recorded, in both readings and in the last state too"
-abbrev pub whole : Recording → ℕ → Trace
+abbrev pub whole : (R : Recording) (c : ℕ) → Trace
 whole R c = record {
   places = R .count;
   atom = λ a weak k. bitOf (wordAt R k) a;
@@ -36,23 +36,23 @@ whole R c = record {
 }
 
 -- "next p: p at i+1 if i < L-1; else weak yes, strong no"
-abbrev pub nextAt : Bool → ℕ → (ℕ → Bool) → ℕ → Bool
-nextAt weak L p i = cond (ltb (suc i) L) (p (suc i)) weak
+abbrev pub nextAt : (weak : Bool) (L : ℕ) (p : ℕ → Bool) (i : ℕ) → Bool
+nextAt weak L p i = pick (ltb (suc i) L) (p (suc i)) weak
 
 -- "p until q: q at some k ≥ i below L and p at i to k-1; weak also if p holds at i to L-1"
-abbrev pub untilAt : Bool → ℕ → (ℕ → Bool) → (ℕ → Bool) → ℕ → Bool
+abbrev pub untilAt : (weak : Bool) (L : ℕ) (p q : ℕ → Bool) (i : ℕ) → Bool
 untilAt weak L p q i = some i L (λ k. q k && every i k p) || (weak && every i L p)
 
 -- "prev p: i > 0 and p at i-1"
-abbrev pub prevAt : (ℕ → Bool) → ℕ → Bool
+abbrev pub prevAt : (p : ℕ → Bool) (i : ℕ) → Bool
 prevAt p i = ltb 0 i && p (i - 1)
 
 -- "p since q: q at some k ≤ i and p at k+1 to i"
-abbrev pub sinceAt : (ℕ → Bool) → (ℕ → Bool) → ℕ → Bool
+abbrev pub sinceAt : (p q : ℕ → Bool) (i : ℕ) → Bool
 sinceAt p q i = some 0 (suc i) (λ k. q k && every (suc k) (suc i) p)
 
 -- the reading of a node at place i, from the readings of the nodes before it
-abbrev pub reading : Trace → (ℕ → Bool → ℕ → Bool) → Kind → ℕ → ℕ → Bool → ℕ → Bool
+abbrev pub reading : (t : Trace) (of : ℕ → Bool → ℕ → Bool) (k : Kind) (a b : ℕ) (weak : Bool) (i : ℕ) → Bool
 reading t of True a b weak i = true
 reading t of Atom a b weak i = t .atom a weak i
 reading t of Not a b weak i = not (of a (not weak) i)
@@ -75,34 +75,47 @@ abbrev pub noRows : Rows
 noRows = record { weak = []; strong = [] }
 
 -- the row of one reading
-abbrev pub rowOf : Bool → Rows → List Bool
+abbrev pub rowOf : (weak : Bool) (r : Rows) → List Bool
 rowOf true r = r .weak
 rowOf false r = r .strong
 
 -- what the rows of the nodes so far say of node a at place i
-abbrev pub readFrom : List Rows → ℕ → Bool → ℕ → Bool
+abbrev pub readFrom : (rs : List Rows) (a : ℕ) (weak : Bool) (i : ℕ) → Bool
 readFrom rs a weak i = getD (rowOf weak (getD rs a noRows)) i false
 
 -- the two rows of a node over the trace, from the rows of the nodes before it
-abbrev pub nodeRows : Trace → List Rows → Node → Rows
+abbrev pub nodeRows : (t : Trace) (rs : List Rows) (n : Node) → Rows
 nodeRows t rs n = record {
   weak = tabulate (t .places) (reading t (readFrom rs) (n .kind) (n .first) (n .second) true);
   strong = tabulate (t .places) (reading t (readFrom rs) (n .kind) (n .first) (n .second) false);
 }
 
 -- the rows of a table, after those of the nodes before it
-abbrev pub rowsAfter : Trace → List Rows → List Node → List Rows
+abbrev pub rowsAfter : (t : Trace) (rs : List Rows) (ns : List Node) → List Rows
 rowsAfter t rs [] = rs
 rowsAfter t rs (n ∷ ns) = rowsAfter t (rs ++ (nodeRows t rs n ∷ [])) ns
 
 -- the rows of a table over a trace
-unfoldable pub rowsOf : Trace → List Node → List Rows
+unfoldable pub rowsOf : (t : Trace) (ns : List Node) → List Rows
 rowsOf t ns = rowsAfter t [] ns
 
 -- "The verdict is the reading at place 0", of node `top`
-unfoldable pub verdict : Trace → List Node → ℕ → Bool → Bool
+unfoldable pub verdict : (t : Trace) (ns : List Node) (top : ℕ) (weak : Bool) → Bool
 unfolding rowsOf
 verdict t ns top weak = readFrom (rowsOf t ns) top weak 0
+
+-- a weak and a strong verdict
+pub record Verdicts : Type 0 where
+  pub weak : Bool
+  pub strong : Bool
+
+-- "the weak reading of the weak top in state 0", "the strong reading of the strong top there"
+abbrev pub verdicts : (t : Trace) (ns : List Node) (weakTop strongTop : ℕ) → Verdicts
+verdicts t ns weakTop strongTop = record { weak = verdict t ns weakTop true; strong = verdict t ns strongTop false }
+
+-- of a rule on a local trace: "the last is the rule"
+abbrev pub localVerdicts : (ns : List Node) (mask : ℕ) (places : List ℕ) → Verdicts
+localVerdicts ns mask places = verdicts (local mask places) ns (length ns - 1) (length ns - 1)
 
 -- "A row is 128 yes-or-no marks with the count of states it covers": two 64-bit words, mark k is bit k
 abbrev pub marksWord : List Bool → ℕ

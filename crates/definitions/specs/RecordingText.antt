@@ -1,14 +1,14 @@
--- "Recording: `recording`, C, N; C lines `owns`, mask; N lines `at`, run marks, word", and "The joint reading".
+-- "Recording: `recording`, C, N; C lines `owns`, mask; N lines `at`, run marks (two digits, bit c for controller c), word", and "The joint reading".
 use Prim.Native.Nat.{ℕ, zero, suc, _+_, _-_}
-use mathlib.Core.Bool.{Bool, true, false, not, _&&_, _||_}
-use mathlib.Core.List.{List, [], _∷_, _++_}
+use mathlib.Core.Bool.{Bool, true, false}
+use mathlib.Core.List.{List, [], _∷_}
 use lib.ListN.{length}
-use lib.Dec.{eqb, ltb}
-use Rattle.definitions.specs.Limits.{accepted, recordingForm, recordingLines, noController, lentShort}
+use lib.Dec.{eqb}
+use Rattle.definitions.specs.Limits.{accepted, recordingForm, recordingLines, noController}
 use Rattle.definitions.specs.Bounded.{pick}
-use Rattle.definitions.specs.Recordings.{stateOf, stateRefusal, maskRefusal, recordingHeadingRefusal}
-use Rattle.definitions.specs.Lines.{bytes, newline, before, isEmpty, lineOf, restOf, Parsed, formed, malformed, onParsed, decimal, hexadecimal, Heading, twoFields, worded, nextRefusal, Scan, stop, more}
-use Rattle.definitions.specs.RuleText.{RuleScan, scanRule}
+use Rattle.definitions.specs.Recordings.{stateOf, stateRefusal, maskRefusal, recordingHeadingRefusal, controllerRefusal}
+use Rattle.definitions.specs.Lines.{bytes, newline, before, isEmpty, Parsed, hexadecimal, Heading, twoFields, worded, headingForm, NextLine, onNext, nextLine, Scan, stop, more}
+use Rattle.definitions.specs.RuleText.{scanRule}
 
 -- the words that open its lines
 abbrev pub recordingWord : List ℕ
@@ -24,53 +24,45 @@ atWord = bytes "at"
 abbrev pub wordDigits : ℕ
 wordDigits = 8
 
--- "run marks (two digits, bit c for controller c)", for C controllers
-abbrev pub markDigits : ℕ → ℕ
-markDigits C = 2
+-- "run marks (two digits, bit c for controller c)"
+abbrev pub markDigits : ℕ
+markDigits = 2
 
 -- the first line: `recording`, C, N
-unfoldable pub recordingHeading : List ℕ → Parsed Heading
-recordingHeading s = worded recordingWord (twoFields decimal decimal (λ C N. record { first = C; second = N })) s
+abbrev pub recordingHeading : List ℕ → Parsed Heading
+recordingHeading s = headingForm recordingWord s
 
 -- "`owns`, mask"
 unfoldable pub maskForm : List ℕ → Parsed ℕ
 maskForm s = worded ownsWord (hexadecimal wordDigits) s
 
--- "`at`, run marks, word"
-unfoldable pub stateForm : ℕ → List ℕ → Parsed ℕ
-stateForm C s = worded atWord (twoFields (hexadecimal (markDigits C)) (hexadecimal wordDigits) stateOf) s
+-- `at`, run marks, word
+unfoldable pub stateForm : List ℕ → Parsed ℕ
+stateForm s = worded atWord (twoFields (hexadecimal markDigits) (hexadecimal wordDigits) stateOf) s
 
--- the refusal of the first line
-unfoldable pub recordingHeadingLineRefusal : List ℕ → ℕ
-recordingHeadingLineRefusal s = onParsed (recordingHeading s) recordingForm (λ h. recordingHeadingRefusal (h .first) (h .second))
+-- the next line, as the first of a recording
+abbrev pub recordingHeadingLine : List ℕ → NextLine Heading
+recordingHeadingLine t = nextLine recordingLines recordingForm recordingHeading (λ h. recordingHeadingRefusal (h .first) (h .second)) t
 
--- the refusal of an `owns` line
-unfoldable pub maskLineRefusal : List ℕ → List ℕ → ℕ
-maskLineRefusal earlier s = onParsed (maskForm s) recordingForm (maskRefusal earlier)
+-- the next line, as an `owns` line
+abbrev pub maskLine : (earlier : List ℕ) → List ℕ → NextLine ℕ
+maskLine earlier t = nextLine recordingLines recordingForm maskForm (maskRefusal earlier) t
 
--- the refusal of the `at` line of state k
-unfoldable pub stateLineRefusal : ℕ → ℕ → List ℕ → ℕ → ℕ → List ℕ → ℕ
-stateLineRefusal C N masks k prior s = onParsed (stateForm C s) recordingForm (stateRefusal C N masks k prior)
+-- the next line, as the `at` line of state k; `prior` is the state before it
+abbrev pub stateLine : (C N : ℕ) (masks : List ℕ) (k prior : ℕ) → List ℕ → NextLine ℕ
+stateLine C N masks k prior t = nextLine recordingLines recordingForm stateForm (stateRefusal C N masks k prior) t
 
--- the number that a line of one gives
-abbrev pub numberOf : Parsed ℕ → ℕ
-numberOf p = onParsed p 0 (λ n. n)
-
--- the `owns` lines, as many as `left` says
-unfoldable pub scanMasks : ℕ → List ℕ → List ℕ → Scan
+-- so many `owns` lines
+unfoldable pub scanMasks : (lines : ℕ) (earlier : List ℕ) → List ℕ → Scan
 scanMasks zero earlier t = stop accepted t
-scanMasks (suc left) earlier t =
-    pick (eqb (nextRefusal recordingLines recordingForm t (maskLineRefusal earlier (lineOf t))) accepted)
-    (more (numberOf (maskForm (lineOf t))) (scanMasks left (numberOf (maskForm (lineOf t)) ∷ earlier) (restOf t)))
-    (stop (nextRefusal recordingLines recordingForm t (maskLineRefusal earlier (lineOf t))) t)
+scanMasks (suc lines) earlier t =
+    onNext (maskLine earlier t) (λ number. stop number t) (λ m rest. more m (scanMasks lines (m ∷ earlier) rest))
 
--- the `at` lines, as many as `left` says, from state k on, and then the end: "a line missing or one too many"
-unfoldable pub scanStates : ℕ → ℕ → List ℕ → ℕ → ℕ → ℕ → List ℕ → Scan
+-- so many `at` lines, from state k on, and then the end: "a line missing or one too many"
+unfoldable pub scanStates : (C N : ℕ) (masks : List ℕ) (lines k prior : ℕ) → List ℕ → Scan
 scanStates C N masks zero k prior t = stop (pick (isEmpty t) accepted recordingLines) t
-scanStates C N masks (suc left) k prior t =
-    pick (eqb (nextRefusal recordingLines recordingForm t (stateLineRefusal C N masks k prior (lineOf t))) accepted)
-    (more (numberOf (stateForm C (lineOf t))) (scanStates C N masks left (k + 1) (numberOf (stateForm C (lineOf t))) (restOf t)))
-    (stop (nextRefusal recordingLines recordingForm t (stateLineRefusal C N masks k prior (lineOf t))) t)
+scanStates C N masks (suc lines) k prior t =
+    onNext (stateLine C N masks k prior t) (λ number. stop number t) (λ s rest. more s (scanStates C N masks lines (k + 1) s rest))
 
 -- what reading a recording text gives: the refusal or 0, C, N, masks and states, and the text from the refused line on
 pub record RecordingScan : Type 0 where
@@ -86,20 +78,19 @@ abbrev pub recordingStop : ℕ → List ℕ → RecordingScan
 recordingStop number t = record { number = number; controllers = 0; count = 0; masks = []; states = []; rest = t }
 
 -- what the `at` lines gave, after the masks
-abbrev pub recordingStates : ℕ → ℕ → List ℕ → Scan → RecordingScan
+abbrev pub recordingStates : (C N : ℕ) (masks : List ℕ) (s : Scan) → RecordingScan
 recordingStates C N masks s = record { number = s .number; controllers = C; count = N; masks = masks; states = s .words; rest = s .rest }
 
 -- what the `owns` lines gave, and then the `at` lines
-abbrev pub recordingMasks : ℕ → ℕ → Scan → RecordingScan
+abbrev pub recordingMasks : (C N : ℕ) (m : Scan) → RecordingScan
 recordingMasks C N m =
     pick (eqb (m .number) accepted) (recordingStates C N (m .words) (scanStates C N (m .words) N 0 0 (m .rest))) (recordingStop (m .number) (m .rest))
 
 -- reading a recording text
 unfoldable pub scanRecording : List ℕ → RecordingScan
 scanRecording t =
-    pick (eqb (nextRefusal recordingLines recordingForm t (recordingHeadingLineRefusal (lineOf t))) accepted)
-    (onParsed (recordingHeading (lineOf t)) (recordingStop recordingForm t) (λ h. recordingMasks (h .first) (h .second) (scanMasks (h .first) [] (restOf t))))
-    (recordingStop (nextRefusal recordingLines recordingForm t (recordingHeadingLineRefusal (lineOf t))) t)
+    onNext (recordingHeadingLine t) (λ number. recordingStop number t)
+    (λ h rest. recordingMasks (h .first) (h .second) (scanMasks (h .first) [] rest))
 
 -- "a part of the text it came from": of the rule text or of the recording text, from a byte on, so many bytes
 pub record Part : Type 0 where
@@ -108,24 +99,24 @@ pub record Part : Type 0 where
   pub count : ℕ
 
 -- the line with which `rest`, the end of the text, begins: all that is left of an unclosed one, and nothing where nothing is left
-abbrev pub lineIn : Bool → List ℕ → List ℕ → Part
+abbrev pub lineIn : (ofRule : Bool) (text rest : List ℕ) → Part
 lineIn ofRule text rest = record { ofRule = ofRule; from = length text - length rest; count = before newline rest }
 
 -- "for 13 the empty start of the rule text"
 abbrev pub emptyStart : Part
 emptyStart = record { ofRule = true; from = 0; count = 0 }
 
--- "The joint reading takes the rule text, then the recording text"; "joining: 11 rule's controller not below C"
-unfoldable pub jointNumber : List ℕ → List ℕ → ℕ
+-- "The joint reading takes the rule text, then the recording text"; then "joining"
+unfoldable pub jointNumber : (rule recording : List ℕ) → ℕ
 jointNumber rule recording =
     pick (eqb ((scanRule rule) .number) accepted)
     (pick (eqb ((scanRecording recording) .number) accepted)
-    (pick (ltb ((scanRule rule) .controller) ((scanRecording recording) .controllers)) accepted noController)
+    (controllerRefusal ((scanRecording recording) .controllers) ((scanRule rule) .controller))
     ((scanRecording recording) .number))
     ((scanRule rule) .number)
 
 -- "hands back the refused line itself": "for 11 the rule's first line", "on acceptance the empty end of the recording text"
-unfoldable pub jointPart : List ℕ → List ℕ → Part
+unfoldable pub jointPart : (rule recording : List ℕ) → Part
 jointPart rule recording =
     pick (eqb ((scanRule rule) .number) accepted)
     (pick (eqb (jointNumber rule recording) noController) (lineIn true rule rule) (lineIn false recording ((scanRecording recording) .rest)))

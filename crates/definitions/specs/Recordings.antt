@@ -1,11 +1,11 @@
 -- "The recording": states and masks in lent space, the output rule, and the check.
-use Prim.Native.Nat.{ℕ, zero, suc, _+_, _-_, _*_, _/_, _%_, _^_}
-use mathlib.Core.Bool.{Bool, true, false, not, _&&_, _||_}
+use Prim.Native.Nat.{ℕ, _+_, _*_, _/_, _%_, _^_}
+use mathlib.Core.Bool.{Bool, false, not, _&&_, _||_}
 use mathlib.Core.List.{List, [], _∷_}
 use lib.ListN.{length, take, getD}
 use lib.Dec.{eqb, ltb, leb}
 use lib.Bits.{bitAnd}
-use Rattle.definitions.specs.Limits.{maxControllers, maxStates, atomCount, recordingLimits, masksMeet, recordingLines, lastMark, outputRule, accepted}
+use Rattle.definitions.specs.Limits.{maxControllers, maxStates, atomCount, recordingLimits, masksMeet, recordingLines, lastMark, outputRule, noController, accepted}
 use Rattle.definitions.specs.Bounded.{pick, some, bitOf, within, orElse}
 
 -- a recording as tables: C, N, "a mask of own atoms" for each controller, and the states, one word each
@@ -15,8 +15,12 @@ pub record Recording : Type 0 where
   pub masks : List ℕ
   pub states : List ℕ
 
+-- the recording of these
+abbrev pub recordingOf : (controllers count : ℕ) (masks states : List ℕ) → Recording
+recordingOf controllers count masks states = record { controllers = controllers; count = count; masks = masks; states = states }
+
 -- a state in lent space is one word: the word of 32 atoms in its low half, the run marks above, bit c for controller c
-abbrev pub stateOf : ℕ → ℕ → ℕ
+abbrev pub stateOf : (marks word : ℕ) → ℕ
 stateOf marks word = marks * 2 ^ atomCount + word
 
 -- the word of atoms of a state
@@ -28,7 +32,7 @@ abbrev pub marksOf : ℕ → ℕ
 marksOf s = s / 2 ^ atomCount
 
 -- state s has a run mark of controller c
-abbrev pub marked : ℕ → ℕ → Bool
+abbrev pub marked : (c s : ℕ) → Bool
 marked c s = bitOf (marksOf s) c
 
 -- "entries past the count aren't read"
@@ -52,43 +56,43 @@ abbrev pub wordAt : Recording → ℕ → ℕ
 wordAt R k = atomsOf (stateAt R k)
 
 -- c runs in state k
-abbrev pub runsAt : Recording → ℕ → ℕ → Bool
+abbrev pub runsAt : (R : Recording) (c k : ℕ) → Bool
 runsAt R c k = marked c (stateAt R k)
 
 -- "masks are disjoint": a mask meets one of the earlier masks
-abbrev pub meets : List ℕ → ℕ → Bool
+abbrev pub meets : (earlier : List ℕ) (m : ℕ) → Bool
 meets [] m = false
 meets (e ∷ es) m = not (eqb (bitAnd e m) 0) || meets es m
 
 -- "Output rule: if c doesn't run in state k and k+1 exists, its own atoms are equal in k and k+1", broken by some c
-abbrev pub outputBroken : ℕ → List ℕ → ℕ → ℕ → Bool
-outputBroken C masks before s =
-    some 0 C (λ c. not (marked c before) && not (eqb (bitAnd (atomsOf before) (getD masks c 0)) (bitAnd (atomsOf s) (getD masks c 0))))
+abbrev pub outputBroken : (C : ℕ) (masks : List ℕ) (prior s : ℕ) → Bool
+outputBroken C masks prior s =
+    some 0 C (λ c. not (marked c prior) && not (eqb (bitAnd (atomsOf prior) (getD masks c 0)) (bitAnd (atomsOf s) (getD masks c 0))))
 
--- state k against the state before it: "a run mark at C or above", "output rule broken by the state before", "run mark in the last state"
-unfoldable pub stateRefusal : ℕ → ℕ → List ℕ → ℕ → ℕ → ℕ → ℕ
-stateRefusal C N masks k before s =
+-- state k against the prior state: "a run mark at C or above", "output rule broken by the state before", "run mark in the last state"
+unfoldable pub stateRefusal : (C N : ℕ) (masks : List ℕ) (k prior s : ℕ) → ℕ
+stateRefusal C N masks k prior s =
     pick (leb (2 ^ C) (marksOf s)) recordingLimits
-    (pick (ltb 0 k && outputBroken C masks before s) outputRule
+    (pick (ltb 0 k && outputBroken C masks prior s) outputRule
     (pick (eqb (k + 1) N && not (eqb (marksOf s) 0)) lastMark accepted))
 
 -- "6 a number outside its limits": C and N
-unfoldable pub recordingHeadingRefusal : ℕ → ℕ → ℕ
+unfoldable pub recordingHeadingRefusal : (C N : ℕ) → ℕ
 recordingHeadingRefusal C N = pick (within 1 maxControllers C && within 1 maxStates N) accepted recordingLimits
 
 -- "7 mask meets an earlier mask"
-unfoldable pub maskRefusal : List ℕ → ℕ → ℕ
+unfoldable pub maskRefusal : (earlier : List ℕ) (m : ℕ) → ℕ
 maskRefusal earlier m = pick (meets earlier m) masksMeet accepted
 
 -- the masks in order
-unfoldable pub masksRefusal : List ℕ → List ℕ → ℕ
+unfoldable pub masksRefusal : (earlier ms : List ℕ) → ℕ
 masksRefusal earlier [] = accepted
 masksRefusal earlier (m ∷ ms) = orElse (maskRefusal earlier m) (masksRefusal (m ∷ earlier) ms)
 
 -- the states from state k on
-unfoldable pub statesRefusal : ℕ → ℕ → List ℕ → ℕ → ℕ → List ℕ → ℕ
-statesRefusal C N masks k before [] = accepted
-statesRefusal C N masks k before (s ∷ ss) = orElse (stateRefusal C N masks k before s) (statesRefusal C N masks (k + 1) s ss)
+unfoldable pub statesRefusal : (C N : ℕ) (masks : List ℕ) (k prior : ℕ) (ss : List ℕ) → ℕ
+statesRefusal C N masks k prior [] = accepted
+statesRefusal C N masks k prior (s ∷ ss) = orElse (stateRefusal C N masks k prior s) (statesRefusal C N masks (k + 1) s ss)
 
 -- "masks or states, with fewer entries than its count has a line missing"
 unfoldable pub recordingLinesRefusal : Recording → ℕ
@@ -100,3 +104,7 @@ recordingRefusal R =
     orElse (recordingHeadingRefusal (R .controllers) (R .count))
     (orElse (masksRefusal [] (masksOf R))
     (orElse (statesRefusal (R .controllers) (R .count) (masksOf R) 0 0 (statesOf R)) (recordingLinesRefusal R)))
+
+-- "a controller not below C is 11"
+unfoldable pub controllerRefusal : (C c : ℕ) → ℕ
+controllerRefusal C c = pick (ltb c C) accepted noController

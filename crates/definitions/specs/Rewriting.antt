@@ -1,9 +1,9 @@
 -- "The plain rewriting" and "The short rewriting".
-use Prim.Native.Nat.{ℕ, zero, suc, _+_, _-_}
-use mathlib.Core.Bool.{Bool, true, false, not, _&&_, _||_, cond}
+use Prim.Native.Nat.{ℕ, suc, _-_}
+use mathlib.Core.Bool.{Bool, true, false, not, _&&_}
 use mathlib.Core.List.{List, [], _∷_, _++_}
 use lib.ListN.{length, getD}
-use Rattle.definitions.specs.Bounded.{bitOf}
+use Rattle.definitions.specs.Bounded.{pick, bitOf}
 use Rattle.definitions.specs.Nodes.{Kind, True, Atom, Not, Or, Next, Until, Prev, Since, Run, End, Unknown, Node, node}
 
 -- an operand of an emitted node: a node's number, or "·", "the node just emitted"
@@ -30,17 +30,17 @@ abbrev pub two : Kind → Operand → Operand → Emit
 two k a b = record { kind = k; first = a; second = b }
 
 -- the number of an operand
-abbrev pub operand : ℕ → Operand → ℕ
+abbrev pub operand : (just : ℕ) (o : Operand) → ℕ
 operand just (# a) = a
 operand just · = just
 
 -- the nodes emitted: `just` is the number of the node just emitted, n that of the next one
-abbrev pub emitted : ℕ → ℕ → List Emit → List Node
+abbrev pub emitted : (just n : ℕ) (es : List Emit) → List Node
 emitted just n [] = []
 emitted just n (e ∷ es) = node (e .kind) (operand just (e .first)) (operand just (e .second)) ∷ emitted n (suc n) es
 
 -- a table with more nodes at its end
-abbrev pub emit : List Node → List Emit → List Node
+abbrev pub emit : (T : List Node) (es : List Emit) → List Node
 emit T es = T ++ emitted (length T - 1) (length T) es
 
 -- "Opening, numbers 0 to 10: run; not 0; prev 1; end; not 3; or 2 4; not 5; or 0 6 (*state*); not 7; prev 3; not 9"
@@ -50,22 +50,22 @@ opening =
     ∷ node Prev 3 0 ∷ node Not 9 0 ∷ []
 
 -- "true, own atom: itself, w and s the same (1 node)"
-abbrev pub itself : Bool → Kind → ℕ → List Emit
+abbrev pub itself : (weak : Bool) (k : Kind) (a : ℕ) → List Emit
 itself true k a = leaf k a ∷ []
 itself false k a = []
 
 -- "foreign atom: atom; or 1 · (w); not of the atom; or 1 ·; not · (s) (5)"; x is the number of the atom
-abbrev pub foreignAtom : Bool → ℕ → ℕ → List Emit
+abbrev pub foreignAtom : (weak : Bool) (x a : ℕ) → List Emit
 foreignAtom true x a = leaf Atom a ∷ two Or (# 1) · ∷ []
 foreignAtom false x a = one Not (# x) ∷ two Or (# 1) · ∷ one Not · ∷ []
 
 -- "next: w: or 8 a; not ·; until 8 ·; not ·; next ·. s: not a; or 8 ·; not ·; until 8 ·; next · (10)"
-abbrev pub plainNext : Bool → ℕ → List Emit
+abbrev pub plainNext : (weak : Bool) (a : ℕ) → List Emit
 plainNext true a = two Or (# 8) (# a) ∷ one Not · ∷ two Until (# 8) · ∷ one Not · ∷ one Next · ∷ []
 plainNext false a = one Not (# a) ∷ two Or (# 8) · ∷ one Not · ∷ two Until (# 8) · ∷ one Next · ∷ []
 
--- "until: w: or 8 a (call it g); not b; or 8 ·; not ·; or · 9; until g ·. s: the same without 'or · 9' (11)"
-abbrev pub plainUntil : Bool → ℕ → ℕ → ℕ → List Emit
+-- "until: w: or 8 a (call it g); not b; or 8 ·; not ·; or · 9; until g ·. s: the same without "or · 9" (11)"
+abbrev pub plainUntil : (weak : Bool) (g a b : ℕ) → List Emit
 plainUntil true g a b = two Or (# 8) (# a) ∷ one Not (# b) ∷ two Or (# 8) · ∷ one Not · ∷ two Or · (# 9) ∷ two Until (# g) · ∷ []
 plainUntil false g a b = two Or (# 8) (# a) ∷ one Not (# b) ∷ two Or (# 8) · ∷ one Not · ∷ two Until (# g) · ∷ []
 
@@ -74,16 +74,16 @@ abbrev pub plainPrev : ℕ → List Emit
 plainPrev a = one Not (# a) ∷ two Or (# 1) · ∷ one Not · ∷ two Since (# 1) · ∷ one Prev · ∷ []
 
 -- "since: or 8 a (g); not b; or 8 ·; not ·; since g ·, twice (10)"
-abbrev pub plainSince : ℕ → ℕ → ℕ → List Emit
+abbrev pub plainSince : (g a b : ℕ) → List Emit
 plainSince g a b = two Or (# 8) (# a) ∷ one Not (# b) ∷ two Or (# 8) · ∷ one Not · ∷ two Since (# g) · ∷ []
 
 -- "next of a tolerant operand: w: next a; or 3 ·. s: next a; not ·; or 3 ·; not · (6)"
-abbrev pub shortNext : Bool → ℕ → List Emit
+abbrev pub shortNext : (weak : Bool) (a : ℕ) → List Emit
 shortNext true a = one Next (# a) ∷ two Or (# 3) · ∷ []
 shortNext false a = one Next (# a) ∷ one Not · ∷ two Or (# 3) · ∷ one Not · ∷ []
 
 -- "until of two tolerant operands: w: or 9 b; until a ·. s: not b; or 9 ·; not ·; until a · (6)"
-abbrev pub shortUntil : Bool → ℕ → ℕ → List Emit
+abbrev pub shortUntil : (weak : Bool) (a b : ℕ) → List Emit
 shortUntil true a b = two Or (# 9) (# b) ∷ two Until (# a) · ∷ []
 shortUntil false a b = one Not (# b) ∷ two Or (# 9) · ∷ one Not · ∷ two Until (# a) · ∷ []
 
@@ -98,20 +98,20 @@ abbrev pub noImage : Image
 noImage = record { weak = 0; strong = 0; tolerant = false }
 
 -- the image of one reading
-abbrev pub imageOf : Bool → Image → ℕ
+abbrev pub imageOf : (weak : Bool) (i : Image) → ℕ
 imageOf true i = i .weak
 imageOf false i = i .strong
 
 -- the image of node a in one reading
-abbrev pub image : Bool → List Image → ℕ → ℕ
+abbrev pub image : (weak : Bool) (is : List Image) (a : ℕ) → ℕ
 image weak is a = imageOf weak (getD is a noImage)
 
 -- node a is tolerant
-abbrev pub tolerantAt : List Image → ℕ → Bool
+abbrev pub tolerantAt : (is : List Image) (a : ℕ) → Bool
 tolerantAt is a = (getD is a noImage) .tolerant
 
 -- "Tolerant: true, own atom, every until; not and or of tolerant operands; nothing else"
-abbrev pub tolerantOf : ℕ → List Image → Kind → ℕ → ℕ → Bool
+abbrev pub tolerantOf : (mask : ℕ) (is : List Image) (k : Kind) (a b : ℕ) → Bool
 tolerantOf mask is True a b = true
 tolerantOf mask is Atom a b = bitOf mask a
 tolerantOf mask is Not a b = tolerantAt is a
@@ -126,14 +126,14 @@ tolerantOf mask is Unknown a b = false
 
 -- what is emitted for one image of a rule's node: x is the number of the first node emitted for the rule's node, g that of the first for this image;
 -- "a and b are the operands' images of the same reading", but for a not of the other
-abbrev pub part : Bool → ℕ → List Image → ℕ → ℕ → Bool → Kind → ℕ → ℕ → List Emit
+abbrev pub part : (short : Bool) (mask : ℕ) (is : List Image) (x g : ℕ) (weak : Bool) (k : Kind) (a b : ℕ) → List Emit
 part short mask is x g weak True a b = itself weak True 0
-part short mask is x g weak Atom a b = cond (bitOf mask a) (itself weak Atom a) (foreignAtom weak x a)
+part short mask is x g weak Atom a b = pick (bitOf mask a) (itself weak Atom a) (foreignAtom weak x a)
 part short mask is x g weak Not a b = one Not (# (image (not weak) is a)) ∷ []
 part short mask is x g weak Or a b = two Or (# (image weak is a)) (# (image weak is b)) ∷ []
-part short mask is x g weak Next a b = cond (short && tolerantAt is a) (shortNext weak (image weak is a)) (plainNext weak (image weak is a))
+part short mask is x g weak Next a b = pick (short && tolerantAt is a) (shortNext weak (image weak is a)) (plainNext weak (image weak is a))
 part short mask is x g weak Until a b =
-    cond (short && (tolerantAt is a && tolerantAt is b)) (shortUntil weak (image weak is a) (image weak is b)) (plainUntil weak g (image weak is a) (image weak is b))
+    pick (short && (tolerantAt is a && tolerantAt is b)) (shortUntil weak (image weak is a) (image weak is b)) (plainUntil weak g (image weak is a) (image weak is b))
 part short mask is x g weak Prev a b = plainPrev (image weak is a)
 part short mask is x g weak Since a b = plainSince g (image weak is a) (image weak is b)
 part short mask is x g weak Run a b = []
@@ -146,7 +146,7 @@ pub record Draft : Type 0 where
   pub images : List Image
 
 -- "Then each rule node in turn, weak image w first, then strong image s"
-abbrev pub step : Bool → ℕ → Draft → Node → Draft
+abbrev pub step : (short : Bool) (mask : ℕ) (D : Draft) (n : Node) → Draft
 step short mask D n =
     let x = length (D .nodes) in
     let T = emit (D .nodes) (part short mask (D .images) x x true (n .kind) (n .first) (n .second)) in
@@ -158,7 +158,7 @@ step short mask D n =
     }
 
 -- the rule's nodes in turn
-abbrev pub steps : Bool → ℕ → Draft → List Node → Draft
+abbrev pub steps : (short : Bool) (mask : ℕ) (D : Draft) (ns : List Node) → Draft
 steps short mask D [] = D
 steps short mask D (n ∷ ns) = steps short mask (step short mask D n) ns
 
@@ -169,12 +169,12 @@ pub record Rewritten : Type 0 where
   pub strongTop : ℕ
 
 -- "Closing, from the rule's w: or 8 w; not ·; until 8 ·; not · (top weak); from its s: not s; or 8 ·; not ·; until 8 · (top strong) (8)"
-abbrev pub closing : Bool → ℕ → List Emit
+abbrev pub closing : (weak : Bool) (a : ℕ) → List Emit
 closing true w = two Or (# 8) (# w) ∷ one Not · ∷ two Until (# 8) · ∷ one Not · ∷ []
 closing false s = one Not (# s) ∷ two Or (# 8) · ∷ one Not · ∷ two Until (# 8) · ∷ []
 
 -- "a tolerant rule has no closing; its tops are its own w and s" (short only)
-abbrev pub closed : Bool → List Node → Image → Rewritten
+abbrev pub closed : (tolerant : Bool) (T : List Node) (i : Image) → Rewritten
 closed true T i = record { nodes = T; weakTop = i .weak; strongTop = i .strong }
 closed false T i =
     let U = emit T (closing true (i .weak)) in
@@ -186,12 +186,7 @@ abbrev pub lastImage : List Image → Image
 lastImage is = getD is (length is - 1) noImage
 
 -- the table of a rule for the own mask, plain or short
-unfoldable pub rewriting : Bool → ℕ → List Node → Rewritten
+unfoldable pub rewriting : (short : Bool) (mask : ℕ) (ns : List Node) → Rewritten
 rewriting short mask ns =
     let D = steps short mask (record { nodes = opening; images = [] }) ns in
     closed (short && (lastImage (D .images)) .tolerant) (D .nodes) (lastImage (D .images))
-
--- the top of one reading
-abbrev pub topOf : Bool → Rewritten → ℕ
-topOf true r = r .weakTop
-topOf false r = r .strongTop

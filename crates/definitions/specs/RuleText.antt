@@ -1,14 +1,13 @@
 -- "Rule: `rule`, controller (0 to 7), node count; then a line per node": reading and writing.
 use Prim.Native.Nat.{ℕ, zero, suc, _+_}
-use mathlib.Core.Bool.{Bool, true, false, not, _&&_, _||_}
+use mathlib.Core.Bool.{false, not, _||_}
 use mathlib.Core.List.{List, [], _∷_, _++_}
-use lib.ListN.{length}
-use lib.Dec.{eqb, ltb}
+use lib.Dec.{eqb}
 use Rattle.definitions.specs.Limits.{accepted, ruleForm, ruleLines}
 use Rattle.definitions.specs.Bounded.{pick}
 use Rattle.definitions.specs.Nodes.{Kind, True, Atom, Not, Or, Next, Until, Prev, Since, Run, End, Unknown, Node, node, operands, nodeWord, nodeOf}
 use Rattle.definitions.specs.Tables.{isUnknown, nodeRefusal, ruleHeadingRefusal}
-use Rattle.definitions.specs.Lines.{bytes, tab, newline, carriageReturn, before, isEmpty, lineOf, restOf, hasTab, fieldOf, afterTab, Parsed, formed, malformed, onParsed, decimal, same, letters, Heading, twoFields, worded, digits, nextRefusal, Scan, stop, more}
+use Rattle.definitions.specs.Lines.{bytes, tab, newline, carriageReturn, isEmpty, has, upTo, after, Parsed, formed, malformed, onParsed, decimal, same, letters, Heading, twoFields, headingForm, digits, NextLine, onNext, nextLine, Scan, stop, more}
 
 -- the word that opens its first line
 abbrev pub ruleWord : List ℕ
@@ -45,45 +44,39 @@ wordKind w =
 -- "a kind word is one or more letters a to z"; "after an unknown kind word any fields without byte 13 do"
 unfoldable pub unknownForm : List ℕ → Parsed Node
 unknownForm s =
-    pick (isEmpty (fieldOf s) || not (letters (fieldOf s)) || ltb (before carriageReturn s) (length s)) malformed (formed (node Unknown 0 0))
+    pick (isEmpty (upTo tab s) || not (letters (upTo tab s)) || has carriageReturn s) malformed (formed (node Unknown 0 0))
 
--- "the kind word .. and its operands, decimal"
+-- "the kind word, spelt as above, and its operands, decimal"
 unfoldable pub operandsForm : Kind → List ℕ → Parsed Node
 operandsForm k s =
-    pick (eqb (operands k) 0) (pick (hasTab s) malformed (formed (node k 0 0)))
-    (pick (hasTab s)
+    pick (eqb (operands k) 0) (pick (has tab s) malformed (formed (node k 0 0)))
+    (pick (has tab s)
     (pick (eqb (operands k) 1)
-    (onParsed (decimal (afterTab s)) malformed (λ a. formed (node k a 0)))
-    (twoFields decimal decimal (node k) (afterTab s)))
+    (onParsed (decimal (after tab s)) malformed (λ a. formed (node k a 0)))
+    (twoFields decimal decimal (node k) (after tab s)))
     malformed)
 
 -- a node line
 unfoldable pub nodeForm : List ℕ → Parsed Node
-nodeForm s = pick (isUnknown (wordKind (fieldOf s))) (unknownForm s) (operandsForm (wordKind (fieldOf s)) s)
+nodeForm s = pick (isUnknown (wordKind (upTo tab s))) (unknownForm s) (operandsForm (wordKind (upTo tab s)) s)
 
--- the refusal of the line of node i
-unfoldable pub nodeLineRefusal : ℕ → List ℕ → ℕ
-nodeLineRefusal i s = onParsed (nodeForm s) ruleForm (nodeRefusal false i)
+-- the next line, as that of node i
+abbrev pub nodeLine : ℕ → List ℕ → NextLine Node
+nodeLine i t = nextLine ruleLines ruleForm nodeForm (nodeRefusal false i) t
 
--- the word of a node line
-unfoldable pub nodeLineWord : List ℕ → ℕ
-nodeLineWord s = onParsed (nodeForm s) 0 nodeWord
-
--- the lines of as many nodes as `left` says, from node i on, and then the end: "a line missing or one too many"
-unfoldable pub scanNodes : ℕ → ℕ → List ℕ → Scan
+-- so many node lines, from node i on, and then the end: "a line missing or one too many"
+unfoldable pub scanNodes : (lines i : ℕ) → List ℕ → Scan
 scanNodes zero i t = stop (pick (isEmpty t) accepted ruleLines) t
-scanNodes (suc left) i t =
-    pick (eqb (nextRefusal ruleLines ruleForm t (nodeLineRefusal i (lineOf t))) accepted)
-    (more (nodeLineWord (lineOf t)) (scanNodes left (i + 1) (restOf t)))
-    (stop (nextRefusal ruleLines ruleForm t (nodeLineRefusal i (lineOf t))) t)
+scanNodes (suc lines) i t =
+    onNext (nodeLine i t) (λ number. stop number t) (λ n rest. more (nodeWord n) (scanNodes lines (i + 1) rest))
 
 -- the first line: `rule`, controller, node count
-unfoldable pub ruleHeading : List ℕ → Parsed Heading
-ruleHeading s = worded ruleWord (twoFields decimal decimal (λ c n. record { first = c; second = n })) s
+abbrev pub ruleHeading : List ℕ → Parsed Heading
+ruleHeading s = headingForm ruleWord s
 
--- the refusal of the first line
-unfoldable pub ruleHeadingLineRefusal : List ℕ → ℕ
-ruleHeadingLineRefusal s = onParsed (ruleHeading s) ruleForm (λ h. ruleHeadingRefusal (h .first) (h .second))
+-- the next line, as the first of a rule
+abbrev pub ruleHeadingLine : List ℕ → NextLine Heading
+ruleHeadingLine t = nextLine ruleLines ruleForm ruleHeading (λ h. ruleHeadingRefusal (h .first) (h .second)) t
 
 -- what reading a rule text gives: the refusal or 0, controller, count and node words, and the text from the refused line on
 pub record RuleScan : Type 0 where
@@ -98,21 +91,12 @@ abbrev pub ruleStop : ℕ → List ℕ → RuleScan
 ruleStop number t = record { number = number; controller = 0; count = 0; words = []; rest = t }
 
 -- what the node lines gave, after the heading
-abbrev pub ruleNodes : List ℕ → Heading → RuleScan
-ruleNodes t h = record {
-  number = (scanNodes (h .second) 0 t) .number;
-  controller = h .first;
-  count = h .second;
-  words = (scanNodes (h .second) 0 t) .words;
-  rest = (scanNodes (h .second) 0 t) .rest;
-}
+abbrev pub ruleNodes : Heading → Scan → RuleScan
+ruleNodes h s = record { number = s .number; controller = h .first; count = h .second; words = s .words; rest = s .rest }
 
 -- reading a rule text
 unfoldable pub scanRule : List ℕ → RuleScan
-scanRule t =
-    pick (eqb (nextRefusal ruleLines ruleForm t (ruleHeadingLineRefusal (lineOf t))) accepted)
-    (onParsed (ruleHeading (lineOf t)) (ruleStop ruleForm t) (ruleNodes (restOf t)))
-    (ruleStop (nextRefusal ruleLines ruleForm t (ruleHeadingLineRefusal (lineOf t))) t)
+scanRule t = onNext (ruleHeadingLine t) (λ number. ruleStop number t) (λ h rest. ruleNodes h (scanNodes (h .second) 0 rest))
 
 -- the line of a node, without byte 10
 unfoldable pub nodeText : Node → List ℕ
@@ -127,5 +111,5 @@ nodesText [] = []
 nodesText (w ∷ ws) = nodeText (nodeOf w) ++ (newline ∷ nodesText ws)
 
 -- "A writer gives this text from an accepted table"
-unfoldable pub ruleText : ℕ → ℕ → List ℕ → List ℕ
+unfoldable pub ruleText : (controller count : ℕ) (ws : List ℕ) → List ℕ
 ruleText controller count ws = ruleWord ++ (tab ∷ (digits controller ++ (tab ∷ (digits count ++ (newline ∷ nodesText ws)))))

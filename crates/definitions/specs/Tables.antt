@@ -1,18 +1,22 @@
 -- The check of a rule's table and of the judge's table: the first refusal that is met, 0 for none.
-use Prim.Native.Nat.{ℕ, zero, suc, _+_, _-_}
+use Prim.Native.Nat.{ℕ, zero, suc, _+_}
 use mathlib.Core.Bool.{Bool, true, false, not, _&&_, _||_}
 use mathlib.Core.List.{List, [], _∷_, map}
 use lib.ListN.{take}
 use lib.Dec.{eqb, ltb, leb}
 use Rattle.definitions.specs.Limits.{maxControllers, maxRuleNodes, maxTableNodes, atomCount, ruleLimits, ruleOperand, ruleLines, accepted}
 use Rattle.definitions.specs.Bounded.{pick, within, orElse}
-use Rattle.definitions.specs.Nodes.{Kind, True, Atom, Not, Or, Next, Until, Prev, Since, Run, End, Unknown, Node, node, operands, nodeOf}
+use Rattle.definitions.specs.Nodes.{Kind, Atom, Unknown, kindNumber, Node, operands, nodeOf}
 
 -- a rule as tables: its controller, its node count, and its nodes, one word each
 pub record Rule : Type 0 where
   pub controller : ℕ
   pub count : ℕ
   pub nodes : List ℕ
+
+-- the rule of these
+abbrev pub ruleOf : (controller count : ℕ) (nodes : List ℕ) → Rule
+ruleOf controller count nodes = record { controller = controller; count = count; nodes = nodes }
 
 -- the judge's table: its node count, its nodes, and "two tops"
 pub record Table : Type 0 where
@@ -21,58 +25,32 @@ pub record Table : Type 0 where
   pub weakTop : ℕ
   pub strongTop : ℕ
 
+-- the table of these
+abbrev pub tableOf : (count : ℕ) (nodes : List ℕ) (weakTop strongTop : ℕ) → Table
+tableOf count nodes weakTop strongTop = record { count = count; nodes = nodes; weakTop = weakTop; strongTop = strongTop }
+
 -- "an unknown kind"
 abbrev pub isUnknown : Kind → Bool
-isUnknown True = false
-isUnknown Atom = false
-isUnknown Not = false
-isUnknown Or = false
-isUnknown Next = false
-isUnknown Until = false
-isUnknown Prev = false
-isUnknown Since = false
-isUnknown Run = false
-isUnknown End = false
-isUnknown Unknown = true
+isUnknown k = eqb (kindNumber k) (kindNumber Unknown)
 
 -- "8 and 9 only in rewritten tables"
 abbrev pub isRewritten : Kind → Bool
-isRewritten True = false
-isRewritten Atom = false
-isRewritten Not = false
-isRewritten Or = false
-isRewritten Next = false
-isRewritten Until = false
-isRewritten Prev = false
-isRewritten Since = false
-isRewritten Run = true
-isRewritten End = true
-isRewritten Unknown = false
+isRewritten k = within 8 9 (kindNumber k)
 
 -- "for atom it is 0 to 31"
 abbrev pub isAtom : Kind → Bool
-isAtom True = false
-isAtom Atom = true
-isAtom Not = false
-isAtom Or = false
-isAtom Next = false
-isAtom Until = false
-isAtom Prev = false
-isAtom Since = false
-isAtom Run = false
-isAtom End = false
-isAtom Unknown = false
+isAtom k = eqb (kindNumber k) (kindNumber Atom)
 
 -- an unused operand is not 0
 abbrev pub unusedSet : Node → Bool
 unusedSet n = (eqb (operands (n .kind)) 0 && not (eqb (n .first) 0)) || (ltb (operands (n .kind)) 2 && not (eqb (n .second) 0))
 
 -- an operand of node i is not an earlier node
-abbrev pub operandLate : ℕ → Node → Bool
+abbrev pub operandLate : (i : ℕ) (n : Node) → Bool
 operandLate i n = (ltb 0 (operands (n .kind)) && leb i (n .first)) || (ltb 1 (operands (n .kind)) && leb i (n .second))
 
--- "a rule line or node", from 2 on: node i of a rule's table, or (rewritten) of the judge's, which "may hold run and end"
-unfoldable pub nodeRefusal : Bool → ℕ → Node → ℕ
+-- "a rule line or node", from 2 on: node i of a rule's table or, rewritten, of the judge's, which may hold run and end
+unfoldable pub nodeRefusal : (rewritten : Bool) (i : ℕ) (n : Node) → ℕ
 nodeRefusal rewritten i n =
     pick (isUnknown (n .kind)) ruleLimits
     (pick (isRewritten (n .kind) && not rewritten) ruleLimits
@@ -80,14 +58,14 @@ nodeRefusal rewritten i n =
     (pick (unusedSet n) ruleLimits
     (pick (not (isAtom (n .kind)) && operandLate i n) ruleOperand accepted))))
 
--- the nodes from node i on, as many as `left` says: "lines in order"; "with fewer entries than its count has a line missing"
-unfoldable pub nodesRefusal : Bool → ℕ → ℕ → List ℕ → ℕ
+-- the nodes from node i on, as many as `remaining` says: "lines in order"; "with fewer entries than its count has a line missing"
+unfoldable pub nodesRefusal : (rewritten : Bool) (i remaining : ℕ) (ws : List ℕ) → ℕ
 nodesRefusal rewritten i zero ws = accepted
-nodesRefusal rewritten i (suc left) [] = ruleLines
-nodesRefusal rewritten i (suc left) (w ∷ ws) = orElse (nodeRefusal rewritten i (nodeOf w)) (nodesRefusal rewritten (i + 1) left ws)
+nodesRefusal rewritten i (suc remaining) [] = ruleLines
+nodesRefusal rewritten i (suc remaining) (w ∷ ws) = orElse (nodeRefusal rewritten i (nodeOf w)) (nodesRefusal rewritten (i + 1) remaining ws)
 
--- "a count, controller outside its limits"
-unfoldable pub ruleHeadingRefusal : ℕ → ℕ → ℕ
+-- 2 for "a count, controller or atom outside its limits": the controller and the count
+unfoldable pub ruleHeadingRefusal : (controller count : ℕ) → ℕ
 ruleHeadingRefusal controller count = pick (ltb controller maxControllers && within 1 maxRuleNodes count) accepted ruleLimits
 
 -- the check of a rule's table
@@ -105,5 +83,5 @@ tableRefusal t =
     (orElse (nodesRefusal true 0 (t .count) (t .nodes)) (topsRefusal t))
 
 -- "entries past the count aren't read"
-abbrev pub nodesIn : ℕ → List ℕ → List Node
+abbrev pub nodesIn : (count : ℕ) (ws : List ℕ) → List Node
 nodesIn count ws = map nodeOf (take count ws)

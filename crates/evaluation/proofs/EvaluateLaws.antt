@@ -17,7 +17,7 @@ use Rattle.theorems.proofs.Choice.{both-true}
 use Rattle.formulas.specs.Meaning.{meaning, OfWord}
 use Rattle.formulas.specs.declared.node.Node as code
 use Rattle.rows.specs.Marks.{marks}
-use Rattle.rows.proofs.LentLaws.{loaded, pairs-length, weak-words, strong-words, pair-laid}
+use Rattle.rows.proofs.StoredLaws.{loaded, pairs-length, weak-words, strong-words, pair-laid}
 use Rattle.evaluation.specs.declared.pair.Pair.{Pair}
 use Rattle.evaluation.specs.Traced.{traceOf}
 use Rattle.evaluation.specs.Nodes.{isLeaf, slots, again, Fit, LeafReady, Evaluable, Ready, rowsTo, rowsAt}

@@ -9,11 +9,12 @@ use lib.ListN.{getD}
 use borrow.Author.Needs.{needs}
 use borrow.Author.Tests.{eq-eqb, ne-eqb}
 use Rattle.definitions.specs.Limits.{atomCount}
-use Rattle.definitions.specs.Bounded.{bitOf, someOf, everyOf, every, tabulate}
+use Rattle.definitions.specs.Bounded.{pick, bitOf, someOf, everyOf, every, tabulate}
 use Rattle.definitions.specs.Nodes.{node, kindOf}
 use Rattle.definitions.specs.Projection.{endAt}
 use Rattle.definitions.specs.Readings.{nodeRows, untilAt}
-use Rattle.rows.specs.Marks.{markAt, marks, lastAt, Made}
+use Rattle.mark_words.specs.Marks.{markAt, lastAt}
+use Rattle.rows.specs.Marks.{marks, Made}
 use Rattle.rows.specs.declared.row.Row.{Row}
 use Rattle.theorems.proofs.Tabulations.{tabulate-at, tabulate-same}
 use Rattle.rows.proofs.RowLaws.{not-on, until-on, last-on}
@@ -37,9 +38,11 @@ module _ (states : List ℕ) (n own a : ℕ) where
   columnAt k = bitOf (getD states k 0) a
 
   own-same : (weak : Bool) → bitOf own a ≡ true → tabulate n columnAt ≡ tabulate n (stateAtom states n own a weak)
+  unfolding pick
   own-same weak e = tabulate-same n columnAt (stateAtom states n own a weak) (λ i h. rw e)
 
   foreign-same : (weak : Bool) → bitOf own a ≡ false → tabulate n (lastAt weak n (markAt (tabulate n columnAt))) ≡ tabulate n (stateAtom states n own a weak)
+  unfolding pick
   foreign-same weak e =
       tabulate-same n (lastAt weak n (markAt (tabulate n columnAt))) (stateAtom states n own a weak)
       (λ i h. rw (e, marks-of n columnAt i h))

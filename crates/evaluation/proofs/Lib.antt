@@ -3,9 +3,3 @@ pub mod LeafLaws
 pub mod PairLaws
 pub mod TableLaws
 pub mod EvaluateLaws
-pub mod CheckedNodes
-pub mod TraceLaws
-pub mod RefusalLaws
-pub mod TopLaws
-pub mod WholeLaws
-pub mod LocalLaws

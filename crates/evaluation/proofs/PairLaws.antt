@@ -7,8 +7,9 @@ use borrow.Author.Needs.{needs}
 use Rattle.definitions.specs.Bounded.{tabulate}
 use Rattle.definitions.specs.Nodes.{kindOf}
 use Rattle.definitions.specs.Readings.{nextAt, untilAt, prevAt, sinceAt}
-use Rattle.rows.specs.Marks.{markAt, marks, Made}
-use Rattle.rows.specs.Lent.{rowAt}
+use Rattle.mark_words.specs.Marks.{markAt}
+use Rattle.rows.specs.Marks.{marks, Made}
+use Rattle.rows.specs.Stored.{rowAt}
 use Rattle.rows.specs.declared.row.Row.{Row}
 use Rattle.rows.proofs.RowLaws.{whole-made, not-on, or-on, next-on, until-on, prev-on, since-on}
 use Rattle.evaluation.specs.declared.pair.Pair.{Pair}

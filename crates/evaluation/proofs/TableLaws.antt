@@ -12,7 +12,7 @@ use Rattle.definitions.specs.Nodes.{Kind, True, Atom, Not, Or, Next, Until, Pre
 use Rattle.definitions.specs.Tables.{nodesIn}
 use Rattle.definitions.specs.Readings.{Trace, Rows, noRows, nodeRows, reading, readFrom, rowsAfter, rowsOf}
 use Rattle.theorems.proofs.Tabulations.{tabulate-length}
-use Rattle.rows.proofs.OperatorLaws.{lt-or-le}
+use Rattle.mark_words.proofs.OperatorLaws.{lt-or-le}
 use Rattle.evaluation.specs.Traced.{traceOf}
 use Rattle.evaluation.specs.Nodes.{isLeaf, rowsTo, rowsAt}
 use Rattle.evaluation.specs.Pairs.{operated}

@@ -1,4 +1,3 @@
 pub mod Traced
 pub mod Pairs
 pub mod Nodes
-pub mod Judging

@@ -8,7 +8,7 @@ use Rattle.definitions.specs.Limits.{pairWords}
 use Rattle.definitions.specs.Nodes.{Kind, node, kindOf}
 use Rattle.definitions.specs.Readings.{Rows, nodeRows}
 use Rattle.rows.specs.Marks.{marks, Whole, Made}
-use Rattle.rows.specs.Lent.{rowAt}
+use Rattle.rows.specs.Stored.{rowAt}
 use Rattle.evaluation.specs.declared.pair.Pair.{Pair}
 use Rattle.evaluation.specs.Nodes.{isLeaf}
 use Rattle.evaluation.specs.Traced.{bare}

@@ -1,17 +1,17 @@
 -- The trace that state words are: one trace serves both judges.
 use Prim.Native.Nat.{ℕ, suc, _+_, _-_, _^_}
-use mathlib.Core.Bool.{Bool, true, false, cond}
+use mathlib.Core.Bool.{Bool, true, false}
 use mathlib.Core.List.{List}
 use lib.ListN.{getD}
 use lib.Dec.{ltb}
 use Rattle.definitions.specs.Limits.{atomCount}
-use Rattle.definitions.specs.Bounded.{tabulate, bitOf}
+use Rattle.definitions.specs.Bounded.{pick, tabulate, bitOf}
 use Rattle.definitions.specs.Projection.{endAt}
 use Rattle.definitions.specs.Readings.{Trace, Rows}
 
 -- atom a of state i: an atom outside `own` is foreign, weak yes and strong no at the last place
 abbrev pub stateAtom : List ℕ → ℕ → ℕ → ℕ → Bool → ℕ → Bool
-stateAtom states n own a weak i = cond (bitOf own a) (bitOf (getD states i 0) a) (cond (ltb (suc i) n) (bitOf (getD states i 0) a) weak)
+stateAtom states n own a weak i = pick (bitOf own a) (bitOf (getD states i 0) a) (pick (ltb (suc i) n) (bitOf (getD states i 0) a) weak)
 
 -- c is marked in state i
 abbrev pub stateRun : List ℕ → ℕ → ℕ → Bool

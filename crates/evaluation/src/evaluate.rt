@@ -15,7 +15,7 @@ use super::pair::load_pair;
 use super::pair::operate;
 use formulas::limits::Limits;
 use formulas::node::Node;
-use rows::lent::store;
+use rows::stored::store;
 
 // The leaves seen so far: a slot holds the number of the last node whose leaf fell into it.
 pub struct Seen {}

@@ -1,8 +1,4 @@
-// The evaluator of a table over a trace, and the two judges over it.
+// The evaluator of a table over a trace: a weak and a strong row for each node.
 pub mod evaluate;
 pub mod leaf;
-pub mod local;
 pub mod pair;
-pub mod refusal;
-pub mod verdicts;
-pub mod whole;

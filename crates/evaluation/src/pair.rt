@@ -8,8 +8,8 @@ ghost use Rattle.definitions.specs.Nodes.{kindOf};
 ghost use Rattle.evaluation.specs.Nodes.{isLeaf};
 ghost use Rattle.evaluation.specs.Pairs.{rowsIn, PairMade, Counted, Operable, operated, pairAt};
 use formulas::node::Node;
-use rows::lent::load;
 use rows::row::Row;
+use rows::stored::load;
 
 pub struct Pair {
     pub weak: Row,

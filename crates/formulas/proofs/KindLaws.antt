@@ -1,5 +1,5 @@
 -- The kind of a number, case by case.
-use mathlib.Core.Bool.{_||_}
+use mathlib.Core.Bool.{Bool, _||_}
 use mathlib.Core.Path.{_≡_, refl}
 use Prim.Native.Nat.{ℕ, _+_, _*_, _<_, _≤_}
 use native.Mathlib.Decide.{ℕ-discrete}
@@ -9,7 +9,7 @@ use borrow.Author.Tests.{ne-eqb, lt-ltb}
 use lib.Dec.{eqb, ltb}
 use Rattle.definitions.specs.Bounded.{pick}
 use Rattle.definitions.specs.Nodes.{Kind, True, Atom, Not, Or, Next, Until, Prev, Since, Run, End, Unknown, node, kindOf, kindNumber, operands, kindSpan, operandSpan, nodeWord}
-use Rattle.definitions.specs.Tables.{isUnknown, isRewritten, isAtom}
+use Rattle.definitions.specs.Tables.{isUnknown}
 
 unknown-kind : (k : ℕ) → 9 < k → kindOf k ≡ Unknown
 unfolding kindOf pick
@@ -50,24 +50,18 @@ kind-cases P p0 p1 p2 p3 p4 p5 p6 p7 p8 p9 p k =
 pub unknown-of : (k : ℕ) → ltb 9 k ≡ isUnknown (kindOf k)
 unknown-of = kind-cases (λ k K. ltb 9 k ≡ isUnknown K) refl refl refl refl refl refl refl refl refl refl (λ k h. lt-ltb 9 k h)
 
-pub atom-of : (k : ℕ) → eqb k 1 ≡ isAtom (kindOf k)
-atom-of = kind-cases (λ k K. eqb k 1 ≡ isAtom K) refl refl refl refl refl refl refl refl refl refl (λ k h. ne-eqb k 1 (λ e. omega arith))
-
-pub rewritten-of : (k : ℕ) → (eqb k 8 || eqb k 9) ≡ isRewritten (kindOf k)
-rewritten-of = kind-cases (λ k K. (eqb k 8 || eqb k 9) ≡ isRewritten K) refl refl refl refl refl refl refl refl refl refl
-    (λ k h. rw (ne-eqb k 8 (λ e. omega arith), ne-eqb k 9 (λ e. omega arith)))
+pub two-of : (k : ℕ) → ((eqb k 3 || eqb k 5) || eqb k 7) ≡ eqb (operands (kindOf k)) 2
+two-of = kind-cases (λ k K. ((eqb k 3 || eqb k 5) || eqb k 7) ≡ eqb (operands K) 2) refl refl refl refl refl refl refl refl refl refl
+    (λ k h. rw (ne-eqb k 3 (λ e. omega arith), ne-eqb k 5 (λ e. omega arith), ne-eqb k 7 (λ e. omega arith)))
 
 -- the number of operands, test by test
-abbrev counted : ℕ → ℕ
-counted k = pick (eqb k 0 || ltb 7 k) 0 (pick ((eqb k 3 || eqb k 5) || eqb k 7) 2 1)
-
-operands-of : (k : ℕ) → counted k ≡ operands (kindOf k)
+operands-of : (k : ℕ) → pick (eqb k 0 || ltb 7 k) 0 (pick (eqb (operands (kindOf k)) 2) 2 1) ≡ operands (kindOf k)
 unfolding pick
-operands-of = kind-cases (λ k K. counted k ≡ operands K) refl refl refl refl refl refl refl refl refl refl
+operands-of = kind-cases (λ k K. pick (eqb k 0 || ltb 7 k) 0 (pick (eqb (operands K) 2) 2 1) ≡ operands K) refl refl refl refl refl refl refl refl refl refl
     (λ k h. rw (ne-eqb k 0 (λ e. omega arith), lt-ltb 7 k (omega arith)))
 
-pub operands-tested : (k some r : ℕ) → some ≡ pick ((eqb k 3 || eqb k 5) || eqb k 7) 2 1 → r ≡ pick (eqb k 0 || ltb 7 k) 0 some → r ≡ operands (kindOf k)
-operands-tested k some r e h = rw (h, e) (operands-of k)
+pub operands-tested : (k some r : ℕ) (two : Bool) → two ≡ eqb (operands (kindOf k)) 2 → some ≡ pick two 2 1 → r ≡ pick (eqb k 0 || ltb 7 k) 0 some → r ≡ operands (kindOf k)
+operands-tested k some r two t e h = rw (h, e, t) (operands-of k)
 
 -- a known kind has its number back
 pub number-of : (k : ℕ) → k ≤ 9 → k ≡ kindNumber (kindOf k)

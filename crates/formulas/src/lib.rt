@@ -1,5 +1,5 @@
-// Formulas: the node type, the word of a node in lent space, and the check of a table.
-pub mod check;
+// What every crate says of a formula: the limits and refusal numbers, choice by a test, kinds, and the node type. It checks nothing.
 pub mod choice;
+pub mod kind;
 pub mod limits;
 pub mod node;

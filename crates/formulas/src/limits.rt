@@ -13,8 +13,6 @@ impl Limits {
 
     pub const TABLE_NODES: usize = 1024;
 
-    pub const WORD_MARKS: usize = 64;
-
     pub const PAIR_WORDS: usize = 6;
 
     pub const ROW_WORDS: usize = Limits::TABLE_NODES * Limits::PAIR_WORDS;
@@ -50,8 +48,6 @@ impl Refusal {
     pub const OUTPUT_RULE: u8 = 10;
 
     pub const NO_CONTROLLER: u8 = 11;
-
-    pub const TOO_MANY_NODES: u8 = 12;
 
     pub const LENT_SHORT: u8 = 13;
 

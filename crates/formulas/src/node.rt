@@ -1,6 +1,7 @@
 // A node of a formula's table: its kind and two operands, and the word that it is in lent space.
 ghost use mathlib.Core.Path.{_≡_};
-ghost use Rattle.definitions.specs.Nodes.{nodeWord, True, Atom, Not, Or, Next, Until, Prev, Since, Run, End};
+ghost use Prim.Native.Nat.{_≤_};
+ghost use Rattle.definitions.specs.Nodes.{nodeWord, kindOf, kindNumber, True, Atom, Not, Or, Next, Until, Prev, Since, Run, End};
 ghost use Rattle.formulas.specs.Meaning.{meaning, Built, OfWord, Wordable};
 
 pub struct Node {
@@ -135,6 +136,18 @@ impl Node {
             kind: Node::END,
             first: 0,
             second: 0,
+        }
+    }
+
+    // The node of a kind that is told by its number.
+    pub fn of_kind(kind: u8, first: u16, second: u16) -> Node
+        requires { ⌜ kind ≤ kindNumber End ⌝ }
+        ensures { λ r. ⌜ Built (kindOf kind) first second r ⌝ }
+    {
+        Node {
+            kind: kind,
+            first: first,
+            second: second,
         }
     }
 

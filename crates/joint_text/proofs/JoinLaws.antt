@@ -15,22 +15,21 @@ use Rattle.definitions.specs.Limits.{lentShort, noController, maxRuleNodes, max
 use Rattle.definitions.specs.Bounded.{pick}
 use Rattle.definitions.specs.Lines.{newline, before}
 use Rattle.definitions.specs.RuleText.{scanRule}
+use Rattle.definitions.specs.Recordings.{controllerRefusal}
 use Rattle.definitions.specs.RecordingText.{scanRecording, lineIn, jointNumber, jointPart}
 use Rattle.definitions.specs.Operations.{left, tooShort, readJointNumber, readJointHeading, readJointNodes, readJointMasks, readJointStates, readJointPart}
 use Rattle.theorems.proofs.Choice.{by-test, both-false}
-use Rattle.theorems.proofs.RoundTrips.{read-count}
-use Rattle.rows.specs.Lent.{laid, cleared}
-use Rattle.rows.proofs.LeftLaws.{laid-past, laid-begins, left-untouched, left-zeroed, left-filled}
-use Rattle.lines.proofs.PartLaws.{part-to-end}
-use Rattle.lines.proofs.ScanLaws.{before-le}
-use Rattle.formula_text.specs.Reading.{RuleScanned}
-use Rattle.formula_text.specs.declared.read.Scanned as ruled
-use Rattle.formula_text.proofs.CallerLaws.{words-most, scanned-low, scanned-count, scanned-place, scanned-rest}
-use Rattle.trace_text.specs.Reading.{RecordingScanned}
-use Rattle.trace_text.specs.declared.read.Scanned as recorded
+use Rattle.lent.specs.Space.{laid, cleared}
+use Rattle.lent.proofs.LeftLaws.{laid-begins, left-untouched, left-zeroed, left-filled}
+use Rattle.fields.proofs.PartLaws.{part-to-end}
+use Rattle.fields.proofs.ScanLaws.{before-le}
+use Rattle.formula_reader.specs.Reading.{RuleScanned}
+use Rattle.formula_reader.specs.declared.Scanned as ruled
+use Rattle.trace_reader.specs.Reading.{RecordingScanned}
+use Rattle.trace_reader.specs.declared.Scanned as recorded
+use Rattle.trace_reader.proofs.ScanLaws.{recording-low, recording-end}
 use Rattle.joint_text.specs.Joining.{IsPart, Room, isShort, Clearable, Cleared, refusedAt, headingOf, partOf, jointValues, Held, JointScanned, Joined, ReadJoint}
 use Rattle.joint_text.specs.declared.joint.Found.{Found}
-use Rattle.trace_text.proofs.RecordingNumbers.{recording-low, recording-end}
 
 -- ---- `part` and `refused_at`
 pub part-reads : (s : List ℕ) (from count : ℕ) → take (from + count - from) (drop from s) ≡ take count (drop from s)
@@ -94,7 +93,7 @@ module _ (rule recording : List ℕ) where
     module _ (a : (scanRecording recording) .number ≡ 0) where
       module _ (h : (scanRecording recording) .controllers ≤ (scanRule rule) .controller) where
         joining-number : jointNumber rule recording ≡ noController
-        unfolding jointNumber pick
+        unfolding jointNumber controllerRefusal pick
         joining-number = rw (e, a, le-ltb ((scanRule rule) .controller) ((scanRecording recording) .controllers) h)
 
         joining-part : jointPart rule recording ≡ lineIn true rule rule
@@ -103,7 +102,7 @@ module _ (rule recording : List ℕ) where
 
       module _ (h : (scanRule rule) .controller < (scanRecording recording) .controllers) where
         accepted-number : jointNumber rule recording ≡ 0
-        unfolding jointNumber pick
+        unfolding jointNumber controllerRefusal pick
         accepted-number = rw (e, a, lt-ltb ((scanRule rule) .controller) ((scanRecording recording) .controllers) h)
 
         accepted-part : jointPart rule recording ≡ lineIn false recording ((scanRecording recording) .rest)
@@ -120,23 +119,19 @@ line-inside t at h = omega (arith, before-le newline (drop at t), length-drop at
 
 -- ---- `scan_joint`
 module _ (rule recording nodes masks states nodes′ : List ℕ) (u : ruled.Scanned) (s : RuleScanned rule nodes u nodes′) where
-  nodes-past : drop maxRuleNodes nodes′ ≡ drop maxRuleNodes nodes
-  nodes-past = laid-past maxRuleNodes ((scanRule rule) .words) nodes nodes′ (words-most rule) (s .nodes)
-
   pub rule-refused : (f : Found) → (u .number ≡ 0 → ⊥) → f ≡ refusedAt (u .number) true (u .«rest_at») (before newline (drop (u .«rest_at») rule))
       → JointScanned rule recording nodes masks states f nodes′ masks states
   unfolding pick
   rule-refused f z e =
       let y : (scanRule rule) .number ≡ 0 → ⊥ = λ q. z (s .number ∙ q) in
-      let p : drop (u .«rest_at») rule ≡ (scanRule rule) .rest = scanned-rest rule nodes nodes′ u s in
       rw e
       (record {
         number = s .number ∙ sym (rule-number rule recording y);
-        low = scanned-low rule nodes nodes′ u s;
+        low = s .low;
         values = refused-values rule recording (u .number) z;
-        part = rw (p, s .place) (sym (rule-part rule recording y));
-        inside = line-inside rule (u .«rest_at») (scanned-place rule nodes nodes′ u s);
-        nodesHeld = held-refused maxRuleNodes (u .number) ((scanRule rule) .words) nodes nodes′ z nodes-past;
+        part = rw (s .rest, s .place) (sym (rule-part rule recording y));
+        inside = line-inside rule (u .«rest_at») (s .inside);
+        nodesHeld = held-refused maxRuleNodes (u .number) ((scanRule rule) .words) nodes nodes′ z (s .nodesPast);
         masksHeld = held-refused maxControllers (u .number) ((scanRecording recording) .masks) masks masks z refl;
         statesHeld = held-refused maxStates (u .number) ((scanRecording recording) .states) states states z refl;
       })
@@ -144,9 +139,6 @@ module _ (rule recording nodes masks states nodes′ : List ℕ) (u : ruled.Scan
   module _ (a : u .number ≡ 0) where
     ruled-number : (scanRule rule) .number ≡ 0
     ruled-number = sym (s .number) ∙ a
-
-    count-small : u .count ≤ maxRuleNodes
-    count-small = scanned-count rule nodes nodes′ u s a
 
     module _ (masks′ states′ : List ℕ) (v : recorded.Scanned) (t : RecordingScanned recording masks states v masks′ states′) where
       pub recording-refused : (f : Found) → (v .number ≡ 0 → ⊥) → f ≡ refusedAt (v .number) false (v .«rest_at») (before newline (drop (v .«rest_at») recording))
@@ -161,7 +153,7 @@ module _ (rule recording nodes masks states nodes′ : List ℕ) (u : ruled.Scan
             values = refused-values rule recording (v .number) z;
             part = rw (t .rest, t .place) (sym (recording-part rule recording ruled-number y));
             inside = line-inside recording (v .«rest_at») (t .inside);
-            nodesHeld = held-refused maxRuleNodes (v .number) ((scanRule rule) .words) nodes nodes′ z nodes-past;
+            nodesHeld = held-refused maxRuleNodes (v .number) ((scanRule rule) .words) nodes nodes′ z (s .nodesPast);
             masksHeld = held-refused maxControllers (v .number) ((scanRecording recording) .masks) masks masks′ z (t .masksPast);
             statesHeld = held-refused maxStates (v .number) ((scanRecording recording) .states) states states′ z (t .statesPast);
           })
@@ -185,7 +177,7 @@ module _ (rule recording nodes masks states nodes′ : List ℕ) (u : ruled.Scan
               values = refused-values rule recording 11 z;
               part = sym p ∙ sym (joining-part rule recording ruled-number recorded-number l);
               inside = omega (arith, before-le newline rule);
-              nodesHeld = held-refused maxRuleNodes 11 ((scanRule rule) .words) nodes nodes′ z nodes-past;
+              nodesHeld = held-refused maxRuleNodes 11 ((scanRule rule) .words) nodes nodes′ z (s .nodesPast);
               masksHeld = held-refused maxControllers 11 ((scanRecording recording) .masks) masks masks′ z (t .masksPast);
               statesHeld = held-refused maxStates 11 ((scanRecording recording) .states) states states′ z (t .statesPast);
             })
@@ -201,9 +193,6 @@ module _ (rule recording nodes masks states nodes′ : List ℕ) (u : ruled.Scan
               let c : before newline ((scanRecording recording) .rest) ≡ 0 = omega (arith, before-le newline ((scanRecording recording) .rest)) in
               rw (o, c)
 
-          counted : length ((scanRule rule) .words) ≡ u .count
-          counted = read-count rule ruled-number ∙ sym (s .count)
-
           accepted-values : _≡_ {A = List ℕ} (u .controller ∷ u .count ∷ v .controllers ∷ v .count ∷ []) (jointValues 0 rule recording)
           unfolding jointValues pick
           accepted-values = rw (s .controller, s .count, t .controllers, t .count)
@@ -217,16 +206,16 @@ module _ (rule recording nodes masks states nodes′ : List ℕ) (u : ruled.Scan
                 values = accepted-values;
                 part = end-part ∙ sym (accepted-part rule recording ruled-number recorded-number below);
                 inside = omega arith;
-                nodesHeld = held-laid maxRuleNodes (u .count) ((scanRule rule) .words) nodes nodes′ count-small counted (s .nodes) nodes-past;
+                nodesHeld = held-laid maxRuleNodes (u .count) ((scanRule rule) .words) nodes nodes′ (s .few) (s .nodesCount a) (s .nodesLaid) (s .nodesPast);
                 masksHeld = held-laid maxControllers (v .controllers) ((scanRecording recording) .masks) masks masks′ (t .few) (t .masksCount b) (t .masksLaid b) (t .masksPast);
                 statesHeld = held-laid maxStates (v .count) ((scanRecording recording) .states) states states′ (t .short) (t .statesCount b) (t .statesLaid) (t .statesPast);
               }
 
--- the node count of an accepted rule is a word
-pub count-fits : (rule nodes nodes′ : List ℕ) (u : ruled.Scanned) → RuleScanned rule nodes u nodes′ → u .number ≡ 0 → Fits w32 (u .count)
-count-fits rule nodes nodes′ u s a = omega (arith, scanned-count rule nodes nodes′ u s a)
+-- the node count of a rule is a word
+pub count-fits : (rule nodes nodes′ : List ℕ) (u : ruled.Scanned) → RuleScanned rule nodes u nodes′ → Fits w32 (u .count)
+count-fits rule nodes nodes′ u s = omega (arith, s .few)
 
-pub ruleset scan-laws = (needs, scanned-place, count-fits, rule-refused, recording-refused, joining-refused, joint-accepted)
+pub ruleset scan-laws = (needs, count-fits, rule-refused, recording-refused, joining-refused, joint-accepted)
 
 -- ---- `join_whole`
 module _ (full number count : ℕ) (content entry exit end : List ℕ) (low : number < lentShort) (h : Held full number count content entry exit) (e : end ≡ cleared exit count full) where

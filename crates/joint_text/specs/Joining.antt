@@ -11,7 +11,7 @@ use Rattle.definitions.specs.Bounded.{pick}
 use Rattle.definitions.specs.RuleText.{scanRule}
 use Rattle.definitions.specs.RecordingText.{scanRecording, Part, jointNumber, jointPart}
 use Rattle.definitions.specs.Operations.{tooShort, readJointHeading, readJointNodes, readJointMasks, readJointStates, readJointPart}
-use Rattle.rows.specs.Lent.{cleared}
+use Rattle.lent.specs.Space.{cleared}
 use Rattle.joint_text.specs.declared.joint.Found.{Found}
 
 -- r is the part of s of so many bytes that begins at the byte `from`

@@ -4,12 +4,11 @@ ghost use Prim.Native.Nat.{_≤_, _+_};
 ghost use lib.ListN.{length, drop};
 ghost use Rattle.definitions.specs.Lines.{newline, before};
 ghost use Rattle.joint_text.specs.Joining.{IsPart, Room, isShort, Clearable, Cleared, refusedAt, JointScanned, Joined, ReadJoint};
-use formula_text::read::scan_rule;
+use fields::scan;
+use formula_reader::scan_rule;
 use formulas::limits::Limits;
 use formulas::limits::Refusal;
-use lines::scan;
-use rows::lent;
-use trace_text::read::scan_recording;
+use trace_reader::scan_recording;
 
 // The number and, accepted, controller, node count, C and N; and the part handed back: of which text, from where, how long.
 pub struct Found {

@@ -1,209 +1,161 @@
--- Judging a rewritten rule: a law for each return.
+-- Judging a rewritten rule: a law for each call and each return.
 use mathlib.Core.Path.{_≡_, refl, sym, ap, _∙_}
 use Prim.Native.Nat.{ℕ, _-_, _≤_, _<_}
 use native.Mathlib.Omega.{arith}
-use mathlib.Core.Bool.{Bool, true, false, _||_, or-true}
-use mathlib.Core.List.{List, [], _∷_, _++_, map}
-use lib.ListN.{length, take, drop, getD, replicate}
+use mathlib.Core.Bool.{Bool, true, false, _||_}
+use mathlib.Core.List.{List, _++_, map}
+use lib.ListN.{length, drop, getD, replicate}
+use lib.Dec.{ltb}
 use borrow.Author.Needs.{needs}
-use borrow.Author.Tests.{lt-ltb, le-ltb, ltb-true, ne-eqb}
-use lib.Dec.{ltb, eqb}
+use borrow.Author.Tests.{ltb-false, ne-eqb}
 use Rattle.definitions.specs.Limits.{accepted, lentShort, noController, tooManyNodes, maxTableNodes, maxRowWords}
-use Rattle.definitions.specs.Bounded.{pick, orElse, bit}
+use Rattle.definitions.specs.Bounded.{pick, orElse}
 use Rattle.definitions.specs.Nodes.{nodeWord}
-use Rattle.definitions.specs.Tables.{Rule, Table, ruleRefusal, tableRefusal, nodesIn}
-use Rattle.definitions.specs.Recordings.{Recording, recordingRefusal, maskOf}
-use Rattle.definitions.specs.Projection.{localTrace}
-use Rattle.definitions.specs.Readings.{whole, rowsOf, pairsWords}
-use Rattle.definitions.specs.Operations.{Answer, answer, left, tooShort, controllerRefusal, sizeRefusal, judgeLocalNumber, judgeLocalAnswer, localVerdicts, rewrittenOf, rewriteNumber, rewriteAnswer, rewriteTable, answeredTable, judgeRecordingNumber, judgeRecordingAnswer, judgeRecordingRows}
-use Rattle.theorems.proofs.Choice.{accept-yes, or-else-none, none-or-else}
+use Rattle.definitions.specs.Tables.{Rule, ruleRefusal, tableRefusal, nodesIn, ruleOf, tableOf}
+use Rattle.definitions.specs.Recordings.{Recording, recordingOf, recordingRefusal, controllerRefusal, maskOf}
+use Rattle.definitions.specs.Readings.{whole, verdicts}
+use Rattle.definitions.specs.Rewriting as written
+use Rattle.definitions.specs.Rewriting.{rewriting}
+use Rattle.definitions.specs.Operations.{answer, judgeLocalNumber}
+use Rattle.theorems.proofs.Choice.{both-false, or-else-none}
 use Rattle.theorems.proofs.RefusalBounds.{or-else-low, rule-low, recording-low, controller-low}
 use Rattle.theorems.proofs.LentSpace.{left-short, left-accepted, left-refused}
-use Rattle.theorems.proofs.RewrittenAccepted.{rewritten-nodes, rewritten-fits}
-use Rattle.theorems.proofs.ScheduleIndependence.{Accepted, local-judging, rewritten-judging}
-use Rattle.traces.proofs.ProjectLaws.{own-mask}
-use Rattle.rows.specs.Lent.{cleared}
-use Rattle.evaluation.specs.Judging as judging
-use Rattle.evaluation.specs.Judging.{traceRefusal, WholeJudged}
-use Rattle.evaluation.specs.declared.verdicts.Verdicts.{Verdicts}
-use Rattle.evaluation.specs.declared.verdicts.Verdicts.the-variants as verdict
-use Rattle.rewriting.specs.Answers as rewriting
-use Rattle.rewriting.specs.Answers.{Rewrote}
-use Rattle.rewriting.specs.declared.rewrite.Rewriting.{Rewriting}
-use Rattle.rewriting.specs.declared.rewrite.Rewriting.the-variants as written
+use Rattle.theorems.proofs.RuleNodes.{rule-nodes, rule-length, rule-some}
+use Rattle.theorems.proofs.RewrittenAccepted.{rewritten-nodes, rewritten-accepted}
+use Rattle.theorems.proofs.ScheduleIndependence.{Accepted, verdict-agrees}
+use Rattle.traces.proofs.CheckLaws.{own-mask}
+use Rattle.lent.specs.Space.{cleared}
+use Rattle.judges.specs.Verdicts.{ownVerdicts}
+use Rattle.judges.specs.Whole.{WholeReady, WholeVerdicts}
+use Rattle.judges.specs.declared.verdicts.Verdicts.{Verdicts}
+use Rattle.judges.proofs.WholeLaws.{accepted-controller, whole-ready}
+use Rattle.rewriting.specs.Drafts.{Ruled}
+use Rattle.rewriting.specs.Answers.{TableOf}
+use Rattle.images.specs.declared.image.Tops.{Tops}
+use Rattle.rewriting.proofs.AnswerLaws.{ruled}
 use Rattle.judging.specs.Rewritten.{answerOf, Judgeable, rewrittenFor, localValues, Lent, JudgedLocally, numberOf, Judgements}
-use Rattle.judging.specs.declared.rewritten.Judgement.{Judgement}
-use Rattle.judging.specs.declared.rewritten.Judgement.the-variants.{Judged, Refused}
+use Rattle.judging.specs.declared.rewritten.Rewritten.{Rewritten}
+use Rattle.judging.specs.declared.rewritten.RewrittenJudgement.the-variants.{Judged, Refused}
 
-never : {P : Type 0} (x : ℕ) (l : List ℕ) → [] ≡ x ∷ l → P
-never x l e = absurd (omega (arith, ap length e))
+-- the verdicts of the rewritten rule over the whole recording are the rule's own
+pub verdicts-agree : (short : Bool) (r : Rule) (R : Recording) → Accepted r R →
+    verdicts (whole R (r .controller)) ((rewrittenFor short r R) .nodes) ((rewrittenFor short r R) .weakTop) ((rewrittenFor short r R) .strongTop) ≡ ownVerdicts r R
+verdicts-agree short r R A =
+    let some : 0 < length (nodesIn (r .count) (r .nodes)) = omega (arith, rule-length r (A .rule), rule-some r (A .rule)) in
+    let same = verdict-agrees short (nodesIn (r .count) (r .nodes)) some (rule-nodes r (A .rule)) R (r .controller) (A .recording) (A .controller) in
+    rw (same true, same false)
 
-accepted-values : (values : List ℕ) → (answer accepted values) .values ≡ values
-unfolding answer pick
-accepted-values values = refl
+-- ---- what was accepted is rewritten and judged without a refusal
 
-number-of : (number : ℕ) (values : List ℕ) → (answer number values) .number ≡ number
-unfolding answer
-number-of number values = refl
+module _ (r : Rule) (R : Recording) (table rows : List ℕ) (J : Judgeable r R table rows) where
+  pub rule-ruled : Ruled (r .count) (r .nodes)
+  rule-ruled = ruled (r .controller) (r .count) (r .nodes) (ruleRefusal r) refl (J .both .rule)
 
-refused-values : (number : ℕ) → (answer number []) .values ≡ []
-unfolding answer pick
-refused-values number = go (eqb number 0)
-  where
-    go : (z : Bool) → pick {A = List ℕ} z [] [] ≡ []
-    go true = refl
-    go false = refl
+  module _ (short : Bool) (mask : ℕ) (own : mask ≡ getD (R .masks) (r .controller) 0) (t : Tops) (table′ : List ℕ)
+      (laid : TableOf (rewriting short mask (nodesIn (r .count) (r .nodes))) table t table′) where
+    abbrev W : written.Rewritten
+    W = rewrittenFor short r R
 
-module _ (short : Bool) (r : Rule) (R : Recording) (table rows : List ℕ) (J : Judgeable r R table rows) (mask : ℕ) (me : mask ≡ getD (R .masks) (r .controller) 0) where
-  own : mask ≡ maskOf R (r .controller)
-  own = me ∙ own-mask R (r .controller) (J .controller)
+    abbrev more : List ℕ
+    more = replicate (maxTableNodes - length (map nodeWord (W .nodes))) 0 ++ drop maxTableNodes table
 
-  both : Accepted r R
-  both = record { rule = J .rule; recording = J .recording; controller = J .controller }
+    for-mask : rewriting short mask (nodesIn (r .count) (r .nodes)) ≡ W
+    for-mask = ap (λ (m : ℕ). rewriting short m (nodesIn (r .count) (r .nodes))) (own ∙ own-mask R (r .controller) (J .both .controller))
 
-  -- the rewriting answers, for the controller's mask
-  number-zero : rewriteNumber short r mask table ≡ 0
-  unfolding rewriteNumber pick
-  number-zero = rw (le-ltb (length table) maxTableNodes (J .fullTable))
-      (none-or-else (ruleRefusal r) (sizeRefusal (rewrittenOf short r mask)) (J .rule) (rewritten-fits short r mask (J .rule)))
+    held : TableOf W table t table′
+    held = rw for-mask at laid
 
-  values-are : (rewriteAnswer short r mask table) .values
-      ≡ length ((rewrittenOf short r mask) .nodes) ∷ (rewrittenOf short r mask) .weakTop ∷ (rewrittenOf short r mask) .strongTop ∷ []
-  unfolding rewriteAnswer
-  values-are = rw number-zero (accepted-values _)
+    words : table′ ≡ map nodeWord (W .nodes) ++ more
+    words = held .table ∙ left-accepted maxTableNodes (map nodeWord (W .nodes)) table
 
-  table-is : rewriteTable short r mask table
-      ≡ map nodeWord ((rewrittenOf short r mask) .nodes)
-      ++ (replicate (maxTableNodes - length (map nodeWord ((rewrittenOf short r mask) .nodes))) 0 ++ drop maxTableNodes table)
-  unfolding rewriteTable
-  table-is = rw number-zero (left-accepted maxTableNodes (map nodeWord ((rewrittenOf short r mask) .nodes)) table)
+    -- the table that was written is the rewritten one
+    given : tableOf (t .count) table′ (t .weak) (t .strong)
+        ≡ tableOf (length (W .nodes)) (map nodeWord (W .nodes) ++ more) (W .weakTop) (W .strongTop)
+    given = rw (held .count, held .weak, held .strong, words)
 
-  module _ (table′ : List ℕ) where
-    not-written : {P : Type 0} (number : ℕ) → Rewrote short (r .controller) (r .count) (r .nodes) mask table (written.Refused number) table′ → P
-    not-written number w = never _ _ (ap (λ (a : Answer). a .values) (w .answered) ∙ values-are)
+    ready : WholeReady (tableOf (t .count) table′ (t .weak) (t .strong)) (R .count) (R .states) (r .controller) rows
+    ready =
+        whole-ready _ R (r .controller) rows (ap tableRefusal given ∙ rewritten-accepted short r (maskOf R (r .controller)) more (J .both .rule))
+        (J .both .recording) (J .both .controller) (J .fullRows)
 
-    module _ (n wt st : ℕ) (w : Rewrote short (r .controller) (r .count) (r .nodes) mask table (written.Rewritten n wt st) table′) where
-      values-same : n ∷ wt ∷ st ∷ [] ≡ length ((rewrittenOf short r mask) .nodes) ∷ (rewrittenOf short r mask) .weakTop ∷ (rewrittenOf short r mask) .strongTop ∷ []
-      values-same = ap (λ (a : Answer). a .values) (w .answered) ∙ values-are
+    nodes-are : nodesIn (t .count) table′ ≡ W .nodes
+    nodes-are = rw (held .count, words) (rewritten-nodes short r (maskOf R (r .controller)) more (J .both .rule))
 
-      abbrev given : Table
-      given = record { count = n; nodes = table′; weakTop = wt; strongTop = st }
+    pub judged-locally : (v : Verdicts) (rows′ : List ℕ) →
+        WholeVerdicts (tableOf (t .count) table′ (t .weak) (t .strong)) (R .count) (R .states) (r .controller) rows v rows′ →
+        JudgedLocally short r R table rows (record { count = t .count; verdicts = v }) table′ rows′
+    judged-locally v rows′ w = record {
+      count = held .count;
+      verdicts = w .verdicts ∙ rw (nodes-are, held .weak, held .strong) (verdicts-agree short r R (J .both));
+      lent = record { tableLeft = held .table; rowsLeft = w .rows ∙ rw nodes-are };
+    }
 
-      given-is : given ≡ answeredTable short r (maskOf R (r .controller)) table
-      given-is =
-          let v : n ∷ wt ∷ st ∷ [] ≡ (rewriteAnswer short r mask table) .values = ap (λ (a : Answer). a .values) (w .answered) in
-          rw (← own, ← v, ← w .table)
+pub table-ready : (c k : ℕ) (nodes : List ℕ) (C N : ℕ) (masks states table rows : List ℕ) → Judgeable (ruleOf c k nodes) (recordingOf C N masks states) table rows →
+    (short : Bool) (mask : ℕ) → mask ≡ getD masks c 0 → (t : Tops) (table′ : List ℕ) → TableOf (rewriting short mask (nodesIn k nodes)) table t table′ →
+    WholeReady (tableOf (t .count) table′ (t .weak) (t .strong)) N states c rows
+table-ready c k nodes C N masks states table rows J short mask own t table′ laid = ready (ruleOf c k nodes) (recordingOf C N masks states) table rows J short mask own t table′ laid
 
-      -- the judge answers what judging on the local trace answers
-      judged-locally : judgeRecordingAnswer given R (r .controller) rows
-          ≡ answer accepted (localVerdicts (nodesIn (r .count) (r .nodes)) (maskOf R (r .controller)) (localTrace R (r .controller)))
-      judged-locally =
-          ap (λ (t : Table). judgeRecordingAnswer t R (r .controller) rows) given-is
-          ∙ (rewritten-judging short r R table rows both (J .fullTable) (J .fullRows) ∙ local-judging r R both)
-
-      judge-zero : judgeRecordingNumber given R (r .controller) rows ≡ 0
-      unfolding judgeRecordingAnswer
-      judge-zero = sym (number-of _ _) ∙ (ap (λ (a : Answer). a .number) judged-locally ∙ number-of accepted _)
-
-      nodes-are : nodesIn n table′ ≡ (rewrittenFor short r R) .nodes
-      nodes-are =
-          let c : n ≡ length ((rewrittenOf short r mask) .nodes) = cc values-same in
-          rw (c, w .table, table-is, ← own) (rewritten-nodes short r mask _ (J .rule))
-
-      module _ (rows′ : List ℕ) where
-        not-judged : {P : Type 0} (number : ℕ) → WholeJudged given R (r .controller) rows (verdict.Refused number) rows′ → P
-        unfolding judging.answerOf
-        not-judged number v =
-            never _ _ (sym (refused-values number) ∙ (ap (λ (a : Answer). a .values) (v .answered ∙ judged-locally) ∙ accepted-values _))
-
-        judged : (a b : Bool) → WholeJudged given R (r .controller) rows (verdict.Judged a b) rows′ →
-            JudgedLocally short r R table rows (Judged n a b) table′ rows′
-        unfolding judging.answerOf answerOf judgeRecordingRows
-        judged a b v =
-            let e = sym (accepted-values _) ∙ (ap (λ (a : Answer). a .values) (v .answered ∙ judged-locally) ∙ accepted-values _) in
-            let c : n ≡ length ((rewrittenFor short r R) .nodes) = rw (← own) (cc values-same) in
-            let z : judgeRecordingNumber given R (r .controller) rows ≡ 0 = judge-zero in
-            record {
-              answered = rw (e, c);
-              lent = record {
-                tableLeft = w .table ∙ (table-is ∙ (rw own (sym (left-accepted maxTableNodes _ table))));
-                rowsLeft = v .rows ∙ rw (z, nodes-are);
-              };
-            }
-
--- ---- the arms: what was matched, and what it was
-module _ (short : Bool) (r : Rule) (R : Recording) (table rows : List ℕ) (J : Judgeable r R table rows) (mask : ℕ) (me : mask ≡ getD (R .masks) (r .controller) 0)
-    (w : Rewriting) (table′ : List ℕ) (rewrote : Rewrote short (r .controller) (r .count) (r .nodes) mask table w table′) where
-  pub arm-unwritten : (number : ℕ) → w ≡ written.Refused number → JudgedLocally short r R table rows (Refused number) table′ rows
-  arm-unwritten number e = not-written short r R table rows J mask me table′ number (rw e at rewrote)
-
-  module _ (n wt st : ℕ) (e : w ≡ written.Rewritten n wt st) (v : Verdicts) (rows′ : List ℕ)
-      (answered : WholeJudged (record { count = n; nodes = table′; weakTop = wt; strongTop = st }) R (r .controller) rows v rows′) where
-    pub arm-unjudged : (number : ℕ) → v ≡ verdict.Refused number → JudgedLocally short r R table rows (Refused number) table′ rows′
-    arm-unjudged number f = not-judged short r R table rows J mask me table′ n wt st (rw e at rewrote) rows′ number (rw f at answered)
-
-    pub arm-judged : (a b : Bool) → v ≡ verdict.Judged a b → JudgedLocally short r R table rows (Judged n a b) table′ rows′
-    arm-judged a b f = judged short r R table rows J mask me table′ n wt st (rw e at rewrote) rows′ a b (rw f at answered)
+pub ruleset accepted-laws = (needs, rule-ruled, table-ready, judged-locally)
 
 -- ---- any input
 
 module _ (short : Bool) (r : Rule) (R : Recording) (table rows : List ℕ) where
-  short-number : (tooShort maxTableNodes table || tooShort maxRowWords rows) ≡ true → numberOf r R table rows ≡ lentShort
-  unfolding numberOf pick
-  short-number t = rw t
-
-  short-judgement : numberOf r R table rows ≡ lentShort → Judgements short r R table rows (Refused lentShort) table rows
-  unfolding answerOf answer pick
-  short-judgement n = record {
-    answered = rw n;
-    lent = record { tableLeft = rw n (sym (left-short maxTableNodes _ table)); rowsLeft = rw n (sym (left-short maxRowWords _ rows)) };
+  pub lent-short : (ltb (length table) maxTableNodes || ltb (length rows) maxRowWords) ≡ true → Judgements short r R table rows (Refused lentShort) table rows
+  unfolding numberOf answerOf answer pick
+  lent-short t = record {
+    answered = rw t;
+    lent = record { tableLeft = rw t (sym (left-short maxTableNodes _ table)); rowsLeft = rw t (sym (left-short maxRowWords _ rows)) };
   }
 
-  pub table-short : length table < maxTableNodes → Judgements short r R table rows (Refused lentShort) table rows
-  table-short h = short-judgement (short-number (rw (lt-ltb (length table) maxTableNodes h)))
+  module _ (full : (ltb (length table) maxTableNodes || ltb (length rows) maxRowWords) ≡ false) where
+    both-full : (maxTableNodes ≤ length table) × (maxRowWords ≤ length rows)
+    both-full =
+        let p = both-false (ltb (length table) maxTableNodes) (ltb (length rows) maxRowWords) full in
+        (ltb-false (length table) maxTableNodes (p .0), ltb-false (length rows) maxRowWords (p .1))
 
-  pub rows-short : length rows < maxRowWords → Judgements short r R table rows (Refused lentShort) table rows
-  rows-short h = short-judgement (short-number (rw (lt-ltb (length rows) maxRowWords h, or-true)))
+    pub full-table : maxTableNodes ≤ length table
+    full-table = both-full .0
 
-  module _ (fullTable : maxTableNodes ≤ length table) (fullRows : maxRowWords ≤ length rows) (number : ℕ)
-      (e : number ≡ orElse (ruleRefusal r) (traceRefusal R (r .controller))) where
-    number-is : numberOf r R table rows ≡ number
-    unfolding numberOf pick judgeLocalNumber
-    number-is = rw (le-ltb (length table) maxTableNodes fullTable, le-ltb (length rows) maxRowWords fullRows) (sym e)
+    pub full-rows : maxRowWords ≤ length rows
+    full-rows = both-full .1
 
-    number-low : number < lentShort
-    number-low =
-        let l : orElse (ruleRefusal r) (traceRefusal R (r .controller)) < tooManyNodes
-        = or-else-low (ruleRefusal r) (traceRefusal R (r .controller)) tooManyNodes (rule-low r)
-        (or-else-low (recordingRefusal R) (controllerRefusal R (r .controller)) tooManyNodes (recording-low R) (controller-low R (r .controller))) in
-        rw e (omega arith)
+    module _ (number : ℕ) (e : number ≡ judgeLocalNumber r R) where
+      number-is : numberOf r R table rows ≡ number
+      unfolding numberOf pick
+      number-is = rw full (sym e)
 
-    pub refused : (table′ rows′ : List ℕ) → (number ≡ 0 → ⊥) → table′ ≡ cleared table 0 maxTableNodes → rows′ ≡ cleared rows 0 maxRowWords →
-        Judgements short r R table rows (Refused number) table′ rows′
-    unfolding answerOf answer pick cleared
-    refused table′ rows′ z t w = record {
-      answered = rw (number-is, ne-eqb number 0 z);
-      lent = record {
-        tableLeft = rw number-is (t ∙ sym (left-refused number maxTableNodes _ table z number-low));
-        rowsLeft = rw number-is (w ∙ sym (left-refused number maxRowWords _ rows z number-low));
-      };
-    }
+      number-low : number < lentShort
+      unfolding judgeLocalNumber
+      number-low =
+          let l = or-else-low (ruleRefusal r) (orElse (recordingRefusal R) (controllerRefusal (R .controllers) (r .controller))) tooManyNodes (rule-low r)
+          (or-else-low (recordingRefusal R) (controllerRefusal (R .controllers) (r .controller)) tooManyNodes (recording-low R) (controller-low (R .controllers) (r .controller))) in
+          rw e (omega arith)
 
-    module _ (z : number ≡ 0) where
-      pub ready : Judgeable r R table rows
-      unfolding controllerRefusal
-      ready =
-          let p = or-else-none (ruleRefusal r) (traceRefusal R (r .controller)) (sym e ∙ z) in
-          let q = or-else-none (recordingRefusal R) (controllerRefusal R (r .controller)) (p .1) in
+      pub refused : (table′ rows′ : List ℕ) → (number ≡ 0 → ⊥) → table′ ≡ cleared table 0 maxTableNodes → rows′ ≡ cleared rows 0 maxRowWords →
+          Judgements short r R table rows (Refused number) table′ rows′
+      unfolding answerOf answer pick cleared
+      refused table′ rows′ z t w = record {
+        answered = rw (number-is, ne-eqb number 0 z);
+        lent = record {
+          tableLeft = rw number-is (t ∙ sym (left-refused number maxTableNodes _ table z number-low));
+          rowsLeft = rw number-is (w ∙ sym (left-refused number maxRowWords _ rows z number-low));
+        };
+      }
+
+      pub judgeable : number ≡ 0 → Judgeable r R table rows
+      unfolding judgeLocalNumber
+      judgeable z =
+          let p = or-else-none (ruleRefusal r) (orElse (recordingRefusal R) (controllerRefusal (R .controllers) (r .controller))) (sym e ∙ z) in
+          let q = or-else-none (recordingRefusal R) (controllerRefusal (R .controllers) (r .controller)) (p .1) in
           record {
-            rule = p .0;
-            recording = q .0;
-            controller = ltb-true (r .controller) (R .controllers) (accept-yes (ltb (r .controller) (R .controllers)) noController (omega arith) (q .1));
-            fullTable = fullTable;
-            fullRows = fullRows;
+            both = record { rule = p .0; recording = q .0; controller = accepted-controller (R .controllers) (r .controller) (q .1) };
+            fullTable = both-full .0;
+            fullRows = both-full .1;
           }
 
-      pub done : (j : Judgement) (table′ rows′ : List ℕ) → JudgedLocally short r R table rows j table′ rows′ → Judgements short r R table rows j table′ rows′
-      done j table′ rows′ h = record { answered = rw (number-is, z) (h .answered); lent = rw (number-is, z) (h .lent) }
+      pub judged : (j : Rewritten) (table′ rows′ : List ℕ) → number ≡ 0 → JudgedLocally short r R table rows j table′ rows′ →
+          Judgements short r R table rows (Judged j) table′ rows′
+      unfolding answerOf
+      judged j table′ rows′ z h = record { answered = rw (number-is, z, h .count, h .verdicts); lent = rw (number-is, z) (h .lent) }
 
-pub ruleset chain-laws = (needs, arm-unwritten, arm-unjudged, arm-judged, table-short, rows-short, refused, ready, done)
+pub ruleset judging-laws = (needs, lent-short, full-table, full-rows, refused, judgeable, judged)

@@ -1,108 +1,89 @@
 // Demand 3 in code: rewrite into a lent table, judge the whole recording by it. The verdicts are those of the rule on its own local trace.
+ghost use Rattle.judges.specs.Headings.{ruleIn, recordingIn};
 ghost use Rattle.judging.specs.Rewritten.{Judgeable, JudgedLocally, Judgements};
-use evaluation::refusal::local_refusal;
-use evaluation::verdicts::Verdicts;
-use evaluation::whole::judge_recording;
 use formulas::limits::Limits;
 use formulas::limits::Refusal;
-use rewriting::rewrite::Rewriting;
-use rewriting::rewrite::rewrite;
-use rows::lent::clear_u32;
-use rows::lent::clear_u64;
-use traces::check::mask_at;
+use judges::headings::RecordingHeading;
+use judges::headings::RuleHeading;
+use judges::headings::TableHeading;
+use judges::local::local_refusal;
+use judges::verdicts::Verdicts;
+use judges::whole;
+use lent::clear_u32;
+use lent::clear_u64;
+use rewriting::rewrite::rewrite_accepted;
+use traces::masks::mask_at;
 
-pub enum Judgement {
-    // Node count of the rewritten rule, weak verdict, strong verdict.
-    Judged(usize, bool, bool),
+// The node count of a rewritten rule, and its verdicts.
+pub struct Rewritten {
+    pub count: u32,
+    pub verdicts: Verdicts,
+}
+
+pub enum RewrittenJudgement {
+    Judged(Rewritten),
     Refused(u8),
 }
 
-// Neither the rewriting nor the judge refuses what was accepted.
-fn judge_accepted(
+// An accepted rule over an accepted recording, in lent space of full size.
+pub fn judge_accepted(
     short: bool,
-    controller: usize,
-    count: usize,
+    rule: RuleHeading,
     nodes: &[u32],
-    controllers: usize,
-    states_count: usize,
+    recording: RecordingHeading,
     masks: &[u32],
     states: &[u64],
     table: &mut [u32],
     rows: &mut [u64],
-) -> Judgement
-    requires { ⌜ Judgeable (record { controller = controller; count = count; nodes = now nodes }) (record { controllers = controllers; count = «states_count»; masks = now masks; states = now states }) (now table) (now rows) ⌝ }
-    ensures { λ r. ⌜ JudgedLocally short (record { controller = controller; count = count; nodes = now (nodes .entry) }) (record { controllers = controllers; count = «states_count»; masks = now (masks .entry); states = now (states .entry) }) (now (table .entry)) (now (rows .entry)) r (now (table .exit)) (now (rows .exit)) ⌝ }
+) -> Rewritten
+    requires { ⌜ Judgeable (ruleIn rule (now nodes)) (recordingIn recording (now masks) (now states)) (now table) (now rows) ⌝ }
+    ensures { λ r. ⌜ JudgedLocally short (ruleIn rule (now (nodes .entry))) (recordingIn recording (now (masks .entry)) (now (states .entry))) (now (table .entry)) (now (rows .entry)) r (now (table .exit)) (now (rows .exit)) ⌝ }
 {
-    let mask = mask_at(masks, controller);
-    let rewriting = rewrite(short, controller, count, nodes, mask, table);
-    match rewriting {
-        Rewriting::Rewritten(n, weak, strong) => {
-            let verdicts = judge_recording(
-                n,
-                table,
-                weak,
-                strong,
-                controllers,
-                states_count,
-                masks,
-                states,
-                controller,
-                rows,
-            );
-            match verdicts {
-                Verdicts::Judged(w, s) => Judgement::Judged(n, w, s),
-                Verdicts::Refused(number) => Judgement::Refused(number),
-            }
-        }
-        Rewriting::Refused(number) => Judgement::Refused(number),
+    let c = rule.controller;
+    let mask = mask_at(masks, c);
+    let tops = rewrite_accepted(short, rule.count, nodes, mask, table);
+    let heading = TableHeading {
+        count: tops.count,
+        weak_top: tops.weak,
+        strong_top: tops.strong,
+    };
+    let verdicts = whole::judge_accepted(heading, table, recording.count, states, c, rows);
+    Rewritten {
+        count: tops.count as u32,
+        verdicts: verdicts,
     }
 }
 
 // 13 for either slice, then the rule, the recording and 11, as in judging on the local trace.
 pub fn judge_rewritten(
     short: bool,
-    controller: usize,
-    count: usize,
+    rule: RuleHeading,
     nodes: &[u32],
-    controllers: usize,
-    states_count: usize,
+    recording: RecordingHeading,
     masks: &[u32],
     states: &[u64],
     table: &mut [u32],
     rows: &mut [u64],
-) -> Judgement
-    ensures { λ r. ⌜ Judgements short (record { controller = controller; count = count; nodes = now (nodes .entry) }) (record { controllers = controllers; count = «states_count»; masks = now (masks .entry); states = now (states .entry) }) (now (table .entry)) (now (rows .entry)) r (now (table .exit)) (now (rows .exit)) ⌝ }
+) -> RewrittenJudgement
+    ensures { λ r. ⌜ Judgements short (ruleIn rule (now (nodes .entry))) (recordingIn recording (now (masks .entry)) (now (states .entry))) (now (table .entry)) (now (rows .entry)) r (now (table .exit)) (now (rows .exit)) ⌝ }
 {
-    if table.len() < Limits::TABLE_NODES {
-        return Judgement::Refused(Refusal::LENT_SHORT);
+    if (table.len() < Limits::TABLE_NODES) | (rows.len() < Limits::ROW_WORDS) {
+        return RewrittenJudgement::Refused(Refusal::LENT_SHORT);
     }
-    if rows.len() < Limits::ROW_WORDS {
-        return Judgement::Refused(Refusal::LENT_SHORT);
-    }
-    let refusal = local_refusal(
-        controller,
-        count,
-        nodes,
-        controllers,
-        states_count,
-        masks,
-        states,
-    );
+    let refusal = local_refusal(rule, nodes, recording, masks, states);
     if refusal != Refusal::NONE {
         clear_u32(table, 0, Limits::TABLE_NODES);
         clear_u64(rows, 0, Limits::ROW_WORDS);
-        return Judgement::Refused(refusal);
+        return RewrittenJudgement::Refused(refusal);
     }
-    judge_accepted(
+    RewrittenJudgement::Judged(judge_accepted(
         short,
-        controller,
-        count,
+        rule,
         nodes,
-        controllers,
-        states_count,
+        recording,
         masks,
         states,
         table,
         rows,
-    )
+    ))
 }

@@ -1,6 +1,4 @@
-pub mod ScanLaws
-pub mod PartLaws
-pub mod FieldLaws
-pub mod HexLaws
-pub mod PrintLaws
-pub mod Links
+pub mod FormLaws
+pub mod NextLaws
+pub mod HeadingLaws
+pub mod LoopLaws

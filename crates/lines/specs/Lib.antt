@@ -1,3 +1,2 @@
-pub mod Parts
-pub mod Fields
-pub mod Printing
+pub mod Forms
+pub mod Reading

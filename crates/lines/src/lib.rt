@@ -1,4 +1,4 @@
-// The leaves of the readers and writers of texts: bytes, parts, fields and printed numbers.
-pub mod number;
-pub mod print;
-pub mod scan;
+// Lines of texts: the forms that their fields have, how the next line ends, and loops over lines.
+// Nothing here knows what a line means.
+pub mod form;
+pub mod next;

@@ -10,10 +10,12 @@ use lib.Seq.{take-at, length-take-le}
 use denote.Ref.{RefT}
 use borrow.Author.Needs.{needs}
 use borrow.Author.Tests.{ne-eqb, eq-eqb, lt-ltb, le-ltb}
+use Rattle.definitions.specs.Tables.{ruleOf}
 use Rattle.definitions.specs.Limits.{accepted, lentShort, noController, maxInputBytes, maxRuleNodes, maxControllers, maxStates}
 use Rattle.definitions.specs.Bounded.{pick}
 use Rattle.definitions.specs.Lines.{tab, newline, digits}
 use Rattle.definitions.specs.RuleText.{scanRule}
+use Rattle.definitions.specs.Recordings.{controllerRefusal}
 use Rattle.definitions.specs.RecordingText.{scanRecording, Part, jointNumber, jointPart}
 use Rattle.definitions.specs.Operations.{left, readJointNumber, readJointHeading, readJointNodes, readJointMasks, readJointStates, readJointPart}
 use Rattle.definitions.specs.Program.{refusedWord, refusedText, bytesOf, scanned, textsOutput, programOutput}
@@ -21,17 +23,17 @@ use Rattle.theorems.proofs.LentSpace.{left-accepted}
 use Rattle.theorems.proofs.RefusalBounds.{pick-low}
 use Rattle.theorems.proofs.RoundTrips.{read-count, read-accepted}
 use Rattle.theorems.proofs.ScheduleIndependence.{Accepted}
-use Rattle.lines.specs.Printing.{laidAt, Printed}
-use Rattle.lines.proofs.PrintLaws.{digits-fit}
-use Rattle.lines.proofs.PartLaws.{part-to-end}
-use Rattle.formula_text.proofs.CallerLaws.{number-low}
-use Rattle.trace_text.proofs.RecordingNumbers.{scan-low}
+use Rattle.printing.specs.Printing.{laidAt, Printed}
+use Rattle.printing.proofs.PrintLaws.{digits-fit}
+use Rattle.fields.proofs.PartLaws.{part-to-end}
+use Rattle.formula_reader.proofs.ReadLaws.{rule-low}
+use Rattle.trace_reader.proofs.ScanLaws.{recording-low}
 use Rattle.joint_text.specs.Joining.{ReadJoint}
-use Rattle.program.specs.Reporting.{maxOutputBytes, reportText}
+use Rattle.report.specs.Reporting.{maxOutputBytes, reportText}
 use Rattle.program.specs.Judged.{ReportIs}
 use Rattle.program.specs.Splitting.{SplitAt}
-use Rattle.program.specs.Output.{TextsRoom, Room, foundRule, foundRecording, Found, foundText, ProgramPrinted}
-use Rattle.program.specs.declared.report.Report.{Report}
+use Rattle.program.specs.Output.{TextsRoom, foundRule, foundRecording, Found, ProgramPrinted}
+use Rattle.report.specs.declared.Report.{Report}
 use Rattle.program.specs.declared.split.Parts.{Parts}
 use Rattle.program.proofs.RecordingAccepted.{TextsAccepted, texts-accepted, recording-fine, masks-count, states-count}
 
@@ -48,9 +50,9 @@ refused-length n line h l =
     )
 
 joint-low : (rule recording : List ℕ) → jointNumber rule recording < lentShort
-unfolding jointNumber
+unfolding jointNumber controllerRefusal
 joint-low rule recording =
-    pick-low _ _ _ lentShort (pick-low _ _ _ lentShort (pick-low _ accepted noController lentShort (omega arith) (omega arith)) (scan-low recording)) (number-low rule)
+    pick-low _ _ _ lentShort (pick-low _ _ _ lentShort (pick-low _ accepted noController lentShort (omega arith) (omega arith)) (omega (arith, recording-low recording))) (omega (arith, rule-low rule))
 
 part-length : (t : List ℕ) (from count : ℕ) → length (take count (drop from t)) ≤ length t
 part-length t from count = rw (length-take, length-drop) (omega arith)
@@ -59,16 +61,17 @@ part-length t from count = rw (length-take, length-drop) (omega arith)
 held : (full count : ℕ) (words entry exit : List ℕ) → length words ≡ count → exit ≡ left 0 full words entry → take count exit ≡ words
 held full count words entry exit c e = rw (e, left-accepted full words entry) (take-at words _ count c)
 
--- ---- `judge_read`
+-- ---- `judge_texts`
 module _ (x y r : RefT (List ℕ)) (nodes masks states nodes′ masks′ states′ heading text : List ℕ)
-    (j : ReadJoint x y nodes masks states r nodes′ masks′ states′ heading) (room : Room (x .now) (y .now) nodes masks states text) where
+    (j : ReadJoint x y nodes masks states r nodes′ masks′ states′ heading) (room : TextsRoom (x .now) (y .now) text)
+    (nodesRoom : maxRuleNodes ≤ length nodes) (masksRoom : maxControllers ≤ length masks) (statesRoom : maxStates ≤ length states) where
   abbrev R : ℕ
   R = jointNumber (x .now) (y .now)
 
   number-is : readJointNumber (x .now) (y .now) nodes masks states ≡ R
   unfolding readJointNumber pick
   number-is =
-      rw (le-ltb (length nodes) maxRuleNodes (room .nodesRoom), le-ltb (length masks) maxControllers (room .masksRoom), le-ltb (length states) maxStates (room .statesRoom))
+      rw (le-ltb (length nodes) maxRuleNodes nodesRoom, le-ltb (length masks) maxControllers masksRoom, le-ltb (length states) maxStates statesRoom)
 
   heading-is : heading ≡ R ∷ pick (eqb R accepted)
       ((scanRule (x .now)) .controller ∷ (scanRule (x .now)) .count ∷ (scanRecording (y .now)) .controllers ∷ (scanRecording (y .now)) .count ∷ [])
@@ -95,8 +98,8 @@ module _ (x y r : RefT (List ℕ)) (nodes masks states nodes′ masks′ states�
 
     chosen-length : (b : Bool) → length (pick b (x .now) (y .now)) ≤ maxInputBytes
     unfolding pick
-    chosen-length true = room .texts .ruleFits
-    chosen-length false = room .texts .recordingFits
+    chosen-length true = room .ruleFits
+    chosen-length false = room .recordingFits
 
     line-fits : length (r .now) ≤ maxInputBytes
     line-fits =
@@ -105,7 +108,7 @@ module _ (x y r : RefT (List ℕ)) (nodes masks states nodes′ masks′ states�
 
     pub refusal-room : length (refusedText (getD heading 0 0) (r .now)) ≤ length text
     refusal-room =
-        omega (arith, room .texts .textRoom, refused-length (getD heading 0 0) (r .now) (omega (arith, first-is, joint-low (x .now) (y .now))) line-fits)
+        omega (arith, room .textRoom, refused-length (getD heading 0 0) (r .now) (omega (arith, first-is, joint-low (x .now) (y .now))) line-fits)
 
     pub refusal-printed : (e : ℕ) (text′ : List ℕ) → Printed (refusedText (getD heading 0 0) (r .now)) text 0 e text′
         → Printed (textsOutput (x .now) (y .now)) text 0 e text′
@@ -158,7 +161,7 @@ module _ (x y r : RefT (List ℕ)) (nodes masks states nodes′ masks′ states�
     recording-is = rw (masks-held, states-held, controllers-are, states-are)
 
     rule-is : foundRule heading nodes′
-        ≡ record { controller = (scanRule (x .now)) .controller; count = (scanRule (x .now)) .count; nodes = (scanRule (x .now)) .words }
+        ≡ ruleOf ((scanRule (x .now)) .controller) ((scanRule (x .now)) .count) ((scanRule (x .now)) .words)
     rule-is = rw (nodes-held, controller-is, count-is)
 
     accepted-both : Accepted (foundRule heading nodes′) (foundRecording heading masks′ states′)
@@ -168,28 +171,38 @@ module _ (x y r : RefT (List ℕ)) (nodes masks states nodes′ masks′ states�
       controller = omega (arith, controller-is, controllers-are, texts .controller);
     }
 
-    pub tables-found : Found heading nodes′ masks′ states′ text
+    pub tables-found : Found heading nodes′ masks′ states′
     tables-found = record {
       nodesThere = omega (arith, ap length nodes-held, length-take (getD heading 2 0) nodes′, count-is, read-count (x .now) (texts .ruleRead));
       masksThere = omega (arith, ap length masks-held, length-take (getD heading 3 0) masks′, controllers-are, masks-count (y .now) (texts .recordingRead));
       statesThere = omega (arith, ap length states-held, length-take (getD heading 4 0) states′, states-are, states-count (y .now) (texts .recordingRead));
       both = accepted-both;
-      textRoom = room .texts .textRoom;
     }
 
-    text-is : foundText heading nodes′ masks′ states′ ≡ textsOutput (x .now) (y .now)
-    unfolding textsOutput foundText pick
-    text-is = rw (eq-eqb R 0 accepts, nodes-held, recording-is, controller-is, count-is)
+    module _ (v : Report) (is : ReportIs (foundRule heading nodes′) (foundRecording heading masks′ states′) v) where
+      text-is : reportText v ≡ textsOutput (x .now) (y .now)
+      unfolding textsOutput pick
+      text-is = is .text ∙ rw (eq-eqb R 0 accepts, nodes-held, recording-is, controller-is, count-is)
 
-    pub judged-printed : (e : ℕ) (text′ : List ℕ)
-        → Printed (foundText heading nodes′ masks′ states′) text 0 e text′
-        → Printed (textsOutput (x .now) (y .now)) text 0 e text′
-    judged-printed e text′ p = rw (← text-is) p
+      pub report-room : length (reportText v) ≤ length text
+      report-room = omega (arith, is .fits, room .textRoom)
 
-pub ruleset read-laws = (needs, refusal-room, refusal-printed, tables-found, judged-printed)
+      as-texts : (e : ℕ) (text′ : List ℕ) → Printed (reportText v) text 0 e text′ → Printed (textsOutput (x .now) (y .now)) text 0 e text′
+      as-texts e text′ p = rw (← text-is) p
+
+-- the premises in the order in which each shows what the next is of
+pub judged-printed : (x y r : RefT (List ℕ)) (nodes masks states nodes′ masks′ states′ heading text : List ℕ) (v : Report) (e : ℕ) (text′ : List ℕ) →
+    Printed (reportText v) text 0 e text′ → ReportIs (foundRule heading nodes′) (foundRecording heading masks′ states′) v →
+    ReadJoint x y nodes masks states r nodes′ masks′ states′ heading → TextsRoom (x .now) (y .now) text →
+    maxRuleNodes ≤ length nodes → maxControllers ≤ length masks → maxStates ≤ length states → getD heading 0 0 ≡ 0 →
+    Printed (textsOutput (x .now) (y .now)) text 0 e text′
+judged-printed x y r nodes masks states nodes′ masks′ states′ heading text v e text′ p is j room n m s z =
+    as-texts x y r nodes masks states nodes′ masks′ states′ heading text j room n m s z v is e text′ p
+
+pub ruleset read-laws = (needs, refusal-room, refusal-printed, tables-found, report-room, judged-printed)
 
 -- ---- `judge_found`
-module _ (heading nodes masks states text : List ℕ) (f : Found heading nodes masks states text) where
+module _ (heading nodes masks states : List ℕ) (f : Found heading nodes masks states) where
   pub nodes-counted : getD heading 2 0 ≡ length (take (getD heading 2 0) nodes)
   nodes-counted = sym (length-take-le (getD heading 2 0) nodes (f .nodesThere))
 
@@ -199,15 +212,7 @@ module _ (heading nodes masks states text : List ℕ) (f : Found heading nodes m
   pub states-counted : getD heading 4 0 ≡ length (take (getD heading 4 0) states)
   states-counted = sym (length-take-le (getD heading 4 0) states (f .statesThere))
 
-  module _ (v : Report) (is : ReportIs (foundRule heading nodes) (foundRecording heading masks states) v) where
-    pub report-room : length (reportText v) ≤ length text
-    report-room = omega (arith, is .fits, f .textRoom)
-
-    pub report-printed : (e : ℕ) (text′ : List ℕ) → Printed (reportText v) text 0 e text′ → Printed (foundText heading nodes masks states) text 0 e text′
-    unfolding foundText
-    report-printed e text′ p = rw (← is .text) p
-
-pub ruleset found-laws = (needs, nodes-counted, masks-counted, states-counted, report-room, report-printed)
+pub ruleset found-laws = (needs, nodes-counted, masks-counted, states-counted)
 
 -- ---- `judge`
 pub rule-counted : (input : List ℕ) (s : Parts) → SplitAt input s → s .«rule_end» ≡ length (take (s .«rule_end») input)

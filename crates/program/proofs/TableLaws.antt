@@ -1,84 +1,52 @@
--- Laws of the values that are printed: one for each return, and what its casts ask.
+-- Laws of the values that are printed.
 use mathlib.Core.Path.{_≡_, refl, ap, sym, _∙_}
 use mathlib.Core.Bool.{Bool, true, false}
 use mathlib.Core.List.{List, [], _∷_, _++_}
-use Prim.Native.Nat.{ℕ, _+_, _-_, _<_, _≤_}
+use Prim.Native.Nat.{ℕ, _+_, _<_, _≤_}
 use native.Mathlib.Omega.{arith}
-use lib.Dec.{eqb}
-use lib.ListN.{length, getD, replicate, length-append, length-replicate}
+use lib.ListN.{length, replicate, length-append, length-replicate}
 use mir.Syntax.{w32}
 use mir.Val.{Fits}
 use borrow.Author.Needs.{needs}
-use borrow.Author.Tests.{lt-ltb, le-ltb}
-use Rattle.definitions.specs.Limits.{accepted, maxStates, maxTableNodes, maxRowWords}
-use Rattle.definitions.specs.Bounded.{pick, orElse, bit}
+use Rattle.definitions.specs.Limits.{maxStates, maxTableNodes, maxRowWords}
+use Rattle.definitions.specs.Bounded.{pick, orElse}
 use Rattle.definitions.specs.Nodes.{Node}
-use Rattle.definitions.specs.Tables.{Rule, ruleRefusal, nodesIn}
-use Rattle.definitions.specs.Recordings.{Recording, recordingRefusal, maskOf}
+use Rattle.definitions.specs.Tables.{Rule, nodesIn, ruleOf}
+use Rattle.definitions.specs.Recordings.{Recording, recordingOf, recordingRefusal, maskOf}
 use Rattle.definitions.specs.Projection.{localTrace}
-use Rattle.definitions.specs.Readings.{local, whole, verdict}
-use Rattle.definitions.specs.Rewriting.{topOf}
+use Rattle.definitions.specs.Readings as readings
+use Rattle.definitions.specs.Readings.{whole}
 use Rattle.definitions.specs.Lines.{tab, newline, digits}
-use Rattle.definitions.specs.Operations.{Answer, answer, controllerRefusal, sizeRefusal, projectNumber, projectAnswer, judgeLocalNumber, judgeLocalAnswer, localVerdicts}
-use Rattle.definitions.specs.Program.{yesNo, localWord, ownWord, plainWord, shortWord, localText, ownText, rewrittenText, judgedText}
+use Rattle.definitions.specs.Operations.{sizeRefusal}
+use Rattle.definitions.specs.Program.{yesNo, localWord, ownWord, plainWord, shortWord, localText, verdictsText, ownText, rewrittenText, judgedText}
 use Rattle.theorems.proofs.Choice.{none-or-else}
-use Rattle.theorems.proofs.RuleNodes.{rule-nodes, rule-length, rule-some}
 use Rattle.theorems.proofs.RewrittenAccepted.{rewritten-size, rewritten-fits}
-use Rattle.theorems.proofs.ScheduleIndependence.{Accepted, verdict-agrees, local-judging}
-use Rattle.traces.specs.Places.{Projectable}
-use Rattle.traces.specs.Answers as projection
-use Rattle.traces.specs.Answers.{ProjectIs}
-use Rattle.traces.specs.declared.operation.Projection.{Projection}
-use Rattle.traces.specs.declared.operation.Projection.the-variants as projected
-use Rattle.traces.proofs.ProjectLaws.{projectable, local-places, few-local}
-use Rattle.traces.proofs.OperationLaws.{length-of}
-use Rattle.evaluation.specs.Judging as evaluation
-use Rattle.evaluation.specs.declared.verdicts.Verdicts as evaluated
-use Rattle.evaluation.specs.declared.verdicts.Verdicts.the-variants as verdicts
-use Rattle.lines.proofs.PrintLaws.{digits-fit}
-use Rattle.judging.specs.Rewritten as judging
-use Rattle.judging.specs.Rewritten.{Judgeable, Judgements, rewrittenFor, numberOf}
-use Rattle.judging.specs.declared.rewritten.Judgement.{Judgement}
-use Rattle.judging.specs.declared.rewritten.Judgement.the-variants as judged
-use Rattle.program.specs.Reporting.{maxOutputBytes, verdictsLine, ownLine, rewrittenLine, reportText}
-use Rattle.program.specs.Judged.{Recorded, OwnIs, RewrittenIs, RewritingsAre, ReportIs}
-use Rattle.program.specs.declared.report.Verdicts.{Verdicts}
-use Rattle.program.specs.declared.report.Rewritings.{Rewritings}
+use Rattle.theorems.proofs.ScheduleIndependence.{Accepted}
+use Rattle.projection.specs.Places.{runsIn, Projectable, Countable}
+use Rattle.projection.proofs.PlaceLaws.{projectable, countable, local-places, few-local}
+use Rattle.projection.proofs.LengthLaws.{length-of}
+use Rattle.printing.proofs.PrintLaws.{digits-fit}
+use Rattle.judges.specs.Verdicts.{meant, ownVerdicts}
+use Rattle.judges.specs.declared.verdicts.Verdicts.{Verdicts}
+use Rattle.judging.specs.Rewritten.{Judgeable, JudgedLocally, rewrittenFor}
+use Rattle.judging.specs.declared.rewritten.Rewritten.{Rewritten}
+use Rattle.judging.proofs.RewrittenLaws.{verdicts-agree}
+use Rattle.report.specs.Reporting.{maxOutputBytes, verdictsEnd, countedLine, ownLine, rewrittenLine, reportText}
+use Rattle.report.specs.declared.Report.{Report}
+use Rattle.program.specs.Judged.{RewrittenIs, ReportIs}
 
--- ---- answers
-accepted-values : (values : List ℕ) → (answer accepted values) .values ≡ values
-unfolding answer pick
-accepted-values values = refl
+-- ---- `judge_rewriting`
+pub judgeable : (r : Rule) (R : Recording) (table rows : List ℕ) → Accepted r R → maxTableNodes ≤ length table → maxRowWords ≤ length rows → Judgeable r R table rows
+judgeable r R table rows A t w = record { both = A; fullTable = t; fullRows = w }
 
-refused-values : (number : ℕ) → (answer number []) .values ≡ []
-unfolding answer pick
-refused-values number = go (eqb number 0)
-  where
-    go : (z : Bool) → pick {A = List ℕ} z [] [] ≡ []
-    go true = refl
-    go false = refl
+pub rewriting-judged : (short : Bool) (r : Rule) (R : Recording) (table rows : List ℕ) (v : Rewritten) (table′ rows′ : List ℕ) →
+    JudgedLocally short r R table rows v table′ rows′ → RewrittenIs short r R v
+rewriting-judged short r R table rows v table′ rows′ j = record { count = j .count; verdicts = j .verdicts }
 
--- the values of an accepted answer
-values-are : (a : Answer) (given : List ℕ) → a ≡ answer accepted given → a .values ≡ given
-values-are a given e = ap (λ (x : Answer). x .values) e ∙ accepted-values given
+pub ruleset rewriting-laws = (needs, judgeable, rewriting-judged)
 
--- a refusal has none
-never : {P : Type 0} (number x : ℕ) (given : List ℕ) → answer number [] ≡ answer accepted (x ∷ given) → P
-never number x given e =
-    let z : [] ≡ x ∷ given = sym (refused-values number) ∙ values-are (answer number []) (x ∷ given) e in absurd (omega (arith, ap length z))
-
-bit-same : (a b : Bool) → bit a ≡ bit b → a ≡ b
-bit-same true true e = refl
-bit-same true false e = absurd (omega arith)
-bit-same false true e = absurd (omega arith)
-bit-same false false e = refl
-
-controller-accepted : (R : Recording) (c : ℕ) → c < R .controllers → controllerRefusal R c ≡ 0
-unfolding controllerRefusal pick
-controller-accepted R c h = rw (lt-ltb c (R .controllers) h)
-
--- ---- `count_places`
--- an accepted recording's local trace has at most as many places as there are states
+-- ---- `judge_tables`
+-- the local trace of an accepted recording has at most as many places as there are states
 places-few : (R : Recording) (c : ℕ) → recordingRefusal R ≡ 0 → c < R .controllers → length (localTrace R c) ≤ maxStates
 places-few R c h k =
     let zeros : List ℕ = replicate maxStates 0 in
@@ -87,94 +55,20 @@ places-few R c h k =
     let n = sym (ap length (local-places R c)) ∙ length-of (R .count) c (maskOf R c) (R .states) in
     omega (arith, n, few-local (R .count) c (R .states) zeros P, P .fewStates)
 
-module _ (R : Recording) (c : ℕ) (places : List ℕ) (A : Recorded R c places) (p : Projection) (places′ : List ℕ) (is : ProjectIs R c places p places′) where
-  projects : projectNumber R c places ≡ 0
-  unfolding projectNumber pick
-  projects =
-      rw (le-ltb (length places) maxStates (A .room))
-      (none-or-else (recordingRefusal R) (controllerRefusal R c) (A .recording) (controller-accepted R c (A .controller)))
+module _ (c k : ℕ) (nodes : List ℕ) (C N : ℕ) (masks states : List ℕ) (A : Accepted (ruleOf c k nodes) (recordingOf C N masks states)) where
+  abbrev R : Recording
+  R = recordingOf C N masks states
 
-  answers : projection.answerOf p ≡ answer accepted (length (localTrace R c) ∷ [])
-  unfolding projectAnswer
-  answers = is .answered ∙ rw projects
+  pub places-countable : Countable N c states
+  places-countable = countable R c (A .recording) (A .controller)
 
-  module _ (L : ℕ) (e : p ≡ projected.Places L) where
-    pub places-are : L ≡ length (localTrace R c)
-    unfolding projection.answerOf
-    places-are = ap (λ (l : List ℕ). getD l 0 0) (sym (accepted-values (L ∷ [])) ∙ values-are (answer accepted (L ∷ [])) (length (localTrace R c) ∷ []) (rw e at answers))
+  module _ (L : ℕ) (e : L ≡ length (runsIn N c states) + 1) where
+    places-are : L ≡ length (localTrace R c)
+    places-are = e ∙ (sym (length-of N c (maskOf R c) states) ∙ ap length (local-places R c))
 
     pub places-fit : Fits w32 L
     places-fit = record { fits = omega (arith, places-are, places-few R c (A .recording) (A .controller)) }
 
-  pub places-refused : (number : ℕ) → p ≡ projected.Refused number → number ≡ length (localTrace R c)
-  unfolding projection.answerOf
-  places-refused number e = never number (length (localTrace R c)) [] (rw e at answers)
-
-pub ruleset place-laws = (needs, places-are, places-fit, places-refused)
-
--- ---- `judge_own`
-module _ (r : Rule) (R : Recording) (A : Accepted r R) (v : evaluated.Verdicts) (is : evaluation.answerOf v ≡ judgeLocalAnswer r R) where
-  own-answers : evaluation.answerOf v ≡ answer accepted (localVerdicts (nodesIn (r .count) (r .nodes)) (maskOf R (r .controller)) (localTrace R (r .controller)))
-  own-answers = is ∙ local-judging r R A
-
-  pub own-judged : (w s : Bool) → v ≡ verdicts.Judged w s → OwnIs r R (record { weak = w; strong = s })
-  unfolding evaluation.answerOf
-  own-judged w s e =
-      let q = sym (accepted-values (bit w ∷ bit s ∷ [])) ∙ values-are (answer accepted (bit w ∷ bit s ∷ [])) _ (rw e at own-answers) in
-      record { weak = bit-same w _ (ap (λ (l : List ℕ). getD l 0 0) q); strong = bit-same s _ (ap (λ (l : List ℕ). getD l 1 0) q) }
-
-  pub own-refused : (w s : Bool) (number : ℕ) → v ≡ verdicts.Refused number → OwnIs r R (record { weak = w; strong = s })
-  unfolding evaluation.answerOf
-  own-refused w s number e = never number _ _ (rw e at own-answers)
-
-pub ruleset own-verdict-laws = (needs, own-judged, own-refused)
-
--- ---- `judge_whole`
-local-accepted : (r : Rule) (R : Recording) → Accepted r R → judgeLocalNumber r R ≡ 0
-unfolding judgeLocalNumber
-local-accepted r R A =
-    none-or-else (ruleRefusal r) (orElse (recordingRefusal R) (controllerRefusal R (r .controller))) (A .rule)
-    (none-or-else (recordingRefusal R) (controllerRefusal R (r .controller)) (A .recording) (controller-accepted R (r .controller) (A .controller)))
-
-module _ (short : Bool) (r : Rule) (R : Recording) (table rows : List ℕ) (J : Judgeable r R table rows)
-    (j : Judgement) (table′ rows′ : List ℕ) (is : Judgements short r R table rows j table′ rows′) where
-  both-accepted : Accepted r R
-  both-accepted = record { rule = J .rule; recording = J .recording; controller = J .controller }
-
-  number-zero : numberOf r R table rows ≡ 0
-  unfolding numberOf pick
-  number-zero = rw (le-ltb (length table) maxTableNodes (J .fullTable), le-ltb (length rows) maxRowWords (J .fullRows)) (local-accepted r R both-accepted)
-
-  whole-answers : judging.answerOf j ≡ answer accepted (judging.localValues short r R)
-  whole-answers = rw number-zero at (is .answered)
-
-  agrees : (d : Bool) → verdict (whole R (r .controller)) ((rewrittenFor short r R) .nodes) (topOf d (rewrittenFor short r R)) d
-      ≡ verdict (local (maskOf R (r .controller)) (localTrace R (r .controller))) (nodesIn (r .count) (r .nodes)) (length (nodesIn (r .count) (r .nodes)) - 1) d
-  agrees =
-      verdict-agrees short (nodesIn (r .count) (r .nodes)) (omega (arith, rule-length r (J .rule), rule-some r (J .rule))) (rule-nodes r (J .rule)) R (r .controller) (J .recording) (J .controller)
-
-  module _ (n : ℕ) (w s : Bool) (e : j ≡ judged.Judged n w s) where
-    values : n ∷ bit w ∷ bit s ∷ [] ≡ judging.localValues short r R
-    unfolding judging.answerOf
-    values = sym (accepted-values (n ∷ bit w ∷ bit s ∷ [])) ∙ values-are (answer accepted (n ∷ bit w ∷ bit s ∷ [])) _ (rw e at whole-answers)
-
-    pub whole-fits : Fits w32 n
-    whole-fits = record { fits = omega (arith, ap (λ (l : List ℕ). getD l 0 0) values, rewritten-size short r (maskOf R (r .controller)) (J .rule)) }
-
-    pub whole-judged : RewrittenIs short r R (record { count = n; verdicts = record { weak = w; strong = s } })
-    whole-judged = record {
-      count = ap (λ (l : List ℕ). getD l 0 0) values;
-      weak = bit-same w _ (ap (λ (l : List ℕ). getD l 1 0) values) ∙ sym (agrees true);
-      strong = bit-same s _ (ap (λ (l : List ℕ). getD l 2 0) values) ∙ sym (agrees false);
-    }
-
-  pub whole-refused : (n : ℕ) (w s : Bool) (number : ℕ) → j ≡ judged.Refused number → RewrittenIs short r R (record { count = n; verdicts = record { weak = w; strong = s } })
-  unfolding judging.answerOf
-  whole-refused n w s number e = never number _ _ (rw e at whole-answers)
-
-pub ruleset whole-laws = (needs, whole-fits, whole-judged, whole-refused)
-
--- ---- `judge_tables`
 -- no line is long
 yes-no-length : (v : Bool) → length (yesNo v) ≤ 3
 yes-no-length true = omega arith
@@ -183,25 +77,25 @@ yes-no-length false = omega arith
 digits-few : (n : ℕ) → n ≤ maxTableNodes → length (digits n) ≤ 4
 digits-few n h = digits-fit 3 n (omega arith)
 
-verdicts-length : (w s : Bool) → length (verdictsLine w s) ≤ 9
-unfolding verdictsLine
-verdicts-length w s =
-    omega (arith, length-append (yesNo w) (tab ∷ (yesNo s ++ (newline ∷ []))), length-append (yesNo s) (newline ∷ []), yes-no-length w, yes-no-length s)
+end-length : (v : Verdicts) → length (verdictsEnd v) ≤ 9
+unfolding verdictsEnd
+end-length v =
+    omega (arith, length-append (yesNo (v .weak)) (tab ∷ (yesNo (v .strong) ++ (newline ∷ []))), length-append (yesNo (v .strong)) (newline ∷ []), yes-no-length (v .weak), yes-no-length (v .strong))
 
-own-length : (w s : Bool) → length (ownLine w s) ≤ 12
+own-length : (v : Verdicts) → length (ownLine v) ≤ 12
 unfolding ownLine
-own-length w s = omega (arith, length-append ownWord (verdictsLine w s), verdicts-length w s)
+own-length v = omega (arith, length-append ownWord (verdictsEnd v), end-length v)
 
 local-length : (n : ℕ) → n ≤ maxTableNodes → length (localText n) ≤ 11
 unfolding localText
 local-length n h = omega (arith, length-append localWord (tab ∷ (digits n ++ (newline ∷ []))), length-append (digits n) (newline ∷ []), digits-few n h)
 
-rewritten-length : (word : List ℕ) (n : ℕ) (w s : Bool) → n ≤ maxTableNodes → length (rewrittenLine word n w s) ≤ length word + 14
-unfolding rewrittenLine
-rewritten-length word n w s h =
-    omega (arith, length-append word (tab ∷ (digits n ++ verdictsLine w s)), length-append (digits n) (verdictsLine w s), digits-few n h, verdicts-length w s)
+rewritten-length : (word : List ℕ) (r : Rewritten) → r .count ≤ maxTableNodes → length (rewrittenLine word r) ≤ length word + 14
+unfolding rewrittenLine countedLine
+rewritten-length word r h =
+    omega (arith, length-append word (tab ∷ (digits (r .count) ++ verdictsEnd (r .verdicts))), length-append (digits (r .count)) (verdictsEnd (r .verdicts)), digits-few (r .count) h, end-length (r .verdicts))
 
-module _ (r : Rule) (R : Recording) (A : Accepted r R) (L : ℕ) (own : Verdicts) (v : Rewritings) where
+module _ (r : Rule) (R : Recording) (A : Accepted r R) (v : Report) where
   abbrev c : ℕ
   c = r .controller
 
@@ -223,30 +117,48 @@ module _ (r : Rule) (R : Recording) (A : Accepted r R) (L : ℕ) (own : Verdicts
   unfolding judgedText pick
   lines = rw sizes
 
-  module _ (l : L ≡ length (localTrace R (r .controller))) (a : RewritingsAre r R v) where
-    parts-length : L ≤ maxStates → length (reportText (record { places = L; own = own; plain = v .plain; short = v .short })) ≤ maxOutputBytes
+  module _ (L : v .places ≡ length (localTrace R c)) (own : meant (v .own) ≡ ownVerdicts r R) (plain : RewrittenIs false r R (v .plain)) (short : RewrittenIs true r R (v .short)) where
+    line-is : (z : Bool) (word : List ℕ) (w : Rewritten) → RewrittenIs z r R w → rewrittenLine word w ≡ rewrittenText word (whole R c) (rewrittenFor z r R)
+    unfolding rewrittenLine countedLine verdictsEnd rewrittenText
+    line-is z word w is =
+        rw (is .count) (ap (λ (v : readings.Verdicts). word ++ (tab ∷ (digits (length ((rewrittenFor z r R) .nodes)) ++ (tab ∷ verdictsText v))))
+        (is .verdicts ∙ sym (verdicts-agree z r R A)))
+
+    own-is : ownLine (v .own) ≡ ownText ns (maskOf R c) (localTrace R c)
+    unfolding ownLine verdictsEnd ownText
+    own-is = ap (λ (w : readings.Verdicts). ownWord ++ (tab ∷ verdictsText w)) own
+
+    text-is : reportText v ≡ judgedText c ns R
     unfolding reportText
-    parts-length h =
-        let m = localText L in
-        let b = ownLine (own .weak) (own .strong) in
-        let d = rewrittenLine plainWord (v .plain .count) (v .plain .verdicts .weak) (v .plain .verdicts .strong) in
-        let e = rewrittenLine shortWord (v .short .count) (v .short .verdicts .weak) (v .short .verdicts .strong) in
+    text-is = rw (lines, L, own-is, line-is false plainWord (v .plain) plain, line-is true shortWord (v .short) short)
+
+    fits : length (reportText v) ≤ maxOutputBytes
+    unfolding reportText
+    fits =
+        let m = localText (v .places) in
+        let b = ownLine (v .own) in
+        let d = rewrittenLine plainWord (v .plain) in
+        let e = rewrittenLine shortWord (v .short) in
         omega (
           arith,
           length-append m (b ++ (d ++ e)),
           length-append b (d ++ e),
           length-append d e,
-          local-length L (omega arith),
-          own-length (own .weak) (own .strong),
-          rewritten-length plainWord (v .plain .count) (v .plain .verdicts .weak) (v .plain .verdicts .strong) (omega (arith, a .plain .count, few false)),
-          rewritten-length shortWord (v .short .count) (v .short .verdicts .weak) (v .short .verdicts .strong) (omega (arith, a .short .count, few true)),
+          local-length (v .places) (omega (arith, L, places-few R c (A .recording) (A .controller))),
+          own-length (v .own),
+          rewritten-length plainWord (v .plain) (omega (arith, plain .count, few false)),
+          rewritten-length shortWord (v .short) (omega (arith, short .count, few true)),
         )
 
-    parts-text : OwnIs r R own → reportText (record { places = L; own = own; plain = v .plain; short = v .short }) ≡ judgedText c ns R
-    unfolding reportText ownLine rewrittenLine verdictsLine ownText rewrittenText
-    parts-text o = rw (lines, l, o .weak, o .strong, a .plain .count, a .plain .weak, a .plain .strong, a .short .count, a .short .weak, a .short .strong)
+pub reported : (c k : ℕ) (nodes : List ℕ) (C N : ℕ) (masks states : List ℕ) → Accepted (ruleOf c k nodes) (recordingOf C N masks states) →
+    (L : ℕ) → L ≡ length (runsIn N c states) + 1 → (own : Verdicts) → meant own ≡ ownVerdicts (ruleOf c k nodes) (recordingOf C N masks states) →
+    (plain short : Rewritten) → RewrittenIs false (ruleOf c k nodes) (recordingOf C N masks states) plain → RewrittenIs true (ruleOf c k nodes) (recordingOf C N masks states) short →
+    ReportIs (ruleOf c k nodes) (recordingOf C N masks states) (record { places = L; own = own; plain = plain; short = short })
+reported c k nodes C N masks states A L e own o plain short p s =
+    let r : Rule = ruleOf c k nodes in
+    let R : Recording = recordingOf C N masks states in
+    let v : Report = record { places = L; own = own; plain = plain; short = short } in
+    let l = places-are c k nodes C N masks states A L e in
+    record { text = text-is r R A v l o p s; fits = fits r R A v l o p s }
 
-    pub reported : OwnIs r R own → ReportIs r R (record { places = L; own = own; plain = v .plain; short = v .short })
-    reported o = record { text = parts-text o; fits = parts-length (omega (arith, l, places-few R c (A .recording) (A .controller))) }
-
-pub ruleset table-laws = (needs, reported)
+pub ruleset table-laws = (needs, places-countable, places-fit, reported)

@@ -1,43 +1,21 @@
 -- The values that are printed of an accepted rule and recording.
 use mathlib.Core.Path.{_≡_}
-use Prim.Native.Nat.{ℕ, _-_, _<_, _≤_}
-use mathlib.Core.Bool.{Bool, true, false}
-use mathlib.Core.List.{List}
+use Prim.Native.Nat.{_≤_}
+use mathlib.Core.Bool.{Bool}
 use lib.ListN.{length}
-use Rattle.definitions.specs.Limits.{maxStates}
 use Rattle.definitions.specs.Tables.{Rule, nodesIn}
-use Rattle.definitions.specs.Recordings.{Recording, recordingRefusal, maskOf}
-use Rattle.definitions.specs.Projection.{localTrace}
-use Rattle.definitions.specs.Readings.{local, whole, verdict}
+use Rattle.definitions.specs.Recordings.{Recording}
 use Rattle.definitions.specs.Program.{judgedText}
+use Rattle.judges.specs.Verdicts.{meant, ownVerdicts}
 use Rattle.judging.specs.Rewritten.{rewrittenFor}
-use Rattle.program.specs.Reporting.{maxOutputBytes, reportText}
-use Rattle.program.specs.declared.report.Report.{Report}
-use Rattle.program.specs.declared.report.Verdicts.{Verdicts}
-use Rattle.program.specs.declared.report.Rewritten.{Rewritten}
-use Rattle.program.specs.declared.report.Rewritings.{Rewritings}
+use Rattle.judging.specs.declared.rewritten.Rewritten.{Rewritten}
+use Rattle.report.specs.Reporting.{maxOutputBytes, reportText}
+use Rattle.report.specs.declared.Report.{Report}
 
--- an accepted recording that has the controller, and space for its places
-pub record Recorded (R : Recording) (c : ℕ) (places : List ℕ) : Type 0 where
-  pub recording : recordingRefusal R ≡ 0
-  pub controller : c < R .controllers
-  pub room : maxStates ≤ length places
-
--- "(weak, strong on the local trace)"
-pub record OwnIs (r : Rule) (R : Recording) (v : Verdicts) : Type 0 where
-  pub weak : v .weak ≡ verdict (local (maskOf R (r .controller)) (localTrace R (r .controller))) (nodesIn (r .count) (r .nodes)) (length (nodesIn (r .count) (r .nodes)) - 1) true
-  pub strong : v .strong ≡ verdict (local (maskOf R (r .controller)) (localTrace R (r .controller))) (nodesIn (r .count) (r .nodes)) (length (nodesIn (r .count) (r .nodes)) - 1) false
-
--- "(nodes, weak, strong)" over the whole recording
+-- the rule rewritten: its node count, and verdicts that are the rule's own
 pub record RewrittenIs (short : Bool) (r : Rule) (R : Recording) (v : Rewritten) : Type 0 where
   pub count : v .count ≡ length ((rewrittenFor short r R) .nodes)
-  pub weak : v .verdicts .weak ≡ verdict (whole R (r .controller)) ((rewrittenFor short r R) .nodes) ((rewrittenFor short r R) .weakTop) true
-  pub strong : v .verdicts .strong ≡ verdict (whole R (r .controller)) ((rewrittenFor short r R) .nodes) ((rewrittenFor short r R) .strongTop) false
-
--- both rewritings
-pub record RewritingsAre (r : Rule) (R : Recording) (v : Rewritings) : Type 0 where
-  pub plain : RewrittenIs false r R (v .plain)
-  pub short : RewrittenIs true r R (v .short)
+  pub verdicts : meant (v .verdicts) ≡ ownVerdicts r R
 
 -- the values print as document 01 says, in few bytes
 pub record ReportIs (r : Rule) (R : Recording) (v : Report) : Type 0 where

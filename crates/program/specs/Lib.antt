@@ -1,4 +1,3 @@
 pub mod Splitting
-pub mod Reporting
 pub mod Judged
 pub mod Output

@@ -1,14 +1,14 @@
 -- What the program prints.
 use mathlib.Core.Path.{_≡_}
-use Prim.Native.Nat.{ℕ, _+_, _≤_}
+use Prim.Native.Nat.{ℕ, _≤_}
 use mathlib.Core.List.{List, _++_}
 use lib.ListN.{length, take, drop, getD}
-use Rattle.definitions.specs.Limits.{maxInputBytes, maxRuleNodes, maxControllers, maxStates}
-use Rattle.definitions.specs.Tables.{Rule, nodesIn}
-use Rattle.definitions.specs.Recordings.{Recording}
-use Rattle.definitions.specs.Program.{judgedText, programOutput}
+use Rattle.definitions.specs.Limits.{maxInputBytes}
+use Rattle.definitions.specs.Tables.{Rule, ruleOf}
+use Rattle.definitions.specs.Recordings.{Recording, recordingOf}
+use Rattle.definitions.specs.Program.{programOutput}
 use Rattle.theorems.proofs.ScheduleIndependence.{Accepted}
-use Rattle.program.specs.Reporting.{maxOutputBytes}
+use Rattle.report.specs.Reporting.{maxOutputBytes}
 
 -- two texts of one input, and space for what is printed of them
 pub record TextsRoom (rule recording text : List ℕ) : Type 0 where
@@ -16,38 +16,20 @@ pub record TextsRoom (rule recording text : List ℕ) : Type 0 where
   pub recordingFits : length recording ≤ maxInputBytes
   pub textRoom : maxOutputBytes ≤ length text
 
--- with lent space of full size for the tables
-pub record Room (rule recording nodes masks states text : List ℕ) : Type 0 where
-  pub texts : TextsRoom rule recording text
-  pub nodesRoom : maxRuleNodes ≤ length nodes
-  pub masksRoom : maxControllers ≤ length masks
-  pub statesRoom : maxStates ≤ length states
-
 -- the rule in lent space, by the heading: its number, controller, node count, C and N
 abbrev pub foundRule : List ℕ → List ℕ → Rule
-foundRule heading nodes = record { controller = getD heading 1 0; count = getD heading 2 0; nodes = take (getD heading 2 0) nodes }
+foundRule heading nodes = ruleOf (getD heading 1 0) (getD heading 2 0) (take (getD heading 2 0) nodes)
 
 -- the recording in lent space, by the heading
 abbrev pub foundRecording : List ℕ → List ℕ → List ℕ → Recording
-foundRecording heading masks states = record {
-  controllers = getD heading 3 0;
-  count = getD heading 4 0;
-  masks = take (getD heading 3 0) masks;
-  states = take (getD heading 4 0) states;
-}
+foundRecording heading masks states = recordingOf (getD heading 3 0) (getD heading 4 0) (take (getD heading 3 0) masks) (take (getD heading 4 0) states)
 
--- accepted tables in lent space, and space for what is printed of them
-pub record Found (heading nodes masks states text : List ℕ) : Type 0 where
+-- accepted tables in lent space
+pub record Found (heading nodes masks states : List ℕ) : Type 0 where
   pub nodesThere : getD heading 2 0 ≤ length nodes
   pub masksThere : getD heading 3 0 ≤ length masks
   pub statesThere : getD heading 4 0 ≤ length states
   pub both : Accepted (foundRule heading nodes) (foundRecording heading masks states)
-  pub textRoom : maxOutputBytes ≤ length text
-
--- what is printed of them
-unfoldable pub foundText : List ℕ → List ℕ → List ℕ → List ℕ → List ℕ
-foundText heading nodes masks states =
-    judgedText (getD heading 1 0) (nodesIn (getD heading 2 0) (take (getD heading 2 0) nodes)) (foundRecording heading masks states)
 
 -- the bytes printed of an input, from the first byte of the output on, and their count; no other byte of the output is touched
 pub record ProgramPrinted (input output : List ℕ) (r : ℕ) (output′ : List ℕ) : Type 0 where

@@ -1,67 +1,48 @@
 // The program: both texts are read, judged, and printed of.
 ghost use Rattle.definitions.specs.Program.{textsOutput};
-ghost use Rattle.lines.specs.Printing.{Printed};
-ghost use Rattle.program.specs.Output.{TextsRoom, Room, Found, foundText, ProgramPrinted};
-use super::report::put_refused;
-use super::report::put_report;
+ghost use Rattle.printing.specs.Printing.{Printed};
+ghost use Rattle.program.specs.Output.{TextsRoom, foundRule, foundRecording, Found, ProgramPrinted};
+ghost use Rattle.program.specs.Judged.{ReportIs};
 use super::split::split;
 use super::tables::judge_tables;
 use formulas::limits::Limits;
 use formulas::limits::Refusal;
 use joint_text::joint::read_joint;
+use judges::headings::RecordingHeading;
+use judges::headings::RuleHeading;
+use report::Report;
+use report::put_refused;
+use report::put_report;
 
 // The bytes of the longest output: `refused`, a number of two digits, two tabs, byte 10 and a line that is all of the longest input.
 pub const OUTPUT_BYTES: usize = Limits::INPUT_BYTES + 12;
 
-// Judges the tables that were read with this heading, and prints the judgements.
-fn judge_found(
-    heading: &[u32; 5],
-    nodes: &[u32],
-    masks: &[u32],
-    states: &[u64],
-    text: &mut [u8],
-) -> usize
-    requires { ⌜ Found (now heading) (now nodes) (now masks) (now states) (now text) ⌝ }
-    ensures { λ r. ⌜ Printed (foundText (now (heading .entry)) (now (nodes .entry)) (now (masks .entry)) (now (states .entry))) (now (text .entry)) 0 r (now (text .exit)) ⌝ }
+// Judges the tables that were read with this heading.
+fn judge_found(heading: &[u32; 5], nodes: &[u32], masks: &[u32], states: &[u64]) -> Report
+    requires { ⌜ Found (now heading) (now nodes) (now masks) (now states) ⌝ }
+    ensures { λ r. ⌜ ReportIs (foundRule (now (heading .entry)) (now (nodes .entry))) (foundRecording (now (heading .entry)) (now (masks .entry)) (now (states .entry))) r ⌝ }
 {
-    let controller = heading[1] as usize;
-    let count = heading[2] as usize;
-    let controllers = heading[3] as usize;
-    let states_count = heading[4] as usize;
-    let report = judge_tables(
-        controller,
-        count,
+    let rule = RuleHeading {
+        controller: heading[1] as usize,
+        count: heading[2] as usize,
+    };
+    let recording = RecordingHeading {
+        controllers: heading[3] as usize,
+        count: heading[4] as usize,
+    };
+    let count = rule.count;
+    let controllers = recording.controllers;
+    let states_count = recording.count;
+    judge_tables(
+        rule,
         &nodes[..count],
-        controllers,
-        states_count,
+        recording,
         &masks[..controllers],
         &states[..states_count],
-    );
-    put_report(report, text)
+    )
 }
 
-// Reads both texts into lent space of full size, and prints the refusal or the judgements.
-fn judge_read<'a>(
-    rule: &'a [u8],
-    recording: &'a [u8],
-    nodes: &mut [u32],
-    masks: &mut [u32],
-    states: &mut [u64],
-    text: &mut [u8],
-) -> usize
-    requires { ⌜ Room (now rule) (now recording) (now nodes) (now masks) (now states) (now text) ⌝ }
-    ensures { λ r. ⌜ Printed (textsOutput (now (rule .entry)) (now (recording .entry))) (now (text .entry)) 0 r (now (text .exit)) ⌝ }
-{
-    let mut heading = [0u32; 5];
-    let line = read_joint(rule, recording, nodes, masks, states, &mut heading);
-    let number = heading[0];
-    if number != Refusal::NONE as u32 {
-        return put_refused(number, line, text);
-    }
-    judge_found(&heading, nodes, masks, states, text)
-}
-
-// Lends the space for the tables.
+// Reads both texts, and prints the refusal or the judgements.
 fn judge_texts<'a>(rule: &'a [u8], recording: &'a [u8], text: &mut [u8]) -> usize
     requires { ⌜ TextsRoom (now rule) (now recording) (now text) ⌝ }
     ensures { λ r. ⌜ Printed (textsOutput (now (rule .entry)) (now (recording .entry))) (now (text .entry)) 0 r (now (text .exit)) ⌝ }
@@ -69,7 +50,21 @@ fn judge_texts<'a>(rule: &'a [u8], recording: &'a [u8], text: &mut [u8]) -> usiz
     let mut nodes = [0u32; Limits::RULE_NODES];
     let mut masks = [0u32; Limits::CONTROLLERS];
     let mut states = [0u64; Limits::STATES];
-    judge_read(rule, recording, &mut nodes, &mut masks, &mut states, text)
+    let mut heading = [0u32; 5];
+    let line = read_joint(
+        rule,
+        recording,
+        &mut nodes,
+        &mut masks,
+        &mut states,
+        &mut heading,
+    );
+    let number = heading[0];
+    if number != Refusal::NONE as u32 {
+        return put_refused(number, line, text);
+    }
+    let report = judge_found(&heading, &nodes, &masks, &states);
+    put_report(report, text)
 }
 
 // From the input to what is printed of it, and how many bytes that is.

@@ -1,5 +1,4 @@
 // The program as a function: from the bytes of its input to the bytes that it prints.
 pub mod judge;
-pub mod report;
 pub mod split;
 pub mod tables;

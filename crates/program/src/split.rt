@@ -5,7 +5,7 @@ ghost use lib.ListN.{length, take, drop};
 ghost use Rattle.definitions.specs.Lines.{same};
 ghost use Rattle.definitions.specs.Program.{splitLine, ruleLength};
 ghost use Rattle.program.specs.Splitting.{Line, SplitAt};
-use lines::scan;
+use fields::scan;
 
 // Where the rule text ends and where the recording text begins.
 pub struct Parts {

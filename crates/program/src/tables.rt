@@ -1,216 +1,59 @@
-// The values that are printed of an accepted rule and recording: four operations on the tables that were read.
-ghost use mathlib.Core.Path.{_≡_};
-ghost use lib.ListN.{length};
-ghost use Rattle.definitions.specs.Projection.{localTrace};
-ghost use Rattle.judging.specs.Rewritten.{Judgeable};
+// The values that are printed of an accepted rule and recording: by four judgements on the tables that were read.
 ghost use Rattle.theorems.proofs.ScheduleIndependence.{Accepted};
-ghost use Rattle.program.specs.Judged.{Recorded, OwnIs, RewrittenIs, RewritingsAre, ReportIs};
-use super::report::Report;
-use super::report::Rewritings;
-use super::report::Rewritten;
-use super::report::Verdicts;
-use evaluation::local::judge_local;
-use evaluation::verdicts;
+ghost use Rattle.judges.specs.Headings.{ruleIn, recordingIn};
+ghost use Rattle.program.specs.Judged.{RewrittenIs, ReportIs};
 use formulas::limits::Limits;
-use judging::rewritten::Judgement;
-use judging::rewritten::judge_rewritten;
-use traces::operation::Projection;
-use traces::operation::project;
+use judges::headings::RecordingHeading;
+use judges::headings::RuleHeading;
+use judges::local;
+use judging::rewritten;
+use judging::rewritten::Rewritten;
+use projection::places::local_length;
+use report::Report;
 
-// How many places the local trace has. An accepted recording is not refused.
-fn count_places(
-    controllers: usize,
-    states_count: usize,
-    masks: &[u32],
-    states: &[u64],
-    c: usize,
-    places: &mut [u32],
-) -> u32
-    requires { ⌜ Recorded (record { controllers = controllers; count = «states_count»; masks = now masks; states = now states }) c (now places) ⌝ }
-    ensures { λ r. ⌜ r ≡ length (localTrace (record { controllers = controllers; count = «states_count»; masks = now (masks .entry); states = now (states .entry) }) c) ⌝ }
-{
-    let projection = project(controllers, states_count, masks, states, c, places);
-    match projection {
-        Projection::Places(length) => length as u32,
-        Projection::Refused(number) => number as u32,
-    }
-}
-
-// The verdicts on the local trace. An accepted rule and recording are not refused.
-fn judge_own(
-    controller: usize,
-    count: usize,
-    nodes: &[u32],
-    controllers: usize,
-    states_count: usize,
-    masks: &[u32],
-    states: &[u64],
-) -> Verdicts
-    requires { ⌜ Accepted (record { controller = controller; count = count; nodes = now nodes }) (record { controllers = controllers; count = «states_count»; masks = now masks; states = now states }) ⌝ }
-    ensures { λ r. ⌜ OwnIs (record { controller = controller; count = count; nodes = now (nodes .entry) }) (record { controllers = controllers; count = «states_count»; masks = now (masks .entry); states = now (states .entry) }) r ⌝ }
-{
-    let judged = judge_local(
-        controller,
-        count,
-        nodes,
-        controllers,
-        states_count,
-        masks,
-        states,
-    );
-    match judged {
-        verdicts::Verdicts::Judged(weak, strong) => Verdicts {
-            weak: weak,
-            strong: strong,
-        },
-        verdicts::Verdicts::Refused(number) => Verdicts {
-            weak: false,
-            strong: false,
-        },
-    }
-}
-
-// The node count and the verdicts of the rewritten rule over the whole recording. Neither is refused, nor is the rewritten rule.
-fn judge_whole(
+// The rule rewritten, plain or short, and judged over the whole recording, in space of its own.
+fn judge_rewriting(
     short: bool,
-    controller: usize,
-    count: usize,
+    rule: RuleHeading,
     nodes: &[u32],
-    controllers: usize,
-    states_count: usize,
+    recording: RecordingHeading,
     masks: &[u32],
     states: &[u64],
-    table: &mut [u32],
-    rows: &mut [u64],
 ) -> Rewritten
-    requires { ⌜ Judgeable (record { controller = controller; count = count; nodes = now nodes }) (record { controllers = controllers; count = «states_count»; masks = now masks; states = now states }) (now table) (now rows) ⌝ }
-    ensures { λ r. ⌜ RewrittenIs short (record { controller = controller; count = count; nodes = now (nodes .entry) }) (record { controllers = controllers; count = «states_count»; masks = now (masks .entry); states = now (states .entry) }) r ⌝ }
-{
-    let judgement = judge_rewritten(
-        short,
-        controller,
-        count,
-        nodes,
-        controllers,
-        states_count,
-        masks,
-        states,
-        table,
-        rows,
-    );
-    match judgement {
-        Judgement::Judged(n, weak, strong) => {
-            let verdicts = Verdicts {
-                weak: weak,
-                strong: strong,
-            };
-            Rewritten {
-                count: n as u32,
-                verdicts: verdicts,
-            }
-        }
-        Judgement::Refused(number) => {
-            let verdicts = Verdicts {
-                weak: false,
-                strong: false,
-            };
-            Rewritten {
-                count: 0,
-                verdicts: verdicts,
-            }
-        }
-    }
-}
-
-// Both rewritings, in one space for the table and its rows.
-fn judge_rewritings(
-    controller: usize,
-    count: usize,
-    nodes: &[u32],
-    controllers: usize,
-    states_count: usize,
-    masks: &[u32],
-    states: &[u64],
-) -> Rewritings
-    requires { ⌜ Accepted (record { controller = controller; count = count; nodes = now nodes }) (record { controllers = controllers; count = «states_count»; masks = now masks; states = now states }) ⌝ }
-    ensures { λ r. ⌜ RewritingsAre (record { controller = controller; count = count; nodes = now (nodes .entry) }) (record { controllers = controllers; count = «states_count»; masks = now (masks .entry); states = now (states .entry) }) r ⌝ }
+    requires { ⌜ Accepted (ruleIn rule (now nodes)) (recordingIn recording (now masks) (now states)) ⌝ }
+    ensures { λ r. ⌜ RewrittenIs short (ruleIn rule (now (nodes .entry))) (recordingIn recording (now (masks .entry)) (now (states .entry))) r ⌝ }
 {
     let mut table = [0u32; Limits::TABLE_NODES];
     let mut rows = [0u64; Limits::ROW_WORDS];
-    let plain = judge_whole(
-        false,
-        controller,
-        count,
+    rewritten::judge_accepted(
+        short,
+        rule,
         nodes,
-        controllers,
-        states_count,
+        recording,
         masks,
         states,
         &mut table,
         &mut rows,
-    );
-    let short = judge_whole(
-        true,
-        controller,
-        count,
-        nodes,
-        controllers,
-        states_count,
-        masks,
-        states,
-        &mut table,
-        &mut rows,
-    );
-    Rewritings {
-        plain: plain,
-        short: short,
-    }
+    )
 }
 
 // All that is printed, before any of it is.
 pub fn judge_tables(
-    controller: usize,
-    count: usize,
+    rule: RuleHeading,
     nodes: &[u32],
-    controllers: usize,
-    states_count: usize,
+    recording: RecordingHeading,
     masks: &[u32],
     states: &[u64],
 ) -> Report
-    requires { ⌜ Accepted (record { controller = controller; count = count; nodes = now nodes }) (record { controllers = controllers; count = «states_count»; masks = now masks; states = now states }) ⌝ }
-    ensures { λ r. ⌜ ReportIs (record { controller = controller; count = count; nodes = now (nodes .entry) }) (record { controllers = controllers; count = «states_count»; masks = now (masks .entry); states = now (states .entry) }) r ⌝ }
+    requires { ⌜ Accepted (ruleIn rule (now nodes)) (recordingIn recording (now masks) (now states)) ⌝ }
+    ensures { λ r. ⌜ ReportIs (ruleIn rule (now (nodes .entry))) (recordingIn recording (now (masks .entry)) (now (states .entry))) r ⌝ }
 {
-    let mut places = [0u32; Limits::STATES];
-    let length = count_places(
-        controllers,
-        states_count,
-        masks,
-        states,
-        controller,
-        &mut places,
-    );
-    let own = judge_own(
-        controller,
-        count,
-        nodes,
-        controllers,
-        states_count,
-        masks,
-        states,
-    );
-    let rewritings = judge_rewritings(
-        controller,
-        count,
-        nodes,
-        controllers,
-        states_count,
-        masks,
-        states,
-    );
-    let plain = rewritings.plain;
-    let short = rewritings.short;
+    let places = local_length(recording.count, rule.controller, states);
+    let own = local::judge_accepted(rule, nodes, recording, masks, states);
+    let plain = judge_rewriting(false, rule, nodes, recording, masks, states);
+    let short = judge_rewriting(true, rule, nodes, recording, masks, states);
     Report {
-        places: length,
+        places: places as u32,
         own: own,
         plain: plain,
         short: short,

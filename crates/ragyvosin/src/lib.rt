@@ -1,34 +1,34 @@
 // The nine operations of document 01: each answer and each lent slice is what the definition of its operation says, on every input.
 // `ruleRead` to `rewritten` list document 01's number and values for each case of an answer.
+// `same-verdicts-all-four-times` (proofs/SameVerdicts) says what these contracts give together: schedule independence.
 ghost use mathlib.Core.Path.{_≡_};
 ghost use mathlib.Core.Bool.{true, false};
+ghost use Rattle.definitions.specs.Tables.{ruleOf, tableOf};
+ghost use Rattle.definitions.specs.Recordings.{recordingOf};
 ghost use Rattle.definitions.specs.Operations.{readRuleAnswer, readRuleNodes, writeRuleAnswer, writeRuleText, readRecordingAnswer, readRecordingMasks, readRecordingStates};
 ghost use Rattle.definitions.specs.Operations.{readJointHeading, readJointNodes, readJointMasks, readJointStates, readJointPart, projectAnswer, projectPlaces, judgeLocalAnswer};
 ghost use Rattle.definitions.specs.Operations.{rewriteAnswer, rewriteTable, judgeRecordingAnswer, judgeRecordingRows};
-ghost use Rattle.formula_text.specs.Reading.{readAnswer as ruleRead};
-ghost use Rattle.formula_text.specs.Writing.{writeAnswer as ruleWritten};
-ghost use Rattle.trace_text.specs.Reading.{readAnswer as recordingRead};
-ghost use Rattle.traces.specs.Answers.{answerOf as projected};
-ghost use Rattle.evaluation.specs.Judging.{answerOf as judged};
+ghost use Rattle.formula_reader.specs.Reading.{readAnswer as ruleRead};
+ghost use Rattle.formula_writer.specs.Writing.{writeAnswer as ruleWritten};
+ghost use Rattle.trace_reader.specs.Reading.{readAnswer as recordingRead};
+ghost use Rattle.projection.specs.Answers.{answerOf as projected};
+ghost use Rattle.judges.specs.Verdicts.{answerOf as judged};
 ghost use Rattle.rewriting.specs.Answers.{answerOf as rewritten};
-ghost use Rattle.ragyvosin.specs.Arguments.{ruleOf, recordingOf, tableOf};
 ghost use Rattle.ragyvosin.specs.Parts.{placeIn, bytesIn};
-pub use evaluation::verdicts::Verdicts;
-pub use formula_text::read::RuleRead;
-pub use formula_text::write::RuleWritten;
+pub use formula_reader::RuleRead;
+pub use formula_writer::RuleWritten;
+pub use judges::verdicts::Judgement;
+pub use judges::verdicts::Verdicts;
+pub use projection::project::Projection;
 pub use rewriting::rewrite::Rewriting;
-pub use trace_text::read::RecordingRead;
-pub use traces::operation::Projection;
-
-pub mod c;
-mod values;
+pub use trace_reader::RecordingRead;
 
 // "read a rule (controller, count, nodes)"
 pub fn read_rule(text: &[u8], nodes: &mut [u32]) -> RuleRead
     ensures { λ r. ⌜ ruleRead r ≡ readRuleAnswer (now (text .entry)) (now (nodes .entry)) ⌝ }
     ensures { λ _. ⌜ now (nodes .exit) ≡ readRuleNodes (now (text .entry)) (now (nodes .entry)) ⌝ }
 {
-    formula_text::read::read_rule(text, nodes)
+    formula_reader::read_rule(text, nodes)
 }
 
 // "write one (length, text)"
@@ -36,7 +36,7 @@ pub fn write_rule(controller: usize, count: usize, nodes: &[u32], text: &mut [u8
     ensures { λ r. ⌜ ruleWritten r ≡ writeRuleAnswer (ruleOf controller count (now (nodes .entry))) (now (text .entry)) ⌝ }
     ensures { λ _. ⌜ now (text .exit) ≡ writeRuleText (ruleOf controller count (now (nodes .entry))) (now (text .entry)) ⌝ }
 {
-    formula_text::write::write_rule(controller, count, nodes, text)
+    formula_writer::write_rule(controller, count, nodes, text)
 }
 
 // "read a recording (C, N, masks, states)"
@@ -45,7 +45,7 @@ pub fn read_recording(text: &[u8], masks: &mut [u32], states: &mut [u64]) -> Rec
     ensures { λ _. ⌜ now (masks .exit) ≡ readRecordingMasks (now (text .entry)) (now (masks .entry)) (now (states .entry)) ⌝ }
     ensures { λ _. ⌜ now (states .exit) ≡ readRecordingStates (now (text .entry)) (now (masks .entry)) (now (states .entry)) ⌝ }
 {
-    trace_text::read::read_recording(text, masks, states)
+    trace_reader::read_recording(text, masks, states)
 }
 
 // "the joint reading": hands back the refused line; the heading is the number, controller, node count, C and N
@@ -79,7 +79,7 @@ pub fn project(
     ensures { λ r. ⌜ projected r ≡ projectAnswer (recordingOf controllers count (now (masks .entry)) (now (states .entry))) c (now (places .entry)) ⌝ }
     ensures { λ _. ⌜ now (places .exit) ≡ projectPlaces (recordingOf controllers count (now (masks .entry)) (now (states .entry))) c (now (places .entry)) ⌝ }
 {
-    traces::operation::project(controllers, count, masks, states, c, places)
+    projection::project::project(controllers, count, masks, states, c, places)
 }
 
 // "judge a rule on its local trace (rule and recording, for the rule's controller)": weak and strong verdict
@@ -91,10 +91,10 @@ pub fn judge_local(
     states_count: usize,
     masks: &[u32],
     states: &[u64],
-) -> Verdicts
+) -> Judgement
     ensures { λ r. ⌜ judged r ≡ judgeLocalAnswer (ruleOf controller count (now (nodes .entry))) (recordingOf controllers «states_count» (now (masks .entry)) (now (states .entry))) ⌝ }
 {
-    evaluation::local::judge_local(
+    judges::local::judge_local(
         controller,
         count,
         nodes,
@@ -145,11 +145,11 @@ pub fn judge_recording(
     states: &[u64],
     c: usize,
     rows: &mut [u64],
-) -> Verdicts
+) -> Judgement
     ensures { λ r. ⌜ judged r ≡ judgeRecordingAnswer (tableOf count (now (nodes .entry)) «weak_top» «strong_top») (recordingOf controllers «states_count» (now (masks .entry)) (now (states .entry))) c (now (rows .entry)) ⌝ }
     ensures { λ _. ⌜ now (rows .exit) ≡ judgeRecordingRows (tableOf count (now (nodes .entry)) «weak_top» «strong_top») (recordingOf controllers «states_count» (now (masks .entry)) (now (states .entry))) c (now (rows .entry)) ⌝ }
 {
-    evaluation::whole::judge_recording(
+    judges::whole::judge_recording(
         count,
         nodes,
         weak_top,

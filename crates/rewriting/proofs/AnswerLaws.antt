@@ -1,34 +1,35 @@
 -- The rewriting of a rule: one law for each return.
-use mathlib.Core.Bool.{Bool, true, false, not, _&&_}
-use mathlib.Core.List.{List, [], _∷_, _++_, map}
-use mathlib.Core.Path.{_≡_, refl, sym, ap, _∙_}
-use Prim.Native.Nat.{ℕ, zero, suc, _+_, _-_, _<_, _≤_}
+use mathlib.Core.Bool.{Bool, true, false, _&&_}
+use mathlib.Core.List.{List, _++_, map}
+use mathlib.Core.Path.{_≡_, sym, ap, _∙_}
+use Prim.Native.Nat.{ℕ, _+_, _-_, _<_, _≤_}
 use native.Mathlib.Omega.{arith}
 use borrow.Author.Needs.{needs}
-use borrow.Author.Tests.{lt-ltb, le-ltb, ne-eqb, eq-eqb}
-use lib.Dec.{eqb, ltb}
-use lib.ListN.{length, take, drop, replicate}
-use Rattle.definitions.specs.Limits.{maxTableNodes, lentShort, accepted, ruleLimits, ruleOperand, ruleLines}
+use borrow.Author.Tests.{lt-ltb, le-ltb, ne-eqb}
+use lib.ListN.{length, take, drop}
+use Rattle.definitions.specs.Limits.{maxTableNodes, lentShort, accepted}
 use Rattle.definitions.specs.Bounded.{pick, orElse}
 use Rattle.definitions.specs.Nodes as words
-use Rattle.definitions.specs.Nodes.{nodeWord, nodeOf}
-use Rattle.definitions.specs.Tables.{Rule, nodesIn, nodeRefusal, nodesRefusal, ruleHeadingRefusal, ruleRefusal}
+use Rattle.definitions.specs.Nodes.{nodeWord}
+use Rattle.definitions.specs.Tables.{Rule, nodesIn, ruleRefusal, ruleOf}
 use Rattle.definitions.specs.Rewriting as table
 use Rattle.definitions.specs.Rewriting.{emit, closing, closed, lastImage, rewriting}
-use Rattle.definitions.specs.Operations.{answer, left, rewrittenOf, sizeRefusal, rewriteNumber, rewriteAnswer, rewriteTable}
+use Rattle.definitions.specs.Operations.{answer, rewrittenOf, sizeRefusal, rewriteNumber, rewriteAnswer, rewriteTable}
+use Rattle.theorems.proofs.Counts.{emit-count}
 use Rattle.theorems.proofs.NodeLaws.{accepted-rule}
 use Rattle.theorems.proofs.RuleNodes.{rule-some, rule-few}
+use Rattle.theorems.proofs.RefusalBounds.{rule-low}
+use Rattle.theorems.proofs.LentSpace.{left-short, left-accepted, left-refused}
 use Rattle.theorems.proofs.RewrittenAccepted.{rewritten-fits}
-use Rattle.rows.specs.Lent.{cleared}
+use Rattle.lent.specs.Space.{cleared}
 use Rattle.rewriting.specs.declared.drafts.Draft.{Draft}
 use Rattle.rewriting.specs.declared.rewrite.Rewriting.{Rewriting}
 use Rattle.rewriting.specs.declared.rewrite.Rewriting.the-variants.{Rewritten, Refused}
-use Rattle.rewriting.specs.declared.rewrite.Tops.{Tops}
-use Rattle.rewriting.specs.Emission.{Room, Emitted, Holds}
-use Rattle.rewriting.specs.Parts.{meant}
+use Rattle.images.specs.declared.image.Tops.{Tops}
+use Rattle.images.specs.Images.{meant, ClosedBy}
 use Rattle.rewriting.specs.Drafts.{Ruled, Drawn, draftOf}
-use Rattle.rewriting.specs.Answers.{answerOf, Tabled, ruleOf, Rewrote}
-use Rattle.rewriting.proofs.EmitLaws.{holds-more, map-length, seam-take, seam-drop}
+use Rattle.rewriting.specs.Answers.{Tabled, TableOf, Rewrote}
+use Rattle.images.proofs.EmitLaws.{emit-append, holds-more, map-length, seam-take, seam-drop}
 
 module _ (short : Bool) (mask count : ℕ) (ws o : List ℕ) (d : Draft) (o′ : List ℕ) (w : Drawn short mask count ws o d o′) where
   is-closed : rewriting short mask (nodesIn count ws) ≡ closed (short && d .last .tolerant) ((draftOf short mask count ws) .nodes) (meant (d .last))
@@ -40,17 +41,20 @@ module _ (short : Bool) (mask count : ℕ) (ws o : List ℕ) (d : Draft) (o′ :
       let c : rewriting short mask (nodesIn count ws) ≡ closed true ((draftOf short mask count ws) .nodes) (meant (d .last)) = rw e at is-closed in
       record { holds = rw c (w .holds); weak = rw c; strong = rw c; low = omega (arith, w .low) }
 
-  pub tabled-closed : (o″ o‴ : List ℕ) (m r : ℕ) → (short && d .last .tolerant) ≡ false → Emitted (closing true (d .last .weak)) o′ (d .at) m o″
-      → Emitted (closing false (d .last .strong)) o″ m r o‴ → Tabled short mask count ws o (record { count = r; weak = m - 1; strong = r - 1 }) o‴
-  tabled-closed o″ o‴ m r e p q =
-      let c : rewriting short mask (nodesIn count ws) ≡ closed false ((draftOf short mask count ws) .nodes) (meant (d .last)) = rw e at is-closed in
-      let h = holds-more ((draftOf short mask count ws) .nodes) (closing true (d .last .weak)) o o′ o″ (d .at) m (w .holds) p in
-      let g = holds-more (emit ((draftOf short mask count ws) .nodes) (closing true (d .last .weak))) (closing false (d .last .strong)) o o″ o‴ m r h q in
+  pub tabled-closed : (o″ : List ℕ) (t : Tops) → (short && d .last .tolerant) ≡ false → ClosedBy (meant (d .last)) o′ (d .at) t o″ → Tabled short mask count ws o t o″
+  tabled-closed o″ t e p =
+      let T = (draftOf short mask count ws) .nodes in
+      let weak = closing true (d .last .weak) in
+      let strong = closing false (d .last .strong) in
+      let c : rewriting short mask (nodesIn count ws) ≡ closed false T (meant (d .last)) = rw e at is-closed in
+      let h = rw (emit-append T weak strong) at (holds-more T (weak ++ strong) o o′ o″ (d .at) (t .count) (w .holds) (p .emits)) in
+      let u : length (emit T weak) ≡ length T + 4 = emit-count T weak in
+      let v : length (emit (emit T weak) strong) ≡ length T + 8 = emit-count (emit T weak) strong ∙ omega arith in
       record {
-        holds = rw c g;
-        weak = rw c (ap (λ (n : ℕ). n - 1) (h .next));
-        strong = rw c (ap (λ (n : ℕ). n - 1) (g .next));
-        low = omega (arith, w .low, p .next, q .next);
+        holds = rw c h;
+        weak = rw c (omega (arith, p .weak, w .holds .next));
+        strong = rw c (omega (arith, p .strong, w .holds .next));
+        low = omega (arith, w .low, p .emits .next);
       }
 
 pub ruleset tabled-laws = (needs, tabled-open, tabled-closed)
@@ -61,37 +65,27 @@ ruled controller count ws k e z =
     let h : ruleRefusal r ≡ 0 = sym e ∙ z in
     record { some = rule-some r h; few = rule-few r h; fine = (accepted-rule r h) .1 }
 
--- a rule is never refused with 13
-pick-most : (z : Bool) (a b : ℕ) → a ≤ 4 → b ≤ 4 → pick z a b ≤ 4
-unfolding pick
-pick-most true a b p q = p
-pick-most false a b p q = q
+-- the rest of the table is cleared
+pub table-of : (short : Bool) (mask count : ℕ) (ws o : List ℕ) (t : Tops) (o′ o″ : List ℕ) → maxTableNodes ≤ length o → Tabled short mask count ws o t o′ →
+    o″ ≡ cleared o′ (t .count) maxTableNodes → TableOf (rewriting short mask (nodesIn count ws)) o t o″
+unfolding cleared
+table-of short mask count ws o t o′ o″ h b c =
+    let T : List words.Node = (rewriting short mask (nodesIn count ws)) .nodes in
+    let n : t .count ≡ length T = b .holds .next in
+    let l : length (map nodeWord T) ≡ t .count = map-length T ∙ sym n in
+    let m : t .count + (maxTableNodes - t .count) ≡ maxTableNodes = omega (arith, b .low) in
+    let front : take (t .count) o′ ≡ map nodeWord T = seam-take o o′ (map nodeWord T) (t .count) (b .holds .words) l in
+    let rest : drop maxTableNodes o′ ≡ drop maxTableNodes o =
+    rw m at (seam-drop o o′ (map nodeWord T) (t .count) (b .holds .words) l (maxTableNodes - t .count)) in
+    record {
+      table = c ∙ rw (front, rest, ← l) (sym (left-accepted maxTableNodes (map nodeWord T) o));
+      count = n;
+      few = b .low;
+      weak = b .weak;
+      strong = b .strong;
+    }
 
-else-most : (a b : ℕ) → a ≤ 4 → b ≤ 4 → orElse a b ≤ 4
-unfolding orElse
-else-most a b p q = pick-most (eqb a 0) b a q p
-
-node-most : (i : ℕ) (n : words.Node) → nodeRefusal false i n ≤ 4
-unfolding nodeRefusal
-node-most i n =
-    pick-most _ _ _ (omega arith) (pick-most _ _ _ (omega arith) (pick-most _ _ _ (omega arith) (pick-most _ _ _ (omega arith)
-    (pick-most _ _ _ (omega arith) (omega arith)))))
-
-nodes-most : (i left : ℕ) (ws : List ℕ) → nodesRefusal false i left ws ≤ 4
-unfolding nodesRefusal
-nodes-most i zero ws = omega arith
-nodes-most i (suc left) [] = omega arith
-nodes-most i (suc left) (w ∷ ws) = else-most (nodeRefusal false i (nodeOf w)) (nodesRefusal false (i + 1) left ws) (node-most i (nodeOf w)) (nodes-most (i + 1) left ws)
-
-heading-most : (c n : ℕ) → ruleHeadingRefusal c n ≤ 4
-unfolding ruleHeadingRefusal
-heading-most c n = pick-most _ _ _ (omega arith) (omega arith)
-
-rule-most : (r : Rule) → ruleRefusal r ≤ 4
-unfolding ruleRefusal
-rule-most r =
-    else-most (ruleHeadingRefusal (r .controller) (r .count)) (nodesRefusal false 0 (r .count) (r .nodes)) (heading-most (r .controller) (r .count))
-    (nodes-most 0 (r .count) (r .nodes))
+pub ruleset accepted-laws = (needs, table-of)
 
 module _ (short : Bool) (controller count : ℕ) (ws : List ℕ) (mask : ℕ) (o : List ℕ) where
   abbrev R : Rule
@@ -105,44 +99,30 @@ module _ (short : Bool) (controller count : ℕ) (ws : List ℕ) (mask : ℕ) (o
   unfolding rewriteNumber pick
   number-long h = rw (le-ltb (length o) maxTableNodes h)
 
-  number-refused : (k : ℕ) → maxTableNodes ≤ length o → k ≡ ruleRefusal R → (k ≡ 0 → ⊥) → rewriteNumber short R mask o ≡ k
-  unfolding orElse pick
-  number-refused k h e z = number-long h ∙ rw (← e, ne-eqb k 0 z)
-
-  number-accepted : (k : ℕ) → maxTableNodes ≤ length o → k ≡ ruleRefusal R → k ≡ 0 → rewriteNumber short R mask o ≡ accepted
-  unfolding orElse pick
-  number-accepted k h e z =
-      let y : ruleRefusal R ≡ 0 = sym e ∙ z in
-      number-long h ∙ rw (y, rewritten-fits short R mask y)
-
   pub rewrote-short : length o < maxTableNodes → Rewrote short controller count ws mask o (Refused 13) o
-  unfolding rewriteAnswer rewriteTable answer left pick
-  rewrote-short h = record { answered = rw (number-short h); table = rw (number-short h) }
+  unfolding rewriteAnswer rewriteTable answer pick
+  rewrote-short h = record { answered = rw (number-short h); table = rw (number-short h) (sym (left-short maxTableNodes _ o)) }
 
   pub rewrote-refused : (k : ℕ) (o′ : List ℕ) → maxTableNodes ≤ length o → k ≡ ruleRefusal R → (k ≡ 0 → ⊥) → o′ ≡ cleared o 0 maxTableNodes →
       Rewrote short controller count ws mask o (Refused k) o′
-  unfolding rewriteAnswer rewriteTable answer left pick cleared
+  unfolding rewriteAnswer rewriteTable answer pick cleared orElse
   rewrote-refused k o′ h e z c =
-      let m : k ≤ 4 = rw (← e) at (rule-most R) in
+      let n : rewriteNumber short R mask o ≡ k = number-long h ∙ rw (← e, ne-eqb k 0 z) in
+      let m : k < 12 = rw e (rule-low R) in
       record {
-        answered = rw (number-refused k h e z, ne-eqb k 0 z);
-        table = c ∙ rw (number-refused k h e z, ne-eqb k 0 z, ne-eqb k 13 (λ y. omega arith));
+        answered = rw (n, ne-eqb k 0 z);
+        table = c ∙ rw n (sym (left-refused k maxTableNodes _ o z (omega arith)));
       }
 
-  pub rewrote-done : (k : ℕ) (t : Tops) (o′ o″ : List ℕ) → maxTableNodes ≤ length o → k ≡ ruleRefusal R → k ≡ 0 → Tabled short mask count ws o t o′ →
-      o″ ≡ cleared o′ (t .count) maxTableNodes → Rewrote short controller count ws mask o (Rewritten (t .count) (t .weak) (t .strong)) o″
-  unfolding rewriteAnswer rewriteTable answer left pick cleared
-  rewrote-done k t o′ o″ h e z b c =
-      let T : List words.Node = (rewrittenOf short R mask) .nodes in
-      let n : t .count ≡ length T = b .holds .next in
-      let l : length (map nodeWord T) ≡ t .count = map-length T ∙ sym n in
-      let m : t .count + (maxTableNodes - t .count) ≡ maxTableNodes = omega (arith, b .low) in
-      let front : take (t .count) o′ ≡ map nodeWord T = seam-take o o′ (map nodeWord T) (t .count) (b .holds .words) l in
-      let rest : drop maxTableNodes o′ ≡ drop maxTableNodes o =
-      rw m at (seam-drop o o′ (map nodeWord T) (t .count) (b .holds .words) l (maxTableNodes - t .count)) in
+  pub rewrote-done : (k : ℕ) (t : Tops) (o′ : List ℕ) → maxTableNodes ≤ length o → k ≡ ruleRefusal R → k ≡ 0 →
+      TableOf (rewriting short mask (nodesIn count ws)) o t o′ → Rewrote short controller count ws mask o (Rewritten (t .count) (t .weak) (t .strong)) o′
+  unfolding rewriteAnswer rewriteTable answer pick orElse
+  rewrote-done k t o′ h e z b =
+      let y : ruleRefusal R ≡ 0 = sym e ∙ z in
+      let n : rewriteNumber short R mask o ≡ accepted = number-long h ∙ rw (y, rewritten-fits short R mask y) in
       record {
-        answered = rw (number-accepted k h e z, b .weak, b .strong, n);
-        table = c ∙ rw (number-accepted k h e z, front, rest, l);
+        answered = rw (n, b .count, b .weak, b .strong);
+        table = b .table ∙ rw n;
       }
 
 pub ruleset rewrite-laws = (needs, ruled, rewrote-short, rewrote-refused, rewrote-done)

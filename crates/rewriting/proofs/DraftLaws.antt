@@ -1,5 +1,5 @@
 -- The nodes of a rule in turn: the loop's invariant, and its turns.
-use mathlib.Core.Bool.{Bool, true, false, not, _&&_, _||_}
+use mathlib.Core.Bool.{Bool, true, false, not, _&&_, _||_, true≢false}
 use mathlib.Core.List.{List, [], _∷_, _++_}
 use mathlib.Core.Path.{_≡_, refl, sym, ap, _∙_}
 use Prim.Native.Nat.{ℕ, zero, suc, _+_, _-_, _*_, _/_, _%_, _^_, _<_, _≤_}
@@ -14,26 +14,33 @@ use lib.Seq.{drop-cons, getD-at, getD-set-same, getD-set-other}
 use Rattle.definitions.specs.Limits.{maxRuleNodes, maxTableNodes, ruleLines}
 use Rattle.definitions.specs.Bounded.{bitOf, orElse}
 use Rattle.definitions.specs.Nodes as words
-use Rattle.definitions.specs.Nodes.{Kind, nodeOf}
-use Rattle.definitions.specs.Tables.{nodeRefusal, nodesRefusal, nodesIn}
+use Rattle.definitions.specs.Nodes.{Kind, kindOf, nodeOf}
+use Rattle.definitions.specs.Tables.{isUnknown, isRewritten, nodeRefusal, nodesRefusal, nodesIn}
 use Rattle.definitions.specs.Rewriting as table
 use Rattle.definitions.specs.Rewriting.{Emit, emit, opening, noImage, imageOf, image, tolerantAt, tolerantOf, part, step, steps, lastImage}
+use Rattle.theorems.proofs.Counts.{emit-count}
 use Rattle.theorems.proofs.Choice.{or-else-none}
 use Rattle.theorems.proofs.NodeLaws.{AcceptedNode, accepted-node, first-below, second-below}
 use Rattle.theorems.proofs.NodeWords.{by-kind}
 use Rattle.formulas.specs.Meaning.{meaning, OfWord}
 use Rattle.formulas.specs.declared.node.Node.{Node}
-use Rattle.rewriting.specs.declared.parts.Image.{Image}
-use Rattle.rewriting.specs.Emission.{Room, Emitted, Holds}
-use Rattle.rewriting.specs.Parts.{meant, Small, partOf, tolerantBy, Stepped}
+use Rattle.formulas.proofs.KindLaws.{kind-cases}
+use Rattle.images.specs.declared.image.Image.{Image}
+use Rattle.images.specs.Emission.{Room, Emitted, Holds}
+use Rattle.images.specs.Images.{meant, Small, partOf, tolerantBy, Stepped}
 use Rattle.rewriting.specs.Drafts.{Index, Ruled, opened, draftOf, Drawn}
-use Rattle.rewriting.proofs.EmitLaws.{holds-more, holds-self, holds-under}
-use Rattle.rewriting.proofs.PartLaws.{part-most}
+use Rattle.images.proofs.EmitLaws.{emit-append, holds-more, holds-self, holds-under}
 
 -- the shift by an atom's number
 pub own-bit : (mask a : ℕ) → eqb (mask / 2 ^ a % 2) 1 ≡ bitOf mask a
 unfolding bitOf
 own-bit mask a = refl
+
+-- a rule's kinds are the first eight
+rule-kind : (k : ℕ) → isUnknown (kindOf k) ≡ false → (isRewritten (kindOf k) && true) ≡ false → k ≤ 7
+rule-kind = kind-cases (λ k K. isUnknown K ≡ false → (isRewritten K && true) ≡ false → k ≤ 7)
+    (λ u r. omega arith) (λ u r. omega arith) (λ u r. omega arith) (λ u r. omega arith) (λ u r. omega arith) (λ u r. omega arith) (λ u r. omega arith) (λ u r. omega arith)
+    (λ u r. absurd (true≢false r)) (λ u r. absurd (true≢false r)) (λ k h u r. absurd (true≢false u))
 
 -- `part` and `tolerantOf` look the operands' images up
 part-same : (short : Bool) (mask : ℕ) (is : List table.Image) (x g : ℕ) (weak : Bool) (a b : ℕ) (K : Kind) →
@@ -80,8 +87,15 @@ low-more is I i m weak sizes pos low h a = go (ℕ-discrete a i) (decLt a i)
         let q : length (is ++ (I ∷ [])) ≤ a = omega (arith, length-append is (I ∷ [])) in
         rw (List·getD-eq-default (is ++ (I ∷ [])) noImage q) (none weak)
 
--- what the loop has done before node i: D is the draft so far, W, S and T hold its images, L the last of them
-pub record Drafting (short : Bool) (mask count : ℕ) (ws o : List ℕ) (i at : ℕ) (W S : List ℕ) (T : List Bool) (L : Image) (o′ : List ℕ) : Type 0 where
+-- the image of a node that is not there, and an image, as the code has them
+abbrev pub nothing : Image
+nothing = record { weak = 0; strong = 0; tolerant = false }
+
+abbrev coded : table.Image → Image
+coded j = record { weak = j .weak; strong = j .strong; tolerant = j .tolerant }
+
+-- what the loop has done before node i: D is the draft so far, I holds its images, L the last of them
+pub record Drafting (short : Bool) (mask count : ℕ) (ws o : List ℕ) (i at : ℕ) (I : List Image) (L : Image) (o′ : List ℕ) : Type 0 where
   pub D : table.Draft
   pub inside : i ≤ count
   pub few : count ≤ maxRuleNodes
@@ -89,16 +103,12 @@ pub record Drafting (short : Bool) (mask count : ℕ) (ws o : List ℕ) (i at : 
   pub fine : nodesRefusal false i (count - i) (drop i ws) ≡ 0
   pub sizes : length (D .images) ≡ i
   pub big : 11 ≤ at
-  pub most : at ≤ 11 + 12 * i
+  pub most : at ≤ 11 + 11 * i
   pub room : maxTableNodes ≤ length o
   pub holds : Holds (D .nodes) o at o′
   pub low : (weak : Bool) (a : ℕ) → image weak (D .images) a < at
-  pub wideW : length W ≡ maxRuleNodes
-  pub wideS : length S ≡ maxRuleNodes
-  pub wideT : length T ≡ maxRuleNodes
-  pub weak : (a : ℕ) → getD W a 0 ≡ (getD (D .images) a noImage) .weak
-  pub strong : (a : ℕ) → getD S a 0 ≡ (getD (D .images) a noImage) .strong
-  pub tolerant : (a : ℕ) → getD T a false ≡ (getD (D .images) a noImage) .tolerant
+  pub wide : length I ≡ maxRuleNodes
+  pub held : (a : ℕ) → getD I a nothing ≡ coded (getD (D .images) a noImage)
   pub last : meant L ≡ lastImage (D .images)
 
 -- a step, with the numbers that its nodes have
@@ -119,7 +129,7 @@ getD-none (suc n) zero d = refl
 getD-none (suc n) (suc a) d = getD-none n a d
 
 pub drafting-start : (short : Bool) (mask count : ℕ) (ws o o′ : List ℕ) (at : ℕ) → Ruled count ws → maxTableNodes ≤ length o → Holds opening o at o′ →
-    Drafting short mask count ws o′ 0 at (replicate 64 0) (replicate 64 0) (replicate 64 false) (record { weak = 0; strong = 0; tolerant = false }) o′
+    Drafting short mask count ws o′ 0 at (replicate 64 nothing) nothing o′
 drafting-start short mask count ws o o′ at r room h = record {
   D = opened;
   inside = omega arith;
@@ -132,12 +142,8 @@ drafting-start short mask count ws o o′ at r room h = record {
   room = omega (arith, h .size);
   holds = holds-self opening o o′ at h;
   low = elim [ true ↦ λ a. omega (arith, h .next) | false ↦ λ a. omega (arith, h .next) ];
-  wideW = length-replicate {A = ℕ} 64 0;
-  wideS = length-replicate {A = ℕ} 64 0;
-  wideT = length-replicate {A = Bool} 64 false;
-  weak = λ a. getD-none 64 a 0;
-  strong = λ a. getD-none 64 a 0;
-  tolerant = λ a. getD-none 64 a false;
+  wide = length-replicate {A = Image} 64 nothing;
+  held = λ a. getD-none 64 a nothing;
   last = refl;
 }
 
@@ -165,8 +171,8 @@ module _ (count i : ℕ) (ws : List ℕ) (h : i < count) (l : i < length ws) whe
   unfolding nodesRefusal
   refusal-cons = rw (more count i h, drop-cons ws i 0 l, ← add-one i)
 
-module _ (short : Bool) (mask count : ℕ) (ws o : List ℕ) (i at : ℕ) (W S : List ℕ) (T : List Bool) (L : Image) (o′ : List ℕ)
-    (d : Drafting short mask count ws o i at W S T L o′) (h : i < count) where
+module _ (short : Bool) (mask count : ℕ) (ws o : List ℕ) (i at : ℕ) (I : List Image) (L : Image) (o′ : List ℕ)
+    (d : Drafting short mask count ws o i at I L o′) (h : i < count) where
   pub read-inside : i < length ws
   read-inside = there i (count - (i + 1)) ws (rw (more count i h) at (d .fine))
 
@@ -180,30 +186,34 @@ module _ (short : Bool) (mask count : ℕ) (ws o : List ℕ) (i at : ℕ) (W S :
     pub first-low : n .first < maxRuleNodes
     first-low = omega (arith, w .first, first-below i (nodeOf (getD ws i 0)) accepted (omega (arith, d .few)))
 
+    pub kind-low : n .kind ≤ 7
+    kind-low =
+        let e : kindOf (n .kind) ≡ (nodeOf (getD ws i 0)) .kind = ap (λ (m : words.Node). m .kind) (w .meant) in
+        rule-kind (n .kind) (rw e (accepted .known)) (rw e (accepted .allowed))
+
     pub second-low : n .second < maxRuleNodes
     second-low = omega (arith, w .second, second-below i (nodeOf (getD ws i 0)) accepted (omega (arith, d .few)))
 
-  pub drafting-room : Room 12 at o′
+  pub drafting-room : Room 11 at o′
   drafting-room = record { low = omega (arith, d .most, d .few); held = omega (arith, d .room, d .holds .size) }
 
-  pub image-small : (a : ℕ) → Small (record { weak = getD W a 0; strong = getD S a 0; tolerant = getD T a false })
+  pub image-small : (a : ℕ) → Small (getD I a nothing)
   image-small a =
       let k : at ≤ maxTableNodes = omega (arith, d .most, d .few) in
-      record { weak = omega (arith, d .weak a, d .low true a); strong = omega (arith, d .strong a, d .low false a) }
+      record { weak = omega (arith, ap (λ (j : Image). j .weak) (d .held a), d .low true a); strong = omega (arith, ap (λ (j : Image). j .strong) (d .held a), d .low false a) }
 
   -- the turn at node n, whose operands are a and b: r is its image
   module _ (n : Node) (a b : ℕ) (own : Bool) (r : Image) (o″ : List ℕ) (w : OfWord (getD ws i 0) n) (ea : Index (n .first) a) (eb : Index (n .second) b)
       (eo : own ≡ bitOf mask a)
-      (s : Stepped short own (record { weak = getD W a 0; strong = getD S a 0; tolerant = getD T a false })
-      (record { weak = getD W b 0; strong = getD S b 0; tolerant = getD T b false }) (meaning n) o′ at r o″) where
+      (s : Stepped short own (meant (getD I a nothing)) (meant (getD I b nothing)) (meaning n) o′ at r o″) where
     abbrev is : List table.Image
     is = d .D .images
 
     abbrev N : words.Node
     N = nodeOf (getD ws i 0)
 
-    looked : (c : ℕ) → _≡_ {A = table.Image} (record { weak = getD W c 0; strong = getD S c 0; tolerant = getD T c false }) (getD is c noImage)
-    looked c = rw (d .weak c, d .strong c, d .tolerant c)
+    looked : (c : ℕ) → meant (getD I c nothing) ≡ getD is c noImage
+    looked c = ap meant (d .held c)
 
     first-same : a ≡ N .first
     first-same = ea .same ∙ ap (λ (m : words.Node). m .first) (w .meant)
@@ -215,8 +225,7 @@ module _ (short : Bool) (mask count : ℕ) (ws o : List ℕ) (i at : ℕ) (W S :
     own-same = eo ∙ ap (bitOf mask) first-same
 
     parted : (x g : ℕ) (weak : Bool) →
-        partOf short own (record { weak = getD W a 0; strong = getD S a 0; tolerant = getD T a false })
-        (record { weak = getD W b 0; strong = getD S b 0; tolerant = getD T b false }) x g weak ((meaning n) .kind) ((meaning n) .first)
+        partOf short own (meant (getD I a nothing)) (meant (getD I b nothing)) x g weak ((meaning n) .kind) ((meaning n) .first)
         ≡ part short mask is x g weak (N .kind) (N .first) (N .second)
     parted x g weak =
         let p = looked a ∙ ap (λ (c : ℕ). getD is c noImage) first-same in
@@ -226,8 +235,8 @@ module _ (short : Bool) (mask count : ℕ) (ws o : List ℕ) (i at : ℕ) (W S :
 
     tolerated : r .tolerant ≡ tolerantOf mask is (N .kind) (N .first) (N .second)
     tolerated =
-        let p = d .tolerant a ∙ ap (tolerantAt is) first-same in
-        let q = d .tolerant b ∙ ap (tolerantAt is) second-same in
+        let p = ap (λ (j : table.Image). j .tolerant) (looked a) ∙ ap (tolerantAt is) first-same in
+        let q = ap (λ (j : table.Image). j .tolerant) (looked b) ∙ ap (tolerantAt is) second-same in
         s .tolerant ∙ rw (p, q, own-same) (ap (λ (m : words.Node). tolerantBy (bitOf mask (N .first)) (tolerantAt is (N .first)) (tolerantAt is (N .second)) (m .kind)) (w .meant)
         ∙ tolerant-same mask is (N .first) (N .second) (N .kind))
 
@@ -237,17 +246,15 @@ module _ (short : Bool) (mask count : ℕ) (ws o : List ℕ) (i at : ℕ) (W S :
     abbrev strongPart : List Emit
     strongPart = part short mask is at (s .middle) false (N .kind) (N .first) (N .second)
 
-    weakly : Emitted weakPart o′ at (s .middle) (s .between)
-    weakly = rw (parted at at true) at (s .weakly)
-
-    strongly : Emitted strongPart (s .between) (s .middle) (r .strong + 1) o″
-    strongly = rw (parted at (s .middle) false) at (s .strongly)
-
-    holds-weak : Holds (emit (d .D .nodes) weakPart) o (s .middle) (s .between)
-    holds-weak = holds-more (d .D .nodes) weakPart o o′ (s .between) at (s .middle) (d .holds) weakly
-
     holds-both : Holds (emit (emit (d .D .nodes) weakPart) strongPart) o (r .strong + 1) o″
-    holds-both = holds-more (emit (d .D .nodes) weakPart) strongPart o (s .between) o″ (s .middle) (r .strong + 1) holds-weak strongly
+    holds-both =
+        let both : Emitted (weakPart ++ strongPart) o′ at (r .strong + 1) o″ = rw (parted at at true, parted at (s .middle) false) at (s .emits) in
+        rw (emit-append (d .D .nodes) weakPart strongPart) at (holds-more (d .D .nodes) (weakPart ++ strongPart) o o′ o″ at (r .strong + 1) (d .holds) both)
+
+    middle-is : s .middle ≡ length (emit (d .D .nodes) weakPart)
+    middle-is =
+        let w : s .middle ≡ at + length weakPart = rw (parted at at true) at (s .weakly) in
+        omega (arith, d .holds .next, emit-count (d .D .nodes) weakPart)
 
     abbrev E : table.Draft
     E = record { nodes = emit (emit (d .D .nodes) weakPart) strongPart; images = is ++ (meant r ∷ []) }
@@ -256,32 +263,18 @@ module _ (short : Bool) (mask count : ℕ) (ws o : List ℕ) (i at : ℕ) (W S :
     stepped-is =
         let u : s .middle - 1 ≡ r .weak = omega (arith, s .weak) in
         let v : r .strong + 1 - 1 ≡ r .strong = omega arith in
-        step-is short mask (d .D) N at (s .middle) (r .strong + 1) (d .holds .next) (holds-weak .next) (holds-both .next) ∙ rw (u, v, ← tolerated)
+        step-is short mask (d .D) N at (s .middle) (r .strong + 1) (d .holds .next) middle-is (holds-both .next) ∙ rw (u, v, ← tolerated)
 
     left-more : steps short mask opened (nodesIn count ws) ≡ steps short mask E (nodesIn (count - (i + 1)) (drop (i + 1) ws))
     left-more =
         d .left ∙ ap (steps short mask (d .D)) (nodes-cons count i ws h read-inside)
         ∙ ap (λ (F : table.Draft). steps short mask F (nodesIn (count - (i + 1)) (drop (i + 1) ws))) stepped-is
 
-    abbrev P : table.Image
-    P = record { weak = getD W a 0; strong = getD S a 0; tolerant = getD T a false }
-
-    abbrev Q : table.Image
-    Q = record { weak = getD W b 0; strong = getD S b 0; tolerant = getD T b false }
-
-    grown : (at ≤ s .middle) × (s .middle ≤ r .strong + 1) × (r .strong + 1 ≤ at + 12)
-    grown =
-        let u = s .weakly .next in
-        let v = s .strongly .next in
-        let x = part-most short own true P Q at at ((meaning n) .first) ((meaning n) .kind) in
-        let y = part-most short own false P Q at (s .middle) ((meaning n) .first) ((meaning n) .kind) in
-        (omega arith, omega arith, omega arith)
-
     below : (weak : Bool) → imageOf weak (meant r) < r .strong + 1
-    below true = omega (arith, s .weak, grown .1)
+    below true = omega (arith, s .grown)
     below false = omega arith
 
-    pub drafting-next : Drafting short mask count ws o (i + 1) (r .strong + 1) (set W i (r .weak)) (set S i (r .strong)) (set T i (r .tolerant)) r o″
+    pub drafting-next : Drafting short mask count ws o (i + 1) (r .strong + 1) (set I i r) r o″
     drafting-next =
         let k : i < maxRuleNodes = omega (arith, d .few) in
         let z : length (is ++ (meant r ∷ [])) - 1 ≡ i = omega (arith, length-append is (meant r ∷ []), d .sizes) in
@@ -292,23 +285,19 @@ module _ (short : Bool) (mask count : ℕ) (ws o : List ℕ) (i at : ℕ) (W S :
           left = left-more;
           fine = both-fine .1;
           sizes = length-append is (meant r ∷ []) ∙ rw (d .sizes);
-          big = omega (arith, d .big, grown .0, grown .1);
-          most = omega (arith, d .most, grown .2);
+          big = omega (arith, d .big, s .weakly, s .weak, s .grown);
+          most = omega (arith, d .most, s .most);
           room = d .room;
           holds = holds-both;
-          low = λ weak. low-more is (meant r) i (r .strong + 1) weak (d .sizes) (omega arith) (λ a. omega (arith, d .low weak a, grown .0, grown .1)) (below weak);
-          wideW = length-set W i (r .weak) ∙ d .wideW;
-          wideS = length-set S i (r .strong) ∙ d .wideS;
-          wideT = length-set T i (r .tolerant) ∙ d .wideT;
-          weak = found (λ j. j .weak) W is (meant r) 0 i (omega (arith, d .wideW)) (d .sizes) refl (d .weak);
-          strong = found (λ j. j .strong) S is (meant r) 0 i (omega (arith, d .wideS)) (d .sizes) refl (d .strong);
-          tolerant = found (λ j. j .tolerant) T is (meant r) false i (omega (arith, d .wideT)) (d .sizes) refl (d .tolerant);
+          low = λ weak. low-more is (meant r) i (r .strong + 1) weak (d .sizes) (omega arith) (λ a. omega (arith, d .low weak a, s .weakly, s .weak, s .grown)) (below weak);
+          wide = length-set I i r ∙ d .wide;
+          held = found coded I is (meant r) nothing i (omega (arith, d .wide)) (d .sizes) refl (d .held);
           last = sym (rw z (getD-at is (meant r) [] noImage i (d .sizes)));
         }
 
-pub drafting-done : (short : Bool) (mask count : ℕ) (ws o o₀ : List ℕ) (m i at : ℕ) (W S : List ℕ) (T : List Bool) (L : Image) (o′ : List ℕ) →
-    Holds opening o m o₀ → Drafting short mask count ws o₀ i at W S T L o′ → count ≤ i → Drawn short mask count ws o (record { at = at; last = L }) o′
-drafting-done short mask count ws o o₀ m i at W S T L o′ b d h =
+pub drafting-done : (short : Bool) (mask count : ℕ) (ws o o₀ : List ℕ) (m i at : ℕ) (I : List Image) (L : Image) (o′ : List ℕ) →
+    Holds opening o m o₀ → Drafting short mask count ws o₀ i at I L o′ → count ≤ i → Drawn short mask count ws o (record { at = at; last = L }) o′
+drafting-done short mask count ws o o₀ m i at I L o′ b d h =
     let z : count - i ≡ 0 = omega arith in
     let e : draftOf short mask count ws ≡ d .D = d .left ∙ rw z in
     let l : (weak : Bool) → imageOf weak (meant L) < at = λ weak. rw (d .last) (d .low weak (length (d .D .images) - 1)) in
@@ -320,4 +309,4 @@ drafting-done short mask count ws o o₀ m i at W S T L o′ b d h =
       small = record { weak = omega (arith, l true, d .most, d .inside, d .few); strong = omega (arith, l false, d .most, d .inside, d .few) };
     }
 
-pub ruleset draft-laws = (needs, drafting-start, read-inside, first-low, second-low, drafting-room, image-small, drafting-next, drafting-done)
+pub ruleset draft-laws = (needs, drafting-start, read-inside, kind-low, first-low, second-low, drafting-room, image-small, drafting-next, drafting-done)

@@ -1,16 +1,19 @@
 -- What a rewriting answers, and what it leaves in the table.
 use mathlib.Core.Bool.{Bool}
-use mathlib.Core.List.{List, [], _∷_}
+use mathlib.Core.List.{List, [], _∷_, map}
 use mathlib.Core.Path.{_≡_}
 use Prim.Native.Nat.{ℕ, _≤_}
+use lib.ListN.{length}
 use Rattle.definitions.specs.Limits.{accepted, maxTableNodes}
-use Rattle.definitions.specs.Tables.{Rule, nodesIn}
+use Rattle.definitions.specs.Tables.{Rule, nodesIn, ruleOf}
+use Rattle.definitions.specs.Nodes.{nodeWord}
+use Rattle.definitions.specs.Rewriting as table
 use Rattle.definitions.specs.Rewriting.{rewriting}
-use Rattle.definitions.specs.Operations.{Answer, rewriteAnswer, rewriteTable}
+use Rattle.definitions.specs.Operations.{Answer, left, rewriteAnswer, rewriteTable}
 use Rattle.rewriting.specs.declared.rewrite.Rewriting.{Rewriting}
 use Rattle.rewriting.specs.declared.rewrite.Rewriting.the-variants.{Rewritten, Refused}
-use Rattle.rewriting.specs.declared.rewrite.Tops.{Tops}
-use Rattle.rewriting.specs.Emission.{Holds}
+use Rattle.images.specs.declared.image.Tops.{Tops}
+use Rattle.images.specs.Emission.{Holds}
 
 -- document 01's number and values for each case
 abbrev pub answerOf : Rewriting → Answer
@@ -24,9 +27,13 @@ pub record Tabled (short : Bool) (mask count : ℕ) (ws o : List ℕ) (r : Tops)
   pub strong : r .strong ≡ (rewriting short mask (nodesIn count ws)) .strongTop
   pub low : r .count ≤ maxTableNodes
 
--- the rule as tables
-abbrev pub ruleOf : ℕ → ℕ → List ℕ → Rule
-ruleOf controller count nodes = record { controller = controller; count = count; nodes = nodes }
+-- the table of a rule in lent space, the rest of its full size zero, and r tells its count and tops
+pub record TableOf (T : table.Rewritten) (o : List ℕ) (r : Tops) (o′ : List ℕ) : Type 0 where
+  pub table : o′ ≡ left accepted maxTableNodes (map nodeWord (T .nodes)) o
+  pub count : r .count ≡ length (T .nodes)
+  pub few : r .count ≤ maxTableNodes
+  pub weak : r .weak ≡ T .weakTop
+  pub strong : r .strong ≡ T .strongTop
 
 -- the whole answer and the whole lent table, on every input: "rewrite plain or short (rule and own mask, any 32 bits)"
 pub record Rewrote (short : Bool) (controller count : ℕ) (nodes : List ℕ) (mask : ℕ) (entry : List ℕ) (r : Rewriting) (exit : List ℕ) : Type 0 where

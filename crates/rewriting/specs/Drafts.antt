@@ -8,8 +8,8 @@ use Rattle.definitions.specs.Tables.{nodesRefusal, nodesIn}
 use Rattle.definitions.specs.Rewriting as table
 use Rattle.definitions.specs.Rewriting.{opening, steps, lastImage}
 use Rattle.rewriting.specs.declared.drafts.Draft.{Draft}
-use Rattle.rewriting.specs.Emission.{Holds}
-use Rattle.rewriting.specs.Parts.{meant, Small}
+use Rattle.images.specs.Emission.{Holds}
+use Rattle.images.specs.Images.{meant, Small}
 
 -- r is an operand, small enough for an index
 pub record Index (a r : ℕ) : Type 0 where

@@ -5,11 +5,11 @@ ghost use lib.ListN.{length};
 ghost use Rattle.definitions.specs.Limits.{maxRuleNodes, maxTableNodes};
 ghost use Rattle.definitions.specs.Bounded.{bitOf};
 ghost use Rattle.rewriting.specs.Drafts.{Index, Ruled, Drawn};
-use super::lists;
-use super::parts::Image;
-use super::parts::step;
 use formulas::limits::Limits;
 use formulas::node::Node;
+use images::image::Image;
+use images::image::opening;
+use images::image::step;
 
 // How many nodes were emitted, and the image of the last of the rule's nodes.
 pub struct Draft {
@@ -33,39 +33,27 @@ fn is_own(mask: u32, a: usize) -> bool
     (mask as u64 >> a) % 2 == 1
 }
 
-// "Then each rule node in turn"; the arrays hold the images so far, 0 for a node that is not there.
+// "Then each rule node in turn"; the array holds the images so far.
 pub fn steps(table: &mut [u32], short: bool, mask: u32, count: usize, nodes: &[u32]) -> Draft
     requires { ⌜ (Ruled count (now nodes)) × (maxTableNodes ≤ length (now table)) ⌝ }
     ensures { λ r. ⌜ Drawn short mask count (now (nodes .entry)) (now (table .entry)) r (now (table .exit)) ⌝ }
 {
-    let mut weak: [u16; Limits::RULE_NODES] = [0; Limits::RULE_NODES];
-    let mut strong: [u16; Limits::RULE_NODES] = [0; Limits::RULE_NODES];
-    let mut tolerant: [bool; Limits::RULE_NODES] = [false; Limits::RULE_NODES];
-    let mut last = Image {
+    let none = Image {
         weak: 0,
         strong: 0,
         tolerant: false,
     };
-    let mut at = lists::opening(table);
+    let mut images: [Image; Limits::RULE_NODES] = [none; Limits::RULE_NODES];
+    let mut last = none;
+    let mut at = opening(table);
     let mut i = 0;
     while i < count {
         let n = Node::of_word(nodes[i]);
         let a = index(n.first);
         let b = index(n.second);
-        let p = Image {
-            weak: weak[a],
-            strong: strong[a],
-            tolerant: tolerant[a],
-        };
-        let q = Image {
-            weak: weak[b],
-            strong: strong[b],
-            tolerant: tolerant[b],
-        };
-        last = step(table, at, short, is_own(mask, a), n, p, q);
-        weak[i] = last.weak;
-        strong[i] = last.strong;
-        tolerant[i] = last.tolerant;
+        let own = is_own(mask, a);
+        last = step(table, at, short, own, n, images[a], images[b]);
+        images[i] = last;
         at = last.strong as usize + 1;
         i += 1;
     }

@@ -3,26 +3,22 @@ ghost use mathlib.Core.Bool.{false, true};
 ghost use Prim.Native.Nat.{_≤_};
 ghost use lib.ListN.{length};
 ghost use Rattle.definitions.specs.Limits.{maxTableNodes};
+ghost use Rattle.definitions.specs.Tables.{nodesIn};
+ghost use Rattle.definitions.specs.Rewriting.{rewriting};
 ghost use Rattle.rewriting.specs.Drafts.{Ruled};
-ghost use Rattle.rewriting.specs.Answers.{Tabled, Rewrote};
+ghost use Rattle.rewriting.specs.Answers.{Tabled, TableOf, Rewrote};
 use super::drafts::steps;
-use super::lists;
-use formulas::check::rule_refusal;
 use formulas::limits::Limits;
 use formulas::limits::Refusal;
-use rows::lent::clear_u32;
+use images::image::Tops;
+use images::image::closing;
+use lent::clear_u32;
+use table_check::rule_refusal;
 
 // What a rewriting answers: the node count, the weak and the strong top; or the number of a refusal.
 pub enum Rewriting {
     Rewritten(usize, usize, usize),
     Refused(u8),
-}
-
-// "The result carries node count and both tops."
-pub struct Tops {
-    pub count: usize,
-    pub weak: usize,
-    pub strong: usize,
 }
 
 // "a tolerant rule has no closing; its tops are its own w and s", for the short rewriting only.
@@ -39,13 +35,23 @@ fn tabled(table: &mut [u32], short: bool, mask: u32, count: usize, nodes: &[u32]
             strong: last.strong as usize,
         };
     }
-    let middle = lists::closing_of(table, draft.at, true, last.weak);
-    let end = lists::closing_of(table, middle, false, last.strong);
-    Tops {
-        count: end,
-        weak: middle - 1,
-        strong: end - 1,
-    }
+    closing(table, draft.at, last)
+}
+
+// The table of an accepted rule, with the rest of its full size zero.
+pub fn rewrite_accepted(
+    short: bool,
+    count: usize,
+    nodes: &[u32],
+    mask: u32,
+    table: &mut [u32],
+) -> Tops
+    requires { ⌜ (Ruled count (now nodes)) × (maxTableNodes ≤ length (now table)) ⌝ }
+    ensures { λ r. ⌜ TableOf (rewriting short mask (nodesIn count (now (nodes .entry)))) (now (table .entry)) r (now (table .exit)) ⌝ }
+{
+    let tops = tabled(table, short, mask, count, nodes);
+    clear_u32(table, tops.count, Limits::TABLE_NODES);
+    tops
 }
 
 // 13, then the rule. An accepted rule's table has at most 723 nodes (theorems: Counts), so 12 is never met.
@@ -67,8 +73,7 @@ pub fn rewrite(
         clear_u32(table, 0, Limits::TABLE_NODES);
         return Rewriting::Refused(refusal);
     }
-    let tops = tabled(table, short, mask, count, nodes);
-    clear_u32(table, tops.count, Limits::TABLE_NODES);
+    let tops = rewrite_accepted(short, count, nodes, mask, table);
     Rewriting::Rewritten(tops.count, tops.weak, tops.strong)
 }
 

@@ -1,6 +1,3 @@
-pub mod LentLaws
-pub mod OperatorLaws
+pub mod PackedLaws
 pub mod RowLaws
-pub mod StateLaws
-pub mod WordLaws
-pub mod LeftLaws
+pub mod StoredLaws

@@ -1,4 +1,2 @@
-pub mod Lent
-pub mod Lists
 pub mod Marks
-pub mod Words
+pub mod Stored

@@ -1,3 +1,3 @@
-pub mod lent;
+// Rows of marks and their operators, computed on whole words, and rows in lent space.
 pub mod row;
-pub mod word;
+pub mod stored;

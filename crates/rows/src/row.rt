@@ -1,17 +1,20 @@
 // Rows of marks: "A row is 128 yes-or-no marks with the count of states it covers".
 ghost use mathlib.Core.Path.{_≡_};
-ghost use mathlib.Core.Bool.{Bool, true, false, not, _||_};
-ghost use mathlib.Core.List.{List};
+ghost use mathlib.Core.Bool.{true, false, not, _&&_, _||_};
 ghost use Prim.Native.Nat.{_<_, _≤_};
-ghost use lib.ListN.{length, set, getD};
+ghost use lib.ListN.{length, getD};
 ghost use Rattle.definitions.specs.Limits.{maxStates, wordMarks};
 ghost use Rattle.definitions.specs.Bounded.{tabulate, bitOf};
 ghost use Rattle.definitions.specs.Readings.{nextAt, untilAt, prevAt, sinceAt};
-ghost use Rattle.rows.specs.Marks.{markAt, marks, packed, yesMarks, lastAt, Whole, Made};
-use super::word::gather;
-use super::word::ones;
-use super::word::since_word;
-use super::word::until_word;
+ghost use Rattle.rows.specs.Marks.{marks, lowWord, highWord, Whole, Made};
+ghost use Rattle.mark_words.specs.Lists.{lastOnly};
+ghost use Rattle.mark_words.specs.Marks.{markAt, yesMarks, lastAt};
+use mark_words::WORD_MARKS;
+use mark_words::gather;
+use mark_words::last_word;
+use mark_words::ones;
+use mark_words::since_word;
+use mark_words::until_word;
 
 pub struct Row {
     pub words: [u64; 2],
@@ -19,36 +22,62 @@ pub struct Row {
 }
 
 impl Row {
-    // The most marks of a row.
-    pub const MARKS: usize = 128;
-
-    // The marks of one word.
-    pub const WORD: usize = 64;
-
-    pub fn none(count: usize) -> Row
-        requires { ⌜ count ≤ maxStates ⌝ }
-        ensures { λ r. ⌜ Made r count (tabulate count (λ k. false)) ⌝ }
+    // The word of places 0 to 63.
+    pub fn low(self) -> u64
+        requires { ⌜ Whole self ⌝ }
+        ensures { λ r. ⌜ r ≡ lowWord self ⌝ }
     {
-        Row {
-            words: [0, 0],
-            count: count,
-        }
+        let words = self.words;
+        words[0]
+    }
+
+    // The word of places 64 to 127.
+    pub fn high(self) -> u64
+        requires { ⌜ Whole self ⌝ }
+        ensures { λ r. ⌜ r ≡ highWord self ⌝ }
+    {
+        let words = self.words;
+        words[1]
     }
 
     pub fn full(count: usize) -> Row
         requires { ⌜ count ≤ maxStates ⌝ }
         ensures { λ r. ⌜ Made r count (tabulate count (λ k. true)) ⌝ }
     {
-        if count <= Row::WORD {
+        if count <= WORD_MARKS {
             return Row {
                 words: [ones(count), 0],
                 count: count,
             };
         }
         Row {
-            words: [ones(Row::WORD), ones(count - Row::WORD)],
+            words: [ones(WORD_MARKS), ones(count - WORD_MARKS)],
             count: count,
         }
+    }
+
+    // No mark but the last place's, if that is yes.
+    fn last(count: usize, yes: bool) -> Row
+        requires { ⌜ count ≤ maxStates ⌝ }
+        ensures { λ r. ⌜ Made r count (lastOnly yes count) ⌝ }
+    {
+        if count <= WORD_MARKS {
+            return Row {
+                words: [last_word(count, yes), 0],
+                count: count,
+            };
+        }
+        Row {
+            words: [0, last_word(count - WORD_MARKS, yes)],
+            count: count,
+        }
+    }
+
+    pub fn none(count: usize) -> Row
+        requires { ⌜ count ≤ maxStates ⌝ }
+        ensures { λ r. ⌜ Made r count (tabulate count (λ k. false)) ⌝ }
+    {
+        Row::last(count, false)
     }
 
     // Bit `bit` of each of the first n states.
@@ -56,7 +85,7 @@ impl Row {
         requires { ⌜ (n ≤ maxStates) × (n ≤ length (now states)) × (bit < wordMarks) ⌝ }
         ensures { λ r. ⌜ Made r n (tabulate n (λ k. bitOf (getD (now (states .entry)) k 0) bit)) ⌝ }
     {
-        if n <= Row::WORD {
+        if n <= WORD_MARKS {
             return Row {
                 words: [gather(states, 0, n, bit), 0],
                 count: n,
@@ -64,8 +93,8 @@ impl Row {
         }
         Row {
             words: [
-                gather(states, 0, Row::WORD, bit),
-                gather(states, Row::WORD, n, bit),
+                gather(states, 0, WORD_MARKS, bit),
+                gather(states, WORD_MARKS, n, bit),
             ],
             count: n,
         }
@@ -76,8 +105,8 @@ impl Row {
         ensures { λ r. ⌜ r ≡ markAt (marks self) i ⌝ }
     {
         let words = self.words;
-        let w = i / Row::WORD;
-        (words[w] >> (i % Row::WORD)) % 2 == 1
+        let w = i / WORD_MARKS;
+        (words[w] >> (i % WORD_MARKS)) % 2 == 1
     }
 
     // How many marks are yes.
@@ -85,52 +114,7 @@ impl Row {
         requires { ⌜ Whole self ⌝ }
         ensures { λ r. ⌜ r ≡ yesMarks (marks self) ⌝ }
     {
-        let words = self.words;
-        u64::count_ones(words[0]) + u64::count_ones(words[1])
-    }
-
-    // The row with yes at i.
-    fn put(self, i: usize) -> Row
-        requires { ⌜ i < maxStates ⌝ }
-        ensures { λ r. ⌜ ((l : List Bool) → self ≡ packed l → i < length l → r ≡ packed (set l i true)) ⌝ }
-    {
-        let mut words = self.words;
-        let w = i / Row::WORD;
-        words[w] = words[w] | (1u64 << (i % Row::WORD));
-        Row {
-            words: words,
-            count: self.count,
-        }
-    }
-
-    // The row with the mark at i as told, where it was no.
-    fn with(self, i: usize, yes: bool) -> Row
-        requires { ⌜ i < maxStates ⌝ }
-        ensures { λ r. ⌜ ((l : List Bool) → self ≡ packed l → i < length l → getD l i false ≡ false → r ≡ packed (set l i yes)) ⌝ }
-    {
-        if yes {
-            return self.put(i);
-        }
-        self
-    }
-
-    // The row with `weak` at its last place: a foreign atom's there.
-    pub fn with_last(self, weak: bool) -> Row
-        requires { ⌜ Whole self ⌝ }
-        ensures { λ r. ⌜ Made r (self .count) (tabulate (self .count) (lastAt weak (self .count) (markAt (marks self)))) ⌝ }
-    {
-        let n = self.count;
-        if n == 0 {
-            return self;
-        }
-        let before = Row::full(n - 1);
-        let b = before.words;
-        let w = self.words;
-        let cut = Row {
-            words: [w[0] & b[0], w[1] & b[1]],
-            count: n,
-        };
-        cut.with(n - 1, weak)
+        u64::count_ones(self.low()) + u64::count_ones(self.high())
     }
 
     pub fn not(self) -> Row
@@ -138,10 +122,8 @@ impl Row {
         ensures { λ r. ⌜ Made r (self .count) (tabulate (self .count) (λ k. not (markAt (marks self) k))) ⌝ }
     {
         let full = Row::full(self.count);
-        let f = full.words;
-        let w = self.words;
         Row {
-            words: [f[0] ^ w[0], f[1] ^ w[1]],
+            words: [full.low() ^ self.low(), full.high() ^ self.high()],
             count: self.count,
         }
     }
@@ -150,51 +132,56 @@ impl Row {
         requires { ⌜ (Whole self) × (Whole q) × (self .count ≡ q .count) ⌝ }
         ensures { λ r. ⌜ Made r (self .count) (tabulate (self .count) (λ k. markAt (marks self) k || markAt (marks q) k)) ⌝ }
     {
-        let a = self.words;
-        let b = q.words;
         Row {
-            words: [a[0] | b[0], a[1] | b[1]],
+            words: [self.low() | q.low(), self.high() | q.high()],
             count: self.count,
         }
+    }
+
+    fn and(self, q: Row) -> Row
+        requires { ⌜ (Whole self) × (Whole q) × (self .count ≡ q .count) ⌝ }
+        ensures { λ r. ⌜ Made r (self .count) (tabulate (self .count) (λ k. markAt (marks self) k && markAt (marks q) k)) ⌝ }
+    {
+        Row {
+            words: [self.low() & q.low(), self.high() & q.high()],
+            count: self.count,
+        }
+    }
+
+    // The row with `weak` at its last place: a foreign atom's there.
+    pub fn with_last(self, weak: bool) -> Row
+        requires { ⌜ Whole self ⌝ }
+        ensures { λ r. ⌜ Made r (self .count) (tabulate (self .count) (lastAt weak (self .count) (markAt (marks self)))) ⌝ }
+    {
+        let before = self.and(Row::last(self.count, true).not());
+        before.or(Row::last(self.count, weak))
     }
 
     pub fn next(self, weak: bool) -> Row
         requires { ⌜ Whole self ⌝ }
         ensures { λ r. ⌜ Made r (self .count) (tabulate (self .count) (nextAt weak (self .count) (markAt (marks self)))) ⌝ }
     {
-        let n = self.count;
-        if n == 0 {
-            return self;
-        }
-        let w = self.words;
+        let low = self.low();
+        let high = self.high();
         let moved = Row {
-            words: [(w[0] >> 1) | (w[1] << (Row::WORD - 1)), w[1] >> 1],
-            count: n,
+            words: [(low >> 1) | (high << (WORD_MARKS - 1)), high >> 1],
+            count: self.count,
         };
-        moved.with(n - 1, weak)
+        moved.or(Row::last(self.count, weak))
     }
 
-    // The weak ending and the high word's first mark enter as marks at last places, so the words are filled as strong.
+    // The weak ending is q at the last place, where p is; the high word's first place enters the low word in the same way.
     pub fn until(self, q: Row, weak: bool) -> Row
         requires { ⌜ (Whole self) × (Whole q) × (self .count ≡ q .count) ⌝ }
         ensures { λ r. ⌜ Made r (self .count) (tabulate (self .count) (untilAt weak (self .count) (markAt (marks self)) (markAt (marks q)))) ⌝ }
     {
-        let n = self.count;
-        if n == 0 {
-            return self;
-        }
-        let last = Row::none(n).with(n - 1, weak);
-        let k = last.words;
-        let a = self.words;
-        let b = q.words;
-        let high = until_word(a[1], b[1] | (a[1] & k[1]));
-        let low = until_word(
-            a[0],
-            (b[0] | (a[0] & k[0])) | (a[0] & (high << (Row::WORD - 1))),
-        );
+        let ended = q.or(self.and(Row::last(self.count, weak)));
+        let p = self.low();
+        let high = until_word(self.high(), ended.high());
+        let low = until_word(p, ended.low() | (p & (high << (WORD_MARKS - 1))));
         Row {
             words: [low, high],
-            count: n,
+            count: self.count,
         }
     }
 
@@ -203,13 +190,10 @@ impl Row {
         ensures { λ r. ⌜ Made r (self .count) (tabulate (self .count) (prevAt (markAt (marks self)))) ⌝ }
     {
         let full = Row::full(self.count);
-        let f = full.words;
-        let w = self.words;
+        let low = self.low();
+        let carried = (self.high() << 1) | (low >> (WORD_MARKS - 1));
         Row {
-            words: [
-                (w[0] << 1) & f[0],
-                ((w[1] << 1) | (w[0] >> (Row::WORD - 1))) & f[1],
-            ],
+            words: [(low << 1) & full.low(), carried & full.high()],
             count: self.count,
         }
     }
@@ -218,10 +202,8 @@ impl Row {
         requires { ⌜ (Whole self) × (Whole q) × (self .count ≡ q .count) ⌝ }
         ensures { λ r. ⌜ Made r (self .count) (tabulate (self .count) (sinceAt (markAt (marks self)) (markAt (marks q)))) ⌝ }
     {
-        let a = self.words;
-        let b = q.words;
-        let low = since_word(a[0], b[0], 0);
-        let high = since_word(a[1], b[1], low >> (Row::WORD - 1));
+        let low = since_word(self.low(), q.low(), 0);
+        let high = since_word(self.high(), q.high(), low >> (WORD_MARKS - 1));
         Row {
             words: [low, high],
             count: self.count,

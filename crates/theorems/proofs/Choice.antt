@@ -1,12 +1,12 @@
 -- Laws of choice by a test, of refusals in order, and of the bounded quantifiers.
 use mathlib.Core.Path.{_≡_, refl, sym}
-use Prim.Native.Nat.{ℕ, zero, suc, _+_, _-_, _≤_, _<_}
+use Prim.Native.Nat.{ℕ, zero, suc, _+_, _≤_, _<_}
 use native.Mathlib.Omega.{arith}
 use native.Mathlib.Decide.{ℕ-discrete}
-use mathlib.Core.Bool.{Bool, true, false, not, _&&_, _||_, true≢false}
+use mathlib.Core.Bool.{Bool, true, false, _&&_, _||_, true≢false}
 use lib.Dec.{eqb}
 use borrow.Author.Tests.{eqb-true, eqb-false, eq-eqb}
-use Rattle.definitions.specs.Bounded.{pick, orElse, someOf, everyOf, some, every}
+use Rattle.definitions.specs.Bounded.{pick, orElse, someOf, everyOf}
 
 -- by cases of a test, with what it answered
 pub by-test : {P : Type 0} (z : Bool) → (z ≡ true → P) → (z ≡ false → P) → P

@@ -2,10 +2,10 @@
 use mathlib.Core.Path.{_≡_, refl}
 use Prim.Native.Nat.{ℕ, suc, _+_, _*_, _≤_}
 use native.Mathlib.Omega.{arith}
-use mathlib.Core.Bool.{Bool, true, false, _&&_, cond}
+use mathlib.Core.Bool.{Bool, true, false, _&&_}
 use mathlib.Core.List.{List, [], _∷_}
 use lib.ListN.{length, length-append}
-use Rattle.definitions.specs.Bounded.{bitOf}
+use Rattle.definitions.specs.Bounded.{pick, bitOf}
 use Rattle.definitions.specs.Nodes.{Kind, True, Atom, Not, Or, Next, Until, Prev, Since, Run, End, Unknown, Node}
 use Rattle.definitions.specs.Rewriting.{Emit, emitted, emit, opening, itself, foreignAtom, plainNext, plainUntil, shortNext, shortUntil, Image, image, tolerantAt, part, Draft, step, steps, closing, closed, lastImage, rewriting}
 
@@ -19,11 +19,11 @@ emit-count T es = rw (length-append, emitted-count)
 -- the bracketed numbers
 abbrev pub cost : Bool → ℕ → List Image → Kind → ℕ → ℕ → ℕ
 cost short mask is True a b = 1
-cost short mask is Atom a b = cond (bitOf mask a) 1 5
+cost short mask is Atom a b = pick (bitOf mask a) 1 5
 cost short mask is Not a b = 2
 cost short mask is Or a b = 2
-cost short mask is Next a b = cond (short && tolerantAt is a) 6 10
-cost short mask is Until a b = cond (short && (tolerantAt is a && tolerantAt is b)) 6 11
+cost short mask is Next a b = pick (short && tolerantAt is a) 6 10
+cost short mask is Until a b = pick (short && (tolerantAt is a && tolerantAt is b)) 6 11
 cost short mask is Prev a b = 10
 cost short mask is Since a b = 10
 cost short mask is Run a b = 0
@@ -32,24 +32,25 @@ cost short mask is Unknown a b = 0
 
 part-count : (short : Bool) (mask : ℕ) (is : List Image) (x g h : ℕ) (k : Kind) (a b : ℕ) →
     length (part short mask is x g true k a b) + length (part short mask is x h false k a b) ≡ cost short mask is k a b
+unfolding pick
 part-count short mask is x g h True a b = refl
 part-count short mask is x g h Atom a b = go (bitOf mask a)
   where
-    go : (c : Bool) → length (cond c (itself true Atom a) (foreignAtom true x a)) + length (cond c (itself false Atom a) (foreignAtom false x a)) ≡ cond c 1 5
+    go : (c : Bool) → length (pick c (itself true Atom a) (foreignAtom true x a)) + length (pick c (itself false Atom a) (foreignAtom false x a)) ≡ pick c 1 5
     go true = refl
     go false = refl
 part-count short mask is x g h Not a b = refl
 part-count short mask is x g h Or a b = refl
 part-count short mask is x g h Next a b = go (short && tolerantAt is a)
   where
-    go : (c : Bool) → length (cond c (shortNext true (image true is a)) (plainNext true (image true is a)))
-        + length (cond c (shortNext false (image false is a)) (plainNext false (image false is a))) ≡ cond c 6 10
+    go : (c : Bool) → length (pick c (shortNext true (image true is a)) (plainNext true (image true is a)))
+        + length (pick c (shortNext false (image false is a)) (plainNext false (image false is a))) ≡ pick c 6 10
     go true = refl
     go false = refl
 part-count short mask is x g h Until a b = go (short && (tolerantAt is a && tolerantAt is b))
   where
-    go : (c : Bool) → length (cond c (shortUntil true (image true is a) (image true is b)) (plainUntil true g (image true is a) (image true is b)))
-        + length (cond c (shortUntil false (image false is a) (image false is b)) (plainUntil false h (image false is a) (image false is b))) ≡ cond c 6 11
+    go : (c : Bool) → length (pick c (shortUntil true (image true is a) (image true is b)) (plainUntil true g (image true is a) (image true is b)))
+        + length (pick c (shortUntil false (image false is a) (image false is b)) (plainUntil false h (image false is a) (image false is b))) ≡ pick c 6 11
     go true = refl
     go false = refl
 part-count short mask is x g h Prev a b = refl
@@ -85,7 +86,8 @@ opened = record { nodes = opening; images = [] }
 abbrev pub tolerantRule : Draft → Bool
 tolerantRule D = (lastImage (D .images)) .tolerant
 
-pub closed-count : (c : Bool) (T : List Node) (i : Image) → length ((closed c T i) .nodes) ≡ length T + cond c 0 8
+pub closed-count : (c : Bool) (T : List Node) (i : Image) → length ((closed c T i) .nodes) ≡ length T + pick c 0 8
+unfolding pick
 closed-count true T i = omega arith
 closed-count false T i =
     let w : List Emit = closing true (i .weak) in
@@ -93,23 +95,25 @@ closed-count false T i =
     omega (arith, emit-count T w, emit-count (emit T w) s)
 
 pub rewriting-count : (short : Bool) (mask : ℕ) (ns : List Node) →
-    length ((rewriting short mask ns) .nodes) ≡ 11 + costs short mask opened ns + cond (short && tolerantRule (steps short mask opened ns)) 0 8
+    length ((rewriting short mask ns) .nodes) ≡ 11 + costs short mask opened ns + pick (short && tolerantRule (steps short mask opened ns)) 0 8
 unfolding rewriting
 rewriting-count short mask ns =
     let D : Draft = steps short mask opened ns in
     omega (arith, steps-count short mask opened ns, closed-count (short && tolerantRule D) (D .nodes) (lastImage (D .images)))
 
-cond-most : (c : Bool) (a b : ℕ) → a ≤ b → cond c a b ≤ b
-cond-most true a b h = h
-cond-most false a b h = omega arith
+pick-most : (c : Bool) (a b : ℕ) → a ≤ b → pick c a b ≤ b
+unfolding pick
+pick-most true a b h = h
+pick-most false a b h = omega arith
 
 cost-most : (short : Bool) (mask : ℕ) (is js : List Image) (k : Kind) (a b : ℕ) → cost short mask is k a b ≤ cost false mask js k a b
+unfolding pick
 cost-most short mask is js True a b = omega arith
 cost-most short mask is js Atom a b = omega arith
 cost-most short mask is js Not a b = omega arith
 cost-most short mask is js Or a b = omega arith
-cost-most short mask is js Next a b = cond-most (short && tolerantAt is a) 6 10 (omega arith)
-cost-most short mask is js Until a b = cond-most (short && (tolerantAt is a && tolerantAt is b)) 6 11 (omega arith)
+cost-most short mask is js Next a b = pick-most (short && tolerantAt is a) 6 10 (omega arith)
+cost-most short mask is js Until a b = pick-most (short && (tolerantAt is a && tolerantAt is b)) 6 11 (omega arith)
 cost-most short mask is js Prev a b = omega arith
 cost-most short mask is js Since a b = omega arith
 cost-most short mask is js Run a b = omega arith
@@ -124,18 +128,20 @@ costs-most short mask D P (n ∷ ns) =
     omega (arith, costs-most short mask (step short mask D n) (step false mask P n) ns)
 
 pub short-not-above-plain : (mask : ℕ) (ns : List Node) → length ((rewriting true mask ns) .nodes) ≤ length ((rewriting false mask ns) .nodes)
+unfolding pick
 short-not-above-plain mask ns =
     omega (
       arith,
       rewriting-count true mask ns,
       rewriting-count false mask ns,
       costs-most true mask opened opened ns,
-      cond-most (tolerantRule (steps true mask opened ns)) 0 8 (omega arith),
+      pick-most (tolerantRule (steps true mask opened ns)) 0 8 (omega arith),
     )
 
 cost-bound : (mask : ℕ) (is : List Image) (k : Kind) (a b : ℕ) → cost false mask is k a b ≤ 11
+unfolding pick
 cost-bound mask is True a b = omega arith
-cost-bound mask is Atom a b = omega (arith, cond-most (bitOf mask a) 1 5 (omega arith))
+cost-bound mask is Atom a b = omega (arith, pick-most (bitOf mask a) 1 5 (omega arith))
 cost-bound mask is Not a b = omega arith
 cost-bound mask is Or a b = omega arith
 cost-bound mask is Next a b = omega arith
@@ -158,5 +164,5 @@ rewriting-bound short mask ns =
       rewriting-count short mask ns,
       costs-most short mask opened opened ns,
       costs-bound mask opened ns,
-      cond-most (short && tolerantRule (steps short mask opened ns)) 0 8 (omega arith),
+      pick-most (short && tolerantRule (steps short mask opened ns)) 0 8 (omega arith),
     )

@@ -1,27 +1,32 @@
 -- A rewritten rule reads over the whole recording as the rule reads on the local trace.
 use mathlib.Core.Path.{_≡_, refl, sym, ap, subst, _∙_}
-use Prim.Native.Nat.{ℕ, zero, suc, _+_, _-_, _≤_, _<_}
+use Prim.Native.Nat.{ℕ, zero, suc, _-_, _≤_, _<_}
 use native.Mathlib.Omega.{arith}
-use mathlib.Core.Bool.{Bool, true, false, not, _&&_, _||_, cond, or-false, or-true, and-false, true≢false, Bool·not-not}
+use mathlib.Core.Bool.{Bool, true, false, not, _&&_, _||_, or-false, or-true, true≢false, Bool·not-not}
 use mathlib.Core.List.{List, [], _∷_, _++_}
 use lib.ListN.{length, getD, length-append, List·getD-append}
 use lib.Seq.{getD-at}
 use lib.Dec.{ltb}
 use native.Mathlib.Decide.{decLt}
 use borrow.Author.Tests.{lt-ltb}
-use Rattle.definitions.specs.Bounded.{bitOf}
+use Rattle.definitions.specs.Bounded.{pick, bitOf}
 use Rattle.definitions.specs.Nodes.{Kind, True, Atom, Not, Or, Next, Until, Prev, Since, Run, End, Unknown, Node}
 use Rattle.definitions.specs.Readings.{Trace}
-use Rattle.definitions.specs.Rewriting.{opening, Image, noImage, imageOf, image, tolerantAt, tolerantOf, Draft, step, steps, Rewritten, closed, rewriting, lastImage, topOf}
+use Rattle.definitions.specs.Rewriting.{opening, Image, noImage, imageOf, image, tolerantAt, tolerantOf, Draft, step, steps, Rewritten, closed, rewriting}
 use Rattle.theorems.proofs.Choice.{both-true}
 use Rattle.theorems.proofs.RuleNodes.{RuleNode, RuleNodes}
-use Rattle.theorems.proofs.Recursions.{untilN, sinceB, prevB}
+use Rattle.theorems.proofs.Recursions.{sinceB, prevB}
 use Rattle.theorems.proofs.Counts.{opened}
 use Rattle.theorems.proofs.Walk.{count}
 use Rattle.theorems.proofs.Operators.{States, find-is, until-is, until-tol, seen-is, since-is, place-last, next-is, after-weak, after-strong, at-end}
 use Rattle.theorems.proofs.Semantics.{Row, noRow, nth, ev, evNode, rowsOn, rows, val}
-use Rattle.theorems.proofs.Terms.{Term, ref, yes₀, atom₀, one, two, not₁, next₁, prev₁, or₂, until₂, since₂, comp, top, den, Below, length-rows, length-push, val-new, comp-length, comp-old, comp-size, top-lt, comp-den}
-use Rattle.theorems.proofs.Images.{findX, itselfX, foreignX, untilX, prevX, sinceX, shortNextX, shortUntilX, imageX, termOf, weak-some, stepX, step-terms, closedX, closed-terms}
+use Rattle.theorems.proofs.Terms.{Term, ref, yes₀, atom₀, one, two, next₁, or₂, comp, top, den, Below, length-rows, comp-length, comp-old, comp-size, top-lt, comp-den}
+use Rattle.theorems.proofs.Images.{findX, itselfX, foreignX, untilX, prevX, sinceX, shortNextX, shortUntilX, imageX, termOf, weak-some, step-terms, closedX, closed-terms}
+
+-- the top of one reading
+abbrev pub topOf : (weak : Bool) → (w : Rewritten) → ℕ
+topOf true w = w .weakTop
+topOf false w = w .strongTop
 
 -- the marks of a recording for a controller, as the opening has them
 abbrev pub stOf : (ℕ → Bool) → (ℕ → Bool) → ℕ → Bool
@@ -47,9 +52,10 @@ orr true b c h = refl
 orr false true c h = h
 orr false false c h = absurd (true≢false (sym h))
 
-below-cond : (c : Bool) (n : ℕ) (x y : Term) → Below n x → Below n y → Below n (cond c x y)
-below-cond true n x y p q = p
-below-cond false n x y p q = q
+below-pick : (c : Bool) (n : ℕ) (x y : Term) → Below n x → Below n y → Below n (pick c x y)
+unfolding pick
+below-pick true n x y p q = p
+below-pick false n x y p q = q
 
 below-find : (d : Bool) (n i : ℕ) → 11 ≤ n → i < n → Below n (findX d (ref i))
 below-find true n i h l = omega arith
@@ -146,7 +152,7 @@ module _ (run ends : ℕ → Bool) (mask : ℕ) (bit lbit : ℕ → ℕ → Bool
   abbrev lt : Trace
   lt = record {
     places = suc (count run e);
-    atom = λ a d i. cond (bitOf mask a) (lbit a i) (cond (ltb (suc i) (suc (count run e))) (lbit a i) d);
+    atom = λ a d i. pick (bitOf mask a) (lbit a i) (pick (ltb (suc i) (suc (count run e))) (lbit a i) d);
     run = λ k. false;
     end = λ k. false;
   }
@@ -227,23 +233,25 @@ module _ (run ends : ℕ → Bool) (mask : ℕ) (bit lbit : ℕ → ℕ → Bool
     own-is a x true k hx = refl
     own-is a x false k hx = rw (hx refl)
 
-    foreign-is : (a x : ℕ) (d : Bool) (k : ℕ) → LeafAt d x (gt .atom a) → den gt (foreignX d x a) F d k ≡ cond (run k) (lbit a (count run k)) d
+    foreign-is : (a x : ℕ) (d : Bool) (k : ℕ) → LeafAt d x (gt .atom a) → den gt (foreignX d x a) F d k ≡ pick (run k) (lbit a (count run k)) d
+    unfolding pick
     foreign-is a x true k hx = rw (S .r1) (go (run k) refl)
       where
-        go : (c : Bool) → run k ≡ c → (not c || bit a k) ≡ cond c (lbit a (count run k)) true
+        go : (c : Bool) → run k ≡ c → (not c || bit a k) ≡ pick c (lbit a (count run k)) true
         go true r = law .anyAt a k r
         go false r = refl
     foreign-is a x false k hx = rw (S .r1, hx refl) (go (run k) refl)
       where
-        go : (c : Bool) → run k ≡ c → not (not c || not (bit a k)) ≡ cond c (lbit a (count run k)) false
+        go : (c : Bool) → run k ≡ c → not (not c || not (bit a k)) ≡ pick c (lbit a (count run k)) false
         go true r = rw Bool·not-not (law .anyAt a k r)
         go false r = refl
 
     atom-is : (a x : ℕ) (d : Bool) (k : ℕ) → LeafAt d x (gt .atom a) → k ≤ e → (st k || bitOf mask a) ≡ true →
-        den gt (cond (bitOf mask a) (itselfX d (atom₀ a) x) (foreignX d x a)) F d k ≡ lt .atom a d (count run k)
+        den gt (pick (bitOf mask a) (itselfX d (atom₀ a) x) (foreignX d x a)) F d k ≡ lt .atom a d (count run k)
+    unfolding pick
     atom-is a x d k hx b t = go (bitOf mask a) refl
       where
-        go : (c : Bool) → bitOf mask a ≡ c → den gt (cond (bitOf mask a) (itselfX d (atom₀ a) x) (foreignX d x a)) F d k ≡ lt .atom a d (count run k)
+        go : (c : Bool) → bitOf mask a ≡ c → den gt (pick (bitOf mask a) (itselfX d (atom₀ a) x) (foreignX d x a)) F d k ≡ lt .atom a d (count run k)
         go true o = rw o (own-is a x d k hx ∙ law .ownAt a k o b)
         go false o = let q : st k ≡ true = rw (o, or-false) at t in
             rw (o, place-last run st e states (law .before) k b q) (foreign-is a x d k hx)
@@ -255,9 +263,10 @@ module _ (run ends : ℕ → Bool) (mask : ℕ) (bit lbit : ℕ → ℕ → Bool
 
     next-short : (d : Bool) (a : ℕ) → a < length rs → tolerantAt is a ≡ true → (k : ℕ) → k ≤ e → st k ≡ true →
         den gt (shortNextX d (imageX d is a)) F d k ≡ ev lt (nth rs) Next a 0 d (count run k)
+    unfolding pick
     next-short d a h o k b t = rw (place-last run st e states (law .before) k b t) (go d (run k) refl)
       where
-        go : (d c : Bool) → run k ≡ c → den gt (shortNextX d (imageX d is a)) F d k ≡ cond c (nth rs a d (suc (count run k))) d
+        go : (d c : Bool) → run k ≡ c → den gt (shortNextX d (imageX d is a)) F d k ≡ pick c (nth rs a d (suc (count run k))) d
         go true true r = let i : F (image true is a) true (suc k) ≡ nth rs a true (count run (suc k)) = atTol true a h o (suc k) (law .before k r) in
             rw (S .r3, law .notYet k (law .before k r), lt-ltb (suc k) N (omega (arith, law .before k r, law .inside))) (rw r at i)
         go false true r = let i : F (image false is a) false (suc k) ≡ nth rs a false (count run (suc k)) = atTol false a h o (suc k) (law .before k r) in
@@ -315,20 +324,22 @@ module _ (run ends : ℕ → Bool) (mask : ℕ) (bit lbit : ℕ → ℕ → Bool
 
     module _ (short : Bool) where
       next-is′ : (d : Bool) (a : ℕ) → a < length rs → (k : ℕ) → k ≤ e → st k ≡ true →
-          den gt (cond (short && tolerantAt is a) (shortNextX d (imageX d is a)) (one next₁ (findX d (imageX d is a)))) F d k ≡ ev lt (nth rs) Next a 0 d (count run k)
+          den gt (pick (short && tolerantAt is a) (shortNextX d (imageX d is a)) (one next₁ (findX d (imageX d is a)))) F d k ≡ ev lt (nth rs) Next a 0 d (count run k)
+      unfolding pick
       next-is′ d a h k b t = go (short && tolerantAt is a) refl
         where
-          go : (c : Bool) → (short && tolerantAt is a) ≡ c → den gt (cond c (shortNextX d (imageX d is a)) (one next₁ (findX d (imageX d is a)))) F d k ≡ ev lt (nth rs) Next a 0 d (count run k)
+          go : (c : Bool) → (short && tolerantAt is a) ≡ c → den gt (pick c (shortNextX d (imageX d is a)) (one next₁ (findX d (imageX d is a)))) F d k ≡ ev lt (nth rs) Next a 0 d (count run k)
           go true o = next-short d a h ((both-true short (tolerantAt is a) o) .1) k b t
           go false o = next-plain d a h k b t
 
       until-is′ : (d : Bool) (a b : ℕ) → a < length rs → b < length rs → (k : ℕ) → k ≤ e →
-          den gt (cond (short && (tolerantAt is a && tolerantAt is b)) (shortUntilX d (imageX d is a) (imageX d is b)) (untilX d (imageX d is a) (imageX d is b))) F d k
+          den gt (pick (short && (tolerantAt is a && tolerantAt is b)) (shortUntilX d (imageX d is a) (imageX d is b)) (untilX d (imageX d is a) (imageX d is b))) F d k
           ≡ ev lt (nth rs) Until a b d (count run k)
+      unfolding pick
       until-is′ d a b ha hb k l = go (short && (tolerantAt is a && tolerantAt is b)) refl
         where
           go : (c : Bool) → (short && (tolerantAt is a && tolerantAt is b)) ≡ c →
-              den gt (cond c (shortUntilX d (imageX d is a) (imageX d is b)) (untilX d (imageX d is a) (imageX d is b))) F d k ≡ ev lt (nth rs) Until a b d (count run k)
+              den gt (pick c (shortUntilX d (imageX d is a) (imageX d is b)) (untilX d (imageX d is a) (imageX d is b))) F d k ≡ ev lt (nth rs) Until a b d (count run k)
           go true o =
               let both = both-true (tolerantAt is a) (tolerantAt is b) ((both-true short (tolerantAt is a && tolerantAt is b) o) .1) in
               until-short d a b ha hb (both .0) (both .1) k l
@@ -367,15 +378,15 @@ module _ (run ends : ℕ → Bool) (mask : ℕ) (bit lbit : ℕ → ℕ → Bool
           Below (length T) (termOf short mask is x d n a b)
       image-below True a b r x d h = below-itself d (length T) yes₀ x tt h
       image-below Atom a b r x d h =
-          below-cond (bitOf mask a) (length T) (itselfX d (atom₀ a) x) (foreignX d x a)
+          below-pick (bitOf mask a) (length T) (itselfX d (atom₀ a) x) (foreignX d x a)
           (below-itself d (length T) (atom₀ a) x tt h) (below-foreign d (length T) x a (S .big) h)
       image-below Not a b r x d h = S .low (not d) a r
       image-below Or a b r x d h = (S .low d a (r .0), S .low d b (r .1))
       image-below Next a b r x d h =
-          below-cond (short && tolerantAt is a) (length T) (shortNextX d (imageX d is a)) (one next₁ (findX d (imageX d is a)))
+          below-pick (short && tolerantAt is a) (length T) (shortNextX d (imageX d is a)) (one next₁ (findX d (imageX d is a)))
           (below-short-next d (length T) (image d is a) (S .big) (S .low d a r)) (below-find d (length T) (image d is a) (S .big) (S .low d a r))
       image-below Until a b r x d h =
-          below-cond (short && (tolerantAt is a && tolerantAt is b)) (length T)
+          below-pick (short && (tolerantAt is a && tolerantAt is b)) (length T)
           (shortUntilX d (imageX d is a) (imageX d is b)) (untilX d (imageX d is a) (imageX d is b))
           (below-short-until d (length T) (image d is a) (image d is b) (S .big) (S .low d a (r .0)) (S .low d b (r .1)))
           (below-until d (length T) (image d is a) (image d is b) (S .big) (S .low d a (r .0)) (S .low d b (r .1)))
@@ -403,7 +414,8 @@ module _ (run ends : ℕ → Bool) (mask : ℕ) (bit lbit : ℕ → ℕ → Bool
   module _ (short : Bool) where
     -- the weak image of a leaf has the leaf at its first number
     atom-at : (T : List Node) (a : ℕ) (c : Bool) →
-        val gt (comp (cond c (itselfX true (atom₀ a) (length T)) (foreignX true (length T) a)) T) (length T) ≡ gt .atom a
+        val gt (comp (pick c (itselfX true (atom₀ a) (length T)) (foreignX true (length T) a)) T) (length T) ≡ gt .atom a
+    unfolding pick
     atom-at T a true = comp-den gt (atom₀ a) T tt
     atom-at T a false =
         comp-old gt (two or₂ (ref 1) (ref (length T))) (comp (atom₀ a) T) (length T) (top-lt (atom₀ a) T tt) ∙ comp-den gt (atom₀ a) T tt

@@ -1,13 +1,13 @@
 -- The images of the rewritings as terms: what a rewriting emits is the term written out, and its image the node in which the term ends.
-use mathlib.Core.Path.{_≡_, refl, sym, ap, _∙_}
-use Prim.Native.Nat.{ℕ, zero, suc, _+_, _-_, _≤_, _<_}
+use mathlib.Core.Path.{_≡_, refl, sym}
+use Prim.Native.Nat.{ℕ, _-_, _<_}
 use native.Mathlib.Omega.{arith}
-use mathlib.Core.Bool.{Bool, true, false, not, _&&_, cond}
+use mathlib.Core.Bool.{Bool, true, false, not, _&&_}
 use mathlib.Core.List.{List, [], _∷_, _++_}
 use lib.ListN.{length}
-use Rattle.definitions.specs.Bounded.{bitOf}
-use Rattle.definitions.specs.Nodes.{Kind, True, Atom, Not, Or, Next, Until, Prev, Since, Run, End, Unknown, Node, node}
-use Rattle.definitions.specs.Rewriting.{Emit, emitted, emit, itself, foreignAtom, plainNext, plainUntil, shortNext, shortUntil, closing, Image, image, tolerantAt, tolerantOf, part, Draft, step, Rewritten, closed}
+use Rattle.definitions.specs.Bounded.{pick, bitOf}
+use Rattle.definitions.specs.Nodes.{Kind, True, Atom, Not, Or, Next, Until, Prev, Since, Run, End, Unknown, Node}
+use Rattle.definitions.specs.Rewriting.{emitted, emit, itself, foreignAtom, plainNext, plainUntil, shortNext, shortUntil, closing, Image, image, tolerantAt, tolerantOf, part, Draft, step, Rewritten, closed}
 use Rattle.theorems.proofs.RuleNodes.{RuleNode}
 use Rattle.theorems.proofs.Terms.{Term, ref, yes₀, atom₀, one, two, not₁, next₁, prev₁, or₂, until₂, since₂, comp, top, size, code, comp-size, top-last, comp-code}
 
@@ -52,12 +52,12 @@ imageX d is a = ref (image d is a)
 -- the image of a rule's node; x is the number of the first node emitted for it
 abbrev pub termOf : Bool → ℕ → List Image → ℕ → Bool → Kind → ℕ → ℕ → Term
 termOf short mask is x d True a b = itselfX d yes₀ x
-termOf short mask is x d Atom a b = cond (bitOf mask a) (itselfX d (atom₀ a) x) (foreignX d x a)
+termOf short mask is x d Atom a b = pick (bitOf mask a) (itselfX d (atom₀ a) x) (foreignX d x a)
 termOf short mask is x d Not a b = one not₁ (imageX (not d) is a)
 termOf short mask is x d Or a b = two or₂ (imageX d is a) (imageX d is b)
-termOf short mask is x d Next a b = cond (short && tolerantAt is a) (shortNextX d (imageX d is a)) (one next₁ (findX d (imageX d is a)))
+termOf short mask is x d Next a b = pick (short && tolerantAt is a) (shortNextX d (imageX d is a)) (one next₁ (findX d (imageX d is a)))
 termOf short mask is x d Until a b =
-    cond (short && (tolerantAt is a && tolerantAt is b)) (shortUntilX d (imageX d is a) (imageX d is b)) (untilX d (imageX d is a) (imageX d is b))
+    pick (short && (tolerantAt is a && tolerantAt is b)) (shortUntilX d (imageX d is a) (imageX d is b)) (untilX d (imageX d is a) (imageX d is b))
 termOf short mask is x d Prev a b = prevX (imageX d is a)
 termOf short mask is x d Since a b = sinceX (imageX d is a) (imageX d is b)
 termOf short mask is x d Run a b = ref x
@@ -71,21 +71,24 @@ module _ (j n : ℕ) where
   itself-code false x = refl
 
   atom-code : (own d : Bool) (x a : ℕ) →
-      emitted j n (cond own (itself d Atom a) (foreignAtom d x a)) ≡ code (cond own (itselfX d (atom₀ a) x) (foreignX d x a)) n
+      emitted j n (pick own (itself d Atom a) (foreignAtom d x a)) ≡ code (pick own (itselfX d (atom₀ a) x) (foreignX d x a)) n
+  unfolding pick
   atom-code true true x a = refl
   atom-code true false x a = refl
   atom-code false true x a = refl
   atom-code false false x a = refl
 
   next-code : (c d : Bool) (a : ℕ) →
-      emitted j n (cond c (shortNext d a) (plainNext d a)) ≡ code (cond c (shortNextX d (ref a)) (one next₁ (findX d (ref a)))) n
+      emitted j n (pick c (shortNext d a) (plainNext d a)) ≡ code (pick c (shortNextX d (ref a)) (one next₁ (findX d (ref a)))) n
+  unfolding pick
   next-code true true a = refl
   next-code true false a = refl
   next-code false true a = refl
   next-code false false a = refl
 
   until-code : (c d : Bool) (a b : ℕ) →
-      emitted j n (cond c (shortUntil d a b) (plainUntil d n a b)) ≡ code (cond c (shortUntilX d (ref a) (ref b)) (untilX d (ref a) (ref b))) n
+      emitted j n (pick c (shortUntil d a b) (plainUntil d n a b)) ≡ code (pick c (shortUntilX d (ref a) (ref b)) (untilX d (ref a) (ref b))) n
+  unfolding pick
   until-code true true a b = refl
   until-code true false a b = refl
   until-code false true a b = refl
@@ -119,17 +122,20 @@ pub emit-closing : (T : List Node) (d : Bool) (a : ℕ) → emit T (closing d a)
 emit-closing T d a = rw (closing-code (length T - 1) (length T) d a) (sym (comp-code (findX d (ref a)) T))
 
 -- how many nodes the images of a leaf have
-weak-atom : (c : Bool) (a x : ℕ) → 0 < size (cond c (itselfX true (atom₀ a) x) (foreignX true x a))
+weak-atom : (c : Bool) (a x : ℕ) → 0 < size (pick c (itselfX true (atom₀ a) x) (foreignX true x a))
+unfolding pick
 weak-atom true a x = omega arith
 weak-atom false a x = omega arith
 
-next-some : (c d : Bool) (a : ℕ) → 0 < size (cond c (shortNextX d (ref a)) (one next₁ (findX d (ref a))))
+next-some : (c d : Bool) (a : ℕ) → 0 < size (pick c (shortNextX d (ref a)) (one next₁ (findX d (ref a))))
+unfolding pick
 next-some true true a = omega arith
 next-some true false a = omega arith
 next-some false true a = omega arith
 next-some false false a = omega arith
 
-until-some : (c d : Bool) (a b : ℕ) → 0 < size (cond c (shortUntilX d (ref a) (ref b)) (untilX d (ref a) (ref b)))
+until-some : (c d : Bool) (a b : ℕ) → 0 < size (pick c (shortUntilX d (ref a) (ref b)) (untilX d (ref a) (ref b)))
+unfolding pick
 until-some true true a b = omega arith
 until-some true false a b = omega arith
 until-some false true a b = omega arith
@@ -157,9 +163,10 @@ module _ (short : Bool) (mask : ℕ) (is : List Image) (n : ℕ) (T : List Node)
   weak-top k a b r = top-last (termOf short mask is (length T) true k a b) T (weak-some short mask is n (length T) k a b r)
 
   -- so is that of the strong image, which for true and an own atom is the weak one
-  strong-atom : (c : Bool) (a : ℕ) → let W = comp (cond c (itselfX true (atom₀ a) (length T)) (foreignX true (length T) a)) T in
-      length (comp (cond c (itselfX false (atom₀ a) (length T)) (foreignX false (length T) a)) W) - 1
-      ≡ top (cond c (itselfX false (atom₀ a) (length T)) (foreignX false (length T) a)) W
+  strong-atom : (c : Bool) (a : ℕ) → let W = comp (pick c (itselfX true (atom₀ a) (length T)) (foreignX true (length T) a)) T in
+      length (comp (pick c (itselfX false (atom₀ a) (length T)) (foreignX false (length T) a)) W) - 1
+      ≡ top (pick c (itselfX false (atom₀ a) (length T)) (foreignX false (length T) a)) W
+  unfolding pick
   strong-atom true a = omega (arith, comp-size (atom₀ a) T)
   strong-atom false a = top-last (foreignX false (length T) a) (comp (foreignX true (length T) a) T) (omega arith)
 

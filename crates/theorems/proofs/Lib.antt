@@ -23,6 +23,7 @@ pub mod SplitLaws
 pub mod DecimalLaws
 pub mod WordLaws
 pub mod FieldLaws
+pub mod NextLines
 pub mod RuleTextSteps
 pub mod RuleTextBack
 pub mod RuleTextForth

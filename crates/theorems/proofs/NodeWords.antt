@@ -9,7 +9,7 @@ use lib.ListN.{length}
 use lib.Dec.{eqb, ltb}
 use borrow.Author.Tests.{eqb-true, ltb-true}
 use Rattle.definitions.specs.Bounded.{pick}
-use Rattle.definitions.specs.Nodes.{Kind, True, Atom, Not, Or, Next, Until, Prev, Since, Run, End, Unknown, Node, node, kindNumber, kindOf, kindSpan, operandSpan, nodeWord, nodeOf}
+use Rattle.definitions.specs.Nodes.{Kind, True, Atom, Not, Or, Next, Until, Prev, Since, Run, End, Unknown, Node, kindNumber, kindOf, kindSpan, operandSpan, nodeWord, nodeOf}
 use Rattle.definitions.specs.Tables.{isUnknown, nodesIn}
 
 -- a law of every kind, from its case at each

@@ -1,11 +1,12 @@
 -- Each operator's image over the whole recording, read at a state of the local trace, is the operator on the local trace.
-use mathlib.Core.Path.{_≡_, refl, sym, ap, _∙_}
+use mathlib.Core.Path.{_≡_, refl, sym, _∙_}
 use Prim.Native.Nat.{ℕ, zero, suc, _+_, _-_, _≤_, _<_}
 use native.Mathlib.Omega.{arith}
-use mathlib.Core.Bool.{Bool, true, false, not, _&&_, _||_, cond, or-false, and-false, true≢false}
+use mathlib.Core.Bool.{Bool, true, false, not, _&&_, _||_, or-false, and-false, true≢false}
 use lib.Dec.{ltb}
 use borrow.Author.Tests.{lt-ltb, le-ltb}
 use native.Mathlib.Decide.{ℕ-discrete}
+use Rattle.definitions.specs.Bounded.{pick}
 use Rattle.theorems.proofs.Recursions.{untilN, sinceB, prevB}
 use Rattle.theorems.proofs.Walk.{count, down, up, count-mono, count-lt, until-end, until-step}
 
@@ -116,15 +117,17 @@ module _ (run st : ℕ → Bool) (e : ℕ) (s : States run st e) where
   module _ (eb : (k : ℕ) → run k ≡ true → k < e) (N : ℕ) (l : e < N) (d : Bool) (F lo : ℕ → Bool)
       (at : (k : ℕ) → k ≤ e → F k ≡ lo (count run k))
       (past : F (suc e) ≡ d) where
-    same : (c : Bool) → cond c d d ≡ d
+    same : (c : Bool) → pick c d d ≡ d
+    unfolding pick
     same true = refl
     same false = refl
 
     pub next-is : (k : ℕ) → k ≤ e → st k ≡ true →
-        cond (ltb (suc k) N) (F (suc k)) d ≡ cond (ltb (suc (count run k)) (suc (count run e))) (lo (suc (count run k))) d
+        pick (ltb (suc k) N) (F (suc k)) d ≡ pick (ltb (suc (count run k)) (suc (count run e))) (lo (suc (count run k))) d
+    unfolding pick
     next-is k b t = rw (place-last eb k b t) (go (run k) refl)
       where
-        go : (c : Bool) → run k ≡ c → cond (ltb (suc k) N) (F (suc k)) d ≡ cond c (lo (suc (count run k))) d
+        go : (c : Bool) → run k ≡ c → pick (ltb (suc k) N) (F (suc k)) d ≡ pick c (lo (suc (count run k))) d
         go true r = let a : F (suc k) ≡ lo (count run (suc k)) = at (suc k) (eb k r) in
             rw (lt-ltb (suc k) N (omega (arith, eb k r))) (rw r at a)
         go false r = let q : k ≡ e = at-end k b t r in rw (q, past) (same (ltb (suc e) N))
@@ -160,7 +163,7 @@ module _ (run : ℕ → Bool) (e N : ℕ) (l : e < N) (d : Bool) (g h p q : ℕ 
 
   -- one step down, whether or not c runs
   tol-down : (j k : ℕ) → k + j ≡ e → tglo k ≡ tloc (count run k)
-  unfolding tglo tloc
+  unfolding tglo tloc pick
   tol-down zero k s = let z : k ≡ e = omega arith in rw z tol-last
   tol-down (suc j) k s = go (run k) refl (tol-down j (suc k) (omega arith))
     where
@@ -180,6 +183,7 @@ module _ (run : ℕ → Bool) (e N : ℕ) (l : e < N) (d : Bool) (g h p q : ℕ 
 -- since of two operands that keep their value up to the next state: not used by the base document's short rewriting
 pub since-tol : (run : ℕ → Bool) (e : ℕ) (g h p q : ℕ → Bool) → ((k : ℕ) → k ≤ e → g k ≡ p (count run k)) → ((k : ℕ) → k ≤ e → h k ≡ q (count run k)) →
     (k : ℕ) → k ≤ e → sinceB g h (suc k) ≡ sinceB p q (suc (count run k))
+unfolding pick
 since-tol run e g h p q atG atH zero b = rw (atG 0 b, atH 0 b)
 since-tol run e g h p q atG atH (suc k) b = go (run k) refl (atG (suc k) b) (atH (suc k) b) (since-tol run e g h p q atG atH k (omega arith))
   where

@@ -1,16 +1,16 @@
 -- The local trace of a controller stands to the recording as a rewriting needs it.
 use mathlib.Core.Path.{_≡_, refl, sym, ap, _∙_}
-use Prim.Native.Nat.{ℕ, zero, suc, _+_, _-_, _*_, _/_, _%_, _^_, _≤_, _<_}
+use Prim.Native.Nat.{ℕ, zero, suc, _-_, _/_, _%_, _^_, _≤_, _<_}
 use native.Mathlib.Omega.{arith}
 use native.Mathlib.Decide.{ℕ-discrete, decLt}
 use borrow.Author.Tests.{not-false}
-use mathlib.Core.Bool.{Bool, true, false, not, _&&_, _||_, cond, and-true, true≢false}
+use mathlib.Core.Bool.{Bool, true, false, not, _&&_, and-true, true≢false}
 use mathlib.Core.List.{List, [], _∷_, _++_, map, append-nil}
 use lib.ListN.{length, getD, length-append, List·getD-append}
 use lib.Seq.{getD-at}
-use lib.Dec.{ltb, eqb}
+use lib.Dec.{eqb}
 use lib.Bits.{bitAnd, and-shr, and-mod}
-use Rattle.definitions.specs.Bounded.{bitOf, everyOf, every}
+use Rattle.definitions.specs.Bounded.{pick, bitOf}
 use Rattle.definitions.specs.Projection.{runStates, afterLast, placesOf, endAt}
 use Rattle.theorems.proofs.Choice.{every-yes, every-at}
 use Rattle.theorems.proofs.Recursions.{prevB}
@@ -43,11 +43,11 @@ module _ (run : ℕ → Bool) where
   last-zero = refl
 
   last-run : (n : ℕ) → run n ≡ true → lastState (suc n) ≡ suc n
-  unfolding lastState
+  unfolding lastState pick
   last-run n r = rw r (after-snoc (runStates run n) n)
 
   last-idle : (n : ℕ) → run n ≡ false → lastState (suc n) ≡ lastState n
-  unfolding lastState
+  unfolding lastState pick
   last-idle n r = rw (r, append-nil)
 
   -- what holds of 0 and after each run holds of the state of the last place
@@ -83,20 +83,22 @@ module _ (run : ℕ → Bool) where
   last-entry = last-of (λ (e : ℕ). prevB (λ j. not (run j)) e ≡ false) refl (λ k r. rw r)
 
   pub run-count : (n : ℕ) → length (runStates run n) ≡ count run n
+  unfolding pick
   run-count zero = refl
   run-count (suc n) = go (run n) (run-count n)
     where
-      go : (c : Bool) → length (runStates run n) ≡ count run n → length (runStates run n ++ cond c (n ∷ []) []) ≡ cond c (suc (count run n)) (count run n)
+      go : (c : Bool) → length (runStates run n) ≡ count run n → length (runStates run n ++ pick c (n ∷ []) []) ≡ pick c (suc (count run n)) (count run n)
       go true h = omega (arith, length-append (runStates run n) (n ∷ []))
       go false h = rw append-nil h
 
   -- the run in state k is the place of k
   run-at : (n k : ℕ) → k < n → run k ≡ true → getD (runStates run n) (count run k) 0 ≡ k
+  unfolding pick
   run-at zero k h r = absurd (omega arith)
   run-at (suc n) k h r = split (ℕ-discrete k n) (λ b. run-at n k b r)
     where
       later : (c : Bool) → count run k < length (runStates run n) → getD (runStates run n) (count run k) 0 ≡ k →
-          getD (runStates run n ++ cond c (n ∷ []) []) (count run k) 0 ≡ k
+          getD (runStates run n ++ pick c (n ∷ []) []) (count run k) 0 ≡ k
       later true b ih = rw (List·getD-append (runStates run n) (n ∷ []) 0 (count run k) b) ih
       later false b ih = rw append-nil ih
 
@@ -126,6 +128,7 @@ entry-run run zero h k b = absurd (omega arith)
 entry-run run (suc j) h k b = (j, refl, not-false (run j) h)
 
 count-idle : (run : ℕ → Bool) (e : ℕ) → ((k : ℕ) → e ≤ k → run k ≡ false) → (n : ℕ) → e ≤ n → count run n ≡ count run e
+unfolding pick
 count-idle run e off zero h = let q : e ≡ 0 = omega arith in rw q
 count-idle run e off (suc n) h = go (ℕ-discrete e (suc n)) (λ b. count-idle run e off n b)
   where

@@ -1,18 +1,17 @@
 -- What the acceptance of a recording says of each of its states.
-use mathlib.Core.Path.{_≡_, refl, sym, ap, _∙_}
-use Prim.Native.Nat.{ℕ, zero, suc, _+_, _-_, _*_, _/_, _%_, _^_, _≤_, _<_}
+use mathlib.Core.Path.{_≡_, refl}
+use Prim.Native.Nat.{ℕ, zero, suc, _+_, _-_, _/_, _^_, _≤_, _<_}
 use native.Mathlib.Omega.{arith}
-use native.Mathlib.Numerals.{add-one}
 use native.Mathlib.Nat.{zero-div}
-use mathlib.Core.Bool.{Bool, true, false, not, _&&_, _||_, true≢false}
+use mathlib.Core.Bool.{Bool, false, not, _&&_, _||_}
 use mathlib.Core.List.{List, [], _∷_}
 use lib.ListN.{length, take, getD, length-take, List·getD-eq-default}
 use lib.Dec.{eqb, ltb, leb}
 use lib.Bits.{bitAnd}
-use borrow.Author.Tests.{ltb-true, ltb-false, leb-true, eqb-true, lt-ltb, eq-eqb, not-false, not-true}
+use borrow.Author.Tests.{ltb-false, leb-true, eqb-true, lt-ltb, eq-eqb, not-false}
 use Rattle.definitions.specs.Limits.{maxControllers, maxStates, recordingLimits, recordingLines, outputRule, lastMark, accepted}
-use Rattle.definitions.specs.Bounded.{pick, bitOf, within, orElse, someOf}
-use Rattle.definitions.specs.Recordings.{Recording, atomsOf, marksOf, marked, masksOf, statesOf, maskOf, stateAt, wordAt, runsAt, outputBroken, stateRefusal, recordingHeadingRefusal, masksRefusal, statesRefusal, recordingLinesRefusal, recordingRefusal}
+use Rattle.definitions.specs.Bounded.{pick, bitOf, within, orElse}
+use Rattle.definitions.specs.Recordings.{Recording, atomsOf, marksOf, marked, masksOf, statesOf, maskOf, wordAt, runsAt, outputBroken, stateRefusal, recordingHeadingRefusal, masksRefusal, statesRefusal, recordingLinesRefusal, recordingRefusal}
 use Rattle.theorems.proofs.Choice.{both-true, both-false, refuse-no, accept-yes, or-else-none, some-no}
 
 pub bit-zero : (a : ℕ) → bitOf 0 a ≡ false
@@ -57,30 +56,30 @@ checked R h =
     }
 
 -- each state met no row, against the state before it
-state-accepted : (C N : ℕ) (masks ss : List ℕ) (k before : ℕ) → statesRefusal C N masks k before ss ≡ 0 → (j : ℕ) → j < length ss →
-    stateRefusal C N masks (k + j) (getD (before ∷ ss) j 0) (getD ss j 0) ≡ 0
+state-accepted : (C N : ℕ) (masks ss : List ℕ) (k prior : ℕ) → statesRefusal C N masks k prior ss ≡ 0 → (j : ℕ) → j < length ss →
+    stateRefusal C N masks (k + j) (getD (prior ∷ ss) j 0) (getD ss j 0) ≡ 0
 unfolding statesRefusal
-state-accepted C N masks [] k before h j l = absurd (omega arith)
-state-accepted C N masks (s ∷ ss) k before h zero l =
+state-accepted C N masks [] k prior h j l = absurd (omega arith)
+state-accepted C N masks (s ∷ ss) k prior h zero l =
     let e : k + 0 ≡ k = omega arith in
-    rw e ((or-else-none (stateRefusal C N masks k before s) (statesRefusal C N masks (k + 1) s ss) h) .0)
-state-accepted C N masks (s ∷ ss) k before h (suc j) l =
+    rw e ((or-else-none (stateRefusal C N masks k prior s) (statesRefusal C N masks (k + 1) s ss) h) .0)
+state-accepted C N masks (s ∷ ss) k prior h (suc j) l =
     let e : k + suc j ≡ (k + 1) + j = omega arith in
-    rw e (state-accepted C N masks ss (k + 1) s ((or-else-none (stateRefusal C N masks k before s) (statesRefusal C N masks (k + 1) s ss) h) .1) j (omega arith))
+    rw e (state-accepted C N masks ss (k + 1) s ((or-else-none (stateRefusal C N masks k prior s) (statesRefusal C N masks (k + 1) s ss) h) .1) j (omega arith))
 
-module _ (C N : ℕ) (masks : List ℕ) (k before s : ℕ) (h : stateRefusal C N masks k before s ≡ 0) where
+module _ (C N : ℕ) (masks : List ℕ) (k prior s : ℕ) (h : stateRefusal C N masks k prior s ≡ 0) where
   -- the tests of a state, from the last one on
   lastTest : Bool
   lastTest = eqb (k + 1) N && not (eqb (marksOf s) 0)
 
   outputTest : Bool
-  outputTest = ltb 0 k && outputBroken C masks before s
+  outputTest = ltb 0 k && outputBroken C masks prior s
 
   tests : (outputTest ≡ false) × (lastTest ≡ false)
   unfolding stateRefusal outputTest lastTest
   tests =
-      let more = (refuse-no (leb (2 ^ C) (marksOf s)) recordingLimits (pick (ltb 0 k && outputBroken C masks before s) outputRule (pick (eqb (k + 1) N && not (eqb (marksOf s) 0)) lastMark accepted)) (omega arith) h) .1 in
-      let two = refuse-no (ltb 0 k && outputBroken C masks before s) outputRule (pick (eqb (k + 1) N && not (eqb (marksOf s) 0)) lastMark accepted) (omega arith) more in
+      let more = (refuse-no (leb (2 ^ C) (marksOf s)) recordingLimits (pick (ltb 0 k && outputBroken C masks prior s) outputRule (pick (eqb (k + 1) N && not (eqb (marksOf s) 0)) lastMark accepted)) (omega arith) h) .1 in
+      let two = refuse-no (ltb 0 k && outputBroken C masks prior s) outputRule (pick (eqb (k + 1) N && not (eqb (marksOf s) 0)) lastMark accepted) (omega arith) more in
       (two .0, (refuse-no (eqb (k + 1) N && not (eqb (marksOf s) 0)) lastMark accepted (omega arith) (two .1)) .0)
 
   -- the last state has no mark
@@ -91,13 +90,13 @@ module _ (C N : ℕ) (masks : List ℕ) (k before s : ℕ) (h : stateRefusal C N
       eqb-true (marksOf s) 0 (not-false (eqb (marksOf s) 0) u)
 
   -- the output rule holds for each controller
-  output-kept : 0 < k → (c : ℕ) → c < C → marked c before ≡ false → bitAnd (atomsOf before) (getD masks c 0) ≡ bitAnd (atomsOf s) (getD masks c 0)
+  output-kept : 0 < k → (c : ℕ) → c < C → marked c prior ≡ false → bitAnd (atomsOf prior) (getD masks c 0) ≡ bitAnd (atomsOf s) (getD masks c 0)
   unfolding outputTest
   output-kept p c l m =
-      let t : outputBroken C masks before s ≡ false = rw (lt-ltb 0 k p) at (tests .0) in
-      let u = some-no (λ (c : ℕ). not (marked c before) && not (eqb (bitAnd (atomsOf before) (getD masks c 0)) (bitAnd (atomsOf s) (getD masks c 0)))) (C - 0) 0 c t (omega arith) (omega arith) in
-      let v : not (eqb (bitAnd (atomsOf before) (getD masks c 0)) (bitAnd (atomsOf s) (getD masks c 0))) ≡ false = rw m at u in
-      eqb-true (bitAnd (atomsOf before) (getD masks c 0)) (bitAnd (atomsOf s) (getD masks c 0)) (not-false (eqb (bitAnd (atomsOf before) (getD masks c 0)) (bitAnd (atomsOf s) (getD masks c 0))) v)
+      let t : outputBroken C masks prior s ≡ false = rw (lt-ltb 0 k p) at (tests .0) in
+      let u = some-no (λ (c : ℕ). not (marked c prior) && not (eqb (bitAnd (atomsOf prior) (getD masks c 0)) (bitAnd (atomsOf s) (getD masks c 0)))) (C - 0) 0 c t (omega arith) (omega arith) in
+      let v : not (eqb (bitAnd (atomsOf prior) (getD masks c 0)) (bitAnd (atomsOf s) (getD masks c 0))) ≡ false = rw m at u in
+      eqb-true (bitAnd (atomsOf prior) (getD masks c 0)) (bitAnd (atomsOf s) (getD masks c 0)) (not-false (eqb (bitAnd (atomsOf prior) (getD masks c 0)) (bitAnd (atomsOf s) (getD masks c 0))) v)
 
 -- an accepted recording, as its projection for a controller that runs at `run` and owns `mask` needs it
 pub record Recorded (run : ℕ → Bool) (word : ℕ → ℕ) (mask N : ℕ) : Type 0 where

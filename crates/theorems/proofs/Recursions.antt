@@ -2,10 +2,9 @@
 use mathlib.Core.Path.{_≡_, refl, sym, ap, _∙_}
 use Prim.Native.Nat.{ℕ, zero, suc, _+_, _-_, _≤_, _<_}
 use native.Mathlib.Omega.{arith}
-use mathlib.Core.Bool.{Bool, true, false, not, _&&_, _||_, and-true, and-false, or-false}
-use lib.Dec.{ltb}
-use borrow.Author.Tests.{lt-ltb, le-ltb}
-use Rattle.definitions.specs.Bounded.{someOf, everyOf, some, every}
+use mathlib.Core.Bool.{Bool, true, false, _&&_, _||_, and-true, and-false, or-false}
+use borrow.Author.Tests.{lt-ltb}
+use Rattle.definitions.specs.Bounded.{someOf, everyOf, every}
 use Rattle.definitions.specs.Readings.{untilAt, sinceAt, prevAt}
 
 -- p until q with n places left from place i; weak is the answer past the last place

@@ -1,17 +1,14 @@
 -- No check of a table or a recording refuses with 12 or above: 13 is for lent space alone.
-use mathlib.Core.Path.{_≡_}
 use Prim.Native.Nat.{ℕ, zero, suc, _+_, _<_}
 use native.Mathlib.Omega.{arith}
-use mathlib.Core.Bool.{Bool, true, false, not, _&&_, _||_}
+use mathlib.Core.Bool.{Bool, true, false}
 use mathlib.Core.List.{List, [], _∷_}
-use lib.ListN.{length}
-use lib.Dec.{eqb, ltb, leb}
-use Rattle.definitions.specs.Limits.{maxControllers, maxRuleNodes, maxTableNodes, maxStates, atomCount, ruleLimits, ruleOperand, ruleLines, recordingLimits, masksMeet, recordingLines, lastMark, outputRule, noController, tooManyNodes, accepted}
-use Rattle.definitions.specs.Bounded.{pick, orElse, within}
+use lib.Dec.{eqb}
+use Rattle.definitions.specs.Limits.{ruleLimits, ruleOperand, recordingLimits, masksMeet, recordingLines, lastMark, outputRule, noController, tooManyNodes, accepted}
+use Rattle.definitions.specs.Bounded.{pick, orElse}
 use Rattle.definitions.specs.Nodes.{Node, nodeOf}
-use Rattle.definitions.specs.Tables.{Rule, Table, isUnknown, isRewritten, isAtom, unusedSet, operandLate, nodeRefusal, nodesRefusal, ruleHeadingRefusal, ruleRefusal, topsRefusal, tableRefusal}
-use Rattle.definitions.specs.Recordings.{Recording, marksOf, masksOf, statesOf, meets, outputBroken, stateRefusal, recordingHeadingRefusal, maskRefusal, masksRefusal, statesRefusal, recordingLinesRefusal, recordingRefusal}
-use Rattle.definitions.specs.Operations.{controllerRefusal}
+use Rattle.definitions.specs.Tables.{Rule, Table, nodeRefusal, nodesRefusal, ruleHeadingRefusal, ruleRefusal, topsRefusal, tableRefusal}
+use Rattle.definitions.specs.Recordings.{Recording, masksOf, statesOf, stateRefusal, recordingHeadingRefusal, maskRefusal, masksRefusal, statesRefusal, recordingLinesRefusal, recordingRefusal, controllerRefusal}
 
 pub pick-low : (z : Bool) (a b n : ℕ) → a < n → b < n → pick z a b < n
 unfolding pick
@@ -54,10 +51,10 @@ masks-low earlier [] = omega arith
 masks-low earlier (m ∷ ms) =
     or-else-low _ _ tooManyNodes (pick-low _ masksMeet accepted tooManyNodes (omega arith) (omega arith)) (masks-low (m ∷ earlier) ms)
 
-states-low : (C N : ℕ) (masks : List ℕ) (k before : ℕ) (ss : List ℕ) → statesRefusal C N masks k before ss < tooManyNodes
+states-low : (C N : ℕ) (masks : List ℕ) (k prior : ℕ) (ss : List ℕ) → statesRefusal C N masks k prior ss < tooManyNodes
 unfolding statesRefusal stateRefusal
-states-low C N masks k before [] = omega arith
-states-low C N masks k before (s ∷ ss) =
+states-low C N masks k prior [] = omega arith
+states-low C N masks k prior (s ∷ ss) =
     or-else-low _ _ tooManyNodes
     (pick-low _ recordingLimits _ tooManyNodes (omega arith)
     (pick-low _ outputRule _ tooManyNodes (omega arith) (pick-low _ lastMark accepted tooManyNodes (omega arith) (omega arith))))
@@ -71,6 +68,6 @@ recording-low R =
     (or-else-low _ _ tooManyNodes (states-low (R .controllers) (R .count) (masksOf R) 0 0 (statesOf R))
     (pick-low _ recordingLines accepted tooManyNodes (omega arith) (omega arith))))
 
-pub controller-low : (R : Recording) (c : ℕ) → controllerRefusal R c < tooManyNodes
+pub controller-low : (C c : ℕ) → controllerRefusal C c < tooManyNodes
 unfolding controllerRefusal
-controller-low R c = pick-low _ accepted noController tooManyNodes (omega arith) (omega arith)
+controller-low C c = pick-low _ accepted noController tooManyNodes (omega arith) (omega arith)

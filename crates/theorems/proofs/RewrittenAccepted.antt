@@ -4,7 +4,7 @@ use Prim.Native.Nat.{ℕ, suc, _+_, _-_, _≤_, _<_}
 use native.Mathlib.Nat.{add-zero}
 use native.Mathlib.Omega.{arith}
 use native.Mathlib.Decide.{decLt}
-use mathlib.Core.Bool.{Bool, true, false, not, _&&_, cond, true≢false}
+use mathlib.Core.Bool.{Bool, true, false, not, _&&_, true≢false}
 use mathlib.Core.List.{List, [], _∷_, _++_, map}
 use lib.ListN.{length, length-append, List·getD-append}
 use lib.Seq.{getD-at}
@@ -23,19 +23,22 @@ use Rattle.theorems.proofs.TableNodes.{TableNodes, emit-nodes, nodes-he
 -- what is emitted from node m on, j just before it, the operands' images below m
 module _ (j m : ℕ) (big : 11 ≤ m) (just : j < m) where
   atom-nodes : (c weak : Bool) (x a : ℕ) → (weak ≡ false → x < m) → a < atomCount →
-      TableNodes m (emitted j m (cond c (itself weak Atom a) (foreignAtom weak x a)))
+      TableNodes m (emitted j m (pick c (itself weak Atom a) (foreignAtom weak x a)))
+  unfolding pick
   atom-nodes true true x a f p = search arith depth 20
   atom-nodes true false x a f p = tt
   atom-nodes false true x a f p = search arith depth 20
   atom-nodes false false x a f p = let q : x < m = f refl in search arith depth 20
 
-  next-nodes : (c weak : Bool) (a : ℕ) → a < m → TableNodes m (emitted j m (cond c (shortNext weak a) (plainNext weak a)))
+  next-nodes : (c weak : Bool) (a : ℕ) → a < m → TableNodes m (emitted j m (pick c (shortNext weak a) (plainNext weak a)))
+  unfolding pick
   next-nodes true true a p = search arith depth 20
   next-nodes true false a p = search arith depth 20
   next-nodes false true a p = search arith depth 20
   next-nodes false false a p = search arith depth 20
 
-  until-nodes : (c weak : Bool) (a b : ℕ) → a < m → b < m → TableNodes m (emitted j m (cond c (shortUntil weak a b) (plainUntil weak m a b)))
+  until-nodes : (c weak : Bool) (a b : ℕ) → a < m → b < m → TableNodes m (emitted j m (pick c (shortUntil weak a b) (plainUntil weak m a b)))
+  unfolding pick
   until-nodes true true a b p q = search arith depth 20
   until-nodes true false a b p q = search arith depth 20
   until-nodes false true a b p q = search arith depth 20
@@ -77,20 +80,21 @@ low-snoc m k is i weak e low h a l = go (decLt a k)
     go (yes p) = rw (List·getD-append is (i ∷ []) noImage a (omega arith)) (low a p)
     go (no p) = rw (getD-at is i [] noImage a (omega arith)) h
 
-some-cond : (c : Bool) (es fs : List Emit) → 0 < length es → 0 < length fs → 0 < length (cond c es fs)
-some-cond true es fs p q = p
-some-cond false es fs p q = q
+some-pick : (c : Bool) (es fs : List Emit) → 0 < length es → 0 < length fs → 0 < length (pick c es fs)
+unfolding pick
+some-pick true es fs p q = p
+some-pick false es fs p q = q
 
 -- a weak image emits a node at least
 weak-some : (short : Bool) (mask : ℕ) (is : List Image) (k x g : ℕ) (K : Kind) (a b : ℕ) → RuleNode k K a b → 0 < length (part short mask is x g true K a b)
 weak-some short mask is k x g True a b r = omega arith
-weak-some short mask is k x g Atom a b r = some-cond (bitOf mask a) (itself true Atom a) (foreignAtom true x a) (omega arith) (omega arith)
+weak-some short mask is k x g Atom a b r = some-pick (bitOf mask a) (itself true Atom a) (foreignAtom true x a) (omega arith) (omega arith)
 weak-some short mask is k x g Not a b r = omega arith
 weak-some short mask is k x g Or a b r = omega arith
 weak-some short mask is k x g Next a b r =
-    some-cond (short && tolerantAt is a) (shortNext true (image true is a)) (plainNext true (image true is a)) (omega arith) (omega arith)
+    some-pick (short && tolerantAt is a) (shortNext true (image true is a)) (plainNext true (image true is a)) (omega arith) (omega arith)
 weak-some short mask is k x g Until a b r =
-    some-cond (short && (tolerantAt is a && tolerantAt is b)) (shortUntil true (image true is a) (image true is b))
+    some-pick (short && (tolerantAt is a && tolerantAt is b)) (shortUntil true (image true is a) (image true is b))
     (plainUntil true g (image true is a) (image true is b)) (omega arith) (omega arith)
 weak-some short mask is k x g Prev a b r = omega arith
 weak-some short mask is k x g Since a b r = omega arith

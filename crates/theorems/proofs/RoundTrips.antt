@@ -9,10 +9,10 @@ use native.Mathlib.Omega.{arith}
 use borrow.Author.Tests.{le-ltb}
 use Rattle.definitions.specs.Limits.{lentShort, maxControllers, maxRuleNodes, maxRuleBytes}
 use Rattle.definitions.specs.Bounded.{pick}
-use Rattle.definitions.specs.Tables.{Rule, nodesRefusal, ruleHeadingRefusal, ruleRefusal}
-use Rattle.definitions.specs.Lines.{newline, restOf}
+use Rattle.definitions.specs.Tables.{Rule, nodesRefusal, ruleHeadingRefusal, ruleRefusal, ruleOf}
+use Rattle.definitions.specs.Lines.{newline, after}
 use Rattle.definitions.specs.RuleText.{RuleScan, scanRule, scanNodes, nodesText, ruleText}
-use Rattle.definitions.specs.Operations.{answer, tooShort, left, readRuleNumber, readRuleAnswer, readRuleNodes, textOf, writeRuleNumber, writeRuleAnswer, writeRuleText}
+use Rattle.definitions.specs.Operations.{answer, tooShort, readRuleNumber, readRuleAnswer, readRuleNodes, textOf, writeRuleNumber, writeRuleAnswer, writeRuleText}
 use Rattle.theorems.proofs.Choice.{pick-other, pick-false}
 use Rattle.theorems.proofs.Inversions.{first-accepted}
 use Rattle.theorems.proofs.LentSpace.{left-accepted}
@@ -24,13 +24,13 @@ use Rattle.theorems.proofs.RuleTextForth.{nodes-forth, heading-read, no
 
 -- the rule that is read of a text
 abbrev readRule : List ℕ → Rule
-readRule t = record { controller = (scanRule t) .controller; count = (scanRule t) .count; nodes = (scanRule t) .words }
+readRule t = ruleOf ((scanRule t) .controller) ((scanRule t) .count) ((scanRule t) .words)
 
 -- the rest of an accepted text is the text of its nodes
 read-nodes : (t : List ℕ) (f : FirstLine t) → (scanRule t) .number ≡ 0
-    → ReadNodes (f .heading .second) 0 (restOf t) ((scanNodes (f .heading .second) 0 (restOf t)) .words)
+    → ReadNodes (f .heading .second) 0 (after newline t) ((scanNodes (f .heading .second) 0 (after newline t)) .words)
 read-nodes t f e =
-    nodes-back (f .heading .second) 0 (restOf t)
+    nodes-back (f .heading .second) 0 (after newline t)
     (omega (arith, accepted-heading (f .heading .first) (f .heading .second) (f .fine) .1 .1)) (rw (f .scan) at e)
 
 -- a rule is accepted where its heading and its nodes are
@@ -44,7 +44,7 @@ read-count t e = let f = first-line t e in rw (f .scan) (read-nodes t f e .count
 
 -- the table of an accepted text is accepted
 pub read-accepted : (t : List ℕ) → (scanRule t) .number ≡ 0
-    → ruleRefusal (record { controller = (scanRule t) .controller; count = (scanRule t) .count; nodes = (scanRule t) .words }) ≡ 0
+    → ruleRefusal (ruleOf ((scanRule t) .controller) ((scanRule t) .count) ((scanRule t) .words)) ≡ 0
 read-accepted t e =
     let f = first-line t e in
     refusal-of (readRule t) (rw (f .scan) (f .fine)) (rw (f .scan) (read-nodes t f e .fine))
@@ -106,10 +106,10 @@ nodes-past b i (suc n) (w ∷ ws) = rw (nodes-past b (i + 1) n ws)
 
 -- an accepted rule is accepted with other entries past its count
 same-accepted : (r : Rule) (ws : List ℕ) → take (r .count) ws ≡ r .nodes → ruleRefusal r ≡ 0
-    → ruleRefusal (record { controller = r .controller; count = r .count; nodes = ws }) ≡ 0
+    → ruleRefusal (ruleOf (r .controller) (r .count) ws) ≡ 0
 same-accepted r ws t e =
     let a = accepted-rule r e in
-    refusal-of (record { controller = r .controller; count = r .count; nodes = ws }) (a .0) (sym (nodes-past false 0 (r .count) ws) ∙ rw t (a .1))
+    refusal-of (ruleOf (r .controller) (r .count) ws) (a .0) (sym (nodes-past false 0 (r .count) ws) ∙ rw t (a .1))
 
 -- the lent nodes after a text was accepted
 read-holds : (text nodes : List ℕ) → readRuleNumber text nodes ≡ 0
@@ -124,11 +124,11 @@ read-words text nodes e z = rw (read-holds text nodes e) (take-at ((scanRule tex
 
 -- a rule that is read and written again leaves the text, its length, zeros and what was lent past 1,024 bytes
 pub accepted-text-comes-back : (text nodes buffer : List ℕ) → readRuleNumber text nodes ≡ 0 → maxRuleBytes ≤ length buffer
-    → Written (record { controller = (scanRule text) .controller; count = (scanRule text) .count; nodes = readRuleNodes text nodes }) buffer text
+    → Written (ruleOf ((scanRule text) .controller) ((scanRule text) .count) (readRuleNodes text nodes)) buffer text
 unfolding readRuleNumber
 accepted-text-comes-back text nodes buffer e h =
     let p = pick-other 0 (tooShort maxRuleNodes nodes) lentShort ((scanRule text) .number) e (λ q. omega arith) in
-    let r : Rule = record { controller = (scanRule text) .controller; count = (scanRule text) .count; nodes = readRuleNodes text nodes } in
+    let r : Rule = ruleOf ((scanRule text) .controller) ((scanRule text) .count) (readRuleNodes text nodes) in
     let t = read-words text nodes e (p .1) in
     let f = same-accepted (readRule text) (r .nodes) t (read-accepted text (p .1)) in
     subst (λ (x : List ℕ). Written r buffer x) (ap (ruleText (r .controller) (r .count)) t ∙ read-then-written text (p .1)) (written r buffer f h)

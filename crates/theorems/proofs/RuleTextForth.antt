@@ -11,20 +11,21 @@ use Rattle.definitions.specs.Limits.{ruleForm, ruleLines, maxRuleNodes}
 use Rattle.definitions.specs.Bounded.{pick}
 use Rattle.definitions.specs.Nodes.{Kind, Node, node, operands, nodeOf}
 use Rattle.definitions.specs.Tables.{isUnknown, unusedSet, nodeRefusal, nodesRefusal, ruleHeadingRefusal}
-use Rattle.definitions.specs.Lines.{tab, newline, lineOf, fieldOf, formed, malformed, onParsed, decimal, Heading, twoFields, digits, more}
-use Rattle.definitions.specs.RuleText.{ruleWord, kindWord, operandsForm, nodeForm, nodeLineRefusal, scanNodes, ruleHeading, ruleHeadingLineRefusal, ruleNodes, scanRule, nodeText, nodesText}
+use Rattle.definitions.specs.Lines.{tab, newline, upTo, formed, malformed, onParsed, decimal, Heading, headingForm, twoFields, digits, more}
+use Rattle.definitions.specs.RuleText.{ruleWord, kindWord, operandsForm, nodeForm, scanNodes, ruleHeading, ruleNodes, scanRule, nodeText, nodesText}
 use Rattle.theorems.proofs.Choice.{or-else-none}
 use Rattle.theorems.proofs.SplitLaws.{Without, without-cons, without-append, split-front, split-rest, split-found, all-front, without-whole}
 use Rattle.theorems.proofs.DecimalLaws.{digits-without, printed-reads, two-digits}
 use Rattle.theorems.proofs.NodeWords.{by-kind, word-of-node}
 use Rattle.theorems.proofs.WordLaws.{word-kind, kind-word-without, rule-word-without}
 use Rattle.theorems.proofs.NodeLaws.{accepted-node, first-unused, second-unused, first-below, second-below}
-use Rattle.theorems.proofs.FieldLaws.{two-fields-forth, worded-forth, next-forth}
+use Rattle.theorems.proofs.FieldLaws.{two-fields-forth, worded-forth}
+use Rattle.theorems.proofs.NextLines.{next-forth}
 use Rattle.theorems.proofs.RuleTextSteps.{by-operands, nodes-step, rule-step, headingText}
 
 -- the line of a known kind, by how many operands it uses
 module _ (k : Kind) (known : isUnknown k ≡ false) where
-  of-kind : (s : List ℕ) → fieldOf s ≡ kindWord k → nodeForm s ≡ operandsForm k s
+  of-kind : (s : List ℕ) → upTo tab s ≡ kindWord k → nodeForm s ≡ operandsForm k s
   unfolding nodeForm pick
   of-kind s e = rw (e, word-kind k, known)
 
@@ -82,36 +83,28 @@ node-without n =
     (λ z y. without-append newline (kindWord (n .kind)) (tab ∷ digits (n .first)) w a)
     (λ z y. fields-without (kindWord (n .kind)) (n .first) (n .second) w)
 
--- a line that reads as an accepted node is accepted
-line-accepted : (i : ℕ) (s : List ℕ) (n : Node) → nodeForm s ≡ formed n → nodeRefusal false i n ≡ 0 → nodeLineRefusal i s ≡ 0
-unfolding nodeLineRefusal onParsed
-line-accepted i s n e h = rw e h
-
 -- the line of an accepted node is read as its word, and then the rest
-node-read : (left i w : ℕ) (rest : List ℕ) → nodeRefusal false i (nodeOf w) ≡ 0
-    → scanNodes (suc left) i (nodeText (nodeOf w) ++ (newline ∷ rest)) ≡ more w (scanNodes left (i + 1) rest)
-node-read left i w rest e =
+node-read : (lines i w : ℕ) (rest : List ℕ) → nodeRefusal false i (nodeOf w) ≡ 0
+    → scanNodes (suc lines) i (nodeText (nodeOf w) ++ (newline ∷ rest)) ≡ more w (scanNodes lines (i + 1) rest)
+node-read lines i w rest e =
     let n = nodeOf w in
-    let t = nodeText n ++ (newline ∷ rest) in
     let g = accepted-node i n e in
-    let c = node-without n in
-    let f : nodeForm (lineOf t) ≡ formed n = ap nodeForm (split-front newline rest (nodeText n) c) ∙ node-forth n (g .known) (g .unused) in
-    let z = next-forth ruleLines ruleForm (nodeLineRefusal i (lineOf t)) (nodeText n) rest c ∙ line-accepted i (lineOf t) n f e in
-    nodes-step left i t n z f ∙ rw (word-of-node w (g .known), split-rest newline rest (nodeText n) c)
+    let r = next-forth ruleLines ruleForm nodeForm (nodeRefusal false i) (nodeText n) rest n (node-without n) (node-forth n (g .known) (g .unused)) e in
+    nodes-step lines i (nodeText n ++ (newline ∷ rest)) n rest r ∙ rw (word-of-node w (g .known))
 
 -- the lines of accepted nodes read as their words, as many as the count
-pub nodes-forth : (left i : ℕ) (ws : List ℕ) → nodesRefusal false i left ws ≡ 0
-    → scanNodes left i (nodesText (take left ws)) ≡ record { number = 0; words = take left ws; rest = [] }
+pub nodes-forth : (lines i : ℕ) (ws : List ℕ) → nodesRefusal false i lines ws ≡ 0
+    → scanNodes lines i (nodesText (take lines ws)) ≡ record { number = 0; words = take lines ws; rest = [] }
 unfolding nodesRefusal nodesText scanNodes pick
 nodes-forth zero i ws e = refl
-nodes-forth (suc left) i [] e = absurd (omega arith)
-nodes-forth (suc left) i (w ∷ ws) e =
-    let p = or-else-none (nodeRefusal false i (nodeOf w)) (nodesRefusal false (i + 1) left ws) e in
-    node-read left i w (nodesText (take left ws)) (p .0) ∙ ap (more w) (nodes-forth left (i + 1) ws (p .1))
+nodes-forth (suc lines) i [] e = absurd (omega arith)
+nodes-forth (suc lines) i (w ∷ ws) e =
+    let p = or-else-none (nodeRefusal false i (nodeOf w)) (nodesRefusal false (i + 1) lines ws) e in
+    node-read lines i w (nodesText (take lines ws)) (p .0) ∙ ap (more w) (nodes-forth lines (i + 1) ws (p .1))
 
 -- a first line reads as its controller and count
 heading-forth : (c n : ℕ) → ruleHeading (headingText c n) ≡ formed (record { first = c; second = n })
-unfolding ruleHeading headingText
+unfolding headingForm headingText
 heading-forth c n =
     worded-forth ruleWord _ (digits c ++ (tab ∷ digits n)) (rule-word-without tab (omega arith)) ∙ two-fields-forth _ c n
 
@@ -119,22 +112,13 @@ heading-without : (c n : ℕ) → Without newline (headingText c n)
 unfolding headingText
 heading-without c n = fields-without ruleWord c n (rule-word-without newline (omega arith))
 
--- a line that reads as an accepted heading is accepted
-heading-accepted : (s : List ℕ) (h : Heading) → ruleHeading s ≡ formed h → ruleHeadingRefusal (h .first) (h .second) ≡ 0 → ruleHeadingLineRefusal s ≡ 0
-unfolding ruleHeadingLineRefusal onParsed
-heading-accepted s h e z = rw e z
-
 -- the first line of an accepted rule is read, and then its nodes
 pub heading-read : (c n : ℕ) (rest : List ℕ) → ruleHeadingRefusal c n ≡ 0
-    → scanRule (headingText c n ++ (newline ∷ rest)) ≡ ruleNodes rest (record { first = c; second = n })
+    → scanRule (headingText c n ++ (newline ∷ rest)) ≡ ruleNodes (record { first = c; second = n }) (scanNodes n 0 rest)
 heading-read c n rest e =
-    let line = headingText c n in
     let h : Heading = record { first = c; second = n } in
-    let t = line ++ (newline ∷ rest) in
-    let w = heading-without c n in
-    let f : ruleHeading (lineOf t) ≡ formed h = ap ruleHeading (split-front newline rest line w) ∙ heading-forth c n in
-    let z = next-forth ruleLines ruleForm (ruleHeadingLineRefusal (lineOf t)) line rest w ∙ heading-accepted (lineOf t) h f e in
-    rule-step t h z f ∙ ap (λ (l : List ℕ). ruleNodes l h) (split-rest newline rest line w)
+    rule-step (headingText c n ++ (newline ∷ rest)) h rest
+    (next-forth ruleLines ruleForm ruleHeading (λ x. ruleHeadingRefusal (x .first) (x .second)) (headingText c n) rest h (heading-without c n) (heading-forth c n) e)
 
 -- a line is at most eleven bytes and byte 10
 short-word : (k : Kind) → leb (length (kindWord k)) 5 ≡ true
@@ -152,18 +136,18 @@ node-length n h k =
     (λ z y. omega (arith, two-digits (n .first) h, length-append (kindWord (n .kind)) (tab ∷ digits (n .first))))
     (λ z y. omega (arith, fields-length (kindWord (n .kind)) (n .first) (n .second) h k))
 
-pub nodes-length : (left i : ℕ) (ws : List ℕ) → i + left ≤ maxRuleNodes → nodesRefusal false i left ws ≡ 0 → length (nodesText (take left ws)) ≤ left * 12
+pub nodes-length : (lines i : ℕ) (ws : List ℕ) → i + lines ≤ maxRuleNodes → nodesRefusal false i lines ws ≡ 0 → length (nodesText (take lines ws)) ≤ lines * 12
 unfolding nodesRefusal nodesText
 nodes-length zero i ws h e = omega arith
-nodes-length (suc left) i [] h e = absurd (omega arith)
-nodes-length (suc left) i (w ∷ ws) h e =
-    let p = or-else-none (nodeRefusal false i (nodeOf w)) (nodesRefusal false (i + 1) left ws) e in
+nodes-length (suc lines) i [] h e = absurd (omega arith)
+nodes-length (suc lines) i (w ∷ ws) h e =
+    let p = or-else-none (nodeRefusal false i (nodeOf w)) (nodesRefusal false (i + 1) lines ws) e in
     let g = accepted-node i (nodeOf w) (p .0) in
     let a = first-below i (nodeOf w) g (omega arith) in
     let b = second-below i (nodeOf w) g (omega arith) in
     let s = node-length (nodeOf w) (omega arith) (omega arith) in
-    let r = nodes-length left (i + 1) ws (omega arith) (p .1) in
-    omega (arith, length-append (nodeText (nodeOf w)) (newline ∷ nodesText (take left ws)))
+    let r = nodes-length lines (i + 1) ws (omega arith) (p .1) in
+    omega (arith, length-append (nodeText (nodeOf w)) (newline ∷ nodesText (take lines ws)))
 
 pub heading-length : (c n : ℕ) → c < 100 → n < 100 → length (headingText c n) ≤ 10
 unfolding headingText

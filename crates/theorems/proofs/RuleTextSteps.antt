@@ -1,17 +1,15 @@
 -- One line of a rule text, read or written.
-use mathlib.Core.Path.{_≡_, _∙_}
+use mathlib.Core.Path.{_≡_}
 use Prim.Native.Nat.{ℕ, suc, _+_}
 use mathlib.Core.Bool.{true, false}
 use mathlib.Core.List.{List, _∷_, _++_, append-assoc}
 use lib.Dec.{eqb}
 use borrow.Author.Tests.{eqb-true, eqb-false}
-use Rattle.definitions.specs.Limits.{ruleForm, ruleLines}
 use Rattle.definitions.specs.Bounded.{pick}
 use Rattle.definitions.specs.Nodes.{Node, operands, nodeWord}
-use Rattle.definitions.specs.Lines.{tab, newline, lineOf, restOf, formed, onParsed, Heading, digits, nextRefusal, more}
-use Rattle.definitions.specs.RuleText.{ruleWord, kindWord, nodeForm, nodeLineRefusal, nodeLineWord, scanNodes, ruleHeading, ruleHeadingLineRefusal, ruleNodes, scanRule, nodeText, nodesText, ruleText}
+use Rattle.definitions.specs.Lines.{tab, newline, Heading, digits, refused, read, onNext, stop, more}
+use Rattle.definitions.specs.RuleText.{ruleWord, kindWord, nodeLine, scanNodes, ruleHeadingLine, ruleStop, ruleNodes, scanRule, nodeText, nodesText, ruleText}
 use Rattle.theorems.proofs.Choice.{by-test}
-use Rattle.theorems.proofs.Inversions.{passes}
 
 -- the text of a node, by how many operands its kind uses
 module _ (n : Node) where
@@ -42,19 +40,25 @@ by-operands P n none one two =
     (λ y. rw (text-one n z y) (one (eqb-false k 0 z) (eqb-true k 1 y)))
     (λ y. rw (text-two n z y) (two (eqb-false k 0 z) (eqb-false k 1 y))))
 
--- an accepted node line is read, and then the rest
-pub nodes-step : (left i : ℕ) (t : List ℕ) (n : Node)
-    → nextRefusal ruleLines ruleForm t (nodeLineRefusal i (lineOf t)) ≡ 0 → nodeForm (lineOf t) ≡ formed n
-    → scanNodes (suc left) i t ≡ more (nodeWord n) (scanNodes left (i + 1) (restOf t))
-unfolding scanNodes nodeLineWord onParsed
-nodes-step left i t n z e = passes _ _ _ z ∙ rw e
+-- a node line is refused, or read and then the rest
+module _ (lines i : ℕ) (t : List ℕ) where
+  pub nodes-stop : (number : ℕ) → nodeLine i t ≡ refused number → scanNodes (suc lines) i t ≡ stop number t
+  unfolding scanNodes onNext
+  nodes-stop number e = rw e
 
--- an accepted first line is read, and then the nodes
-pub rule-step : (t : List ℕ) (h : Heading)
-    → nextRefusal ruleLines ruleForm t (ruleHeadingLineRefusal (lineOf t)) ≡ 0 → ruleHeading (lineOf t) ≡ formed h
-    → scanRule t ≡ ruleNodes (restOf t) h
-unfolding scanRule onParsed
-rule-step t h z e = passes _ _ _ z ∙ rw e
+  pub nodes-step : (n : Node) (rest : List ℕ) → nodeLine i t ≡ read n rest → scanNodes (suc lines) i t ≡ more (nodeWord n) (scanNodes lines (i + 1) rest)
+  unfolding scanNodes onNext
+  nodes-step n rest e = rw e
+
+-- the first line is refused, or read and then the nodes
+module _ (t : List ℕ) where
+  pub rule-stop : (number : ℕ) → ruleHeadingLine t ≡ refused number → scanRule t ≡ ruleStop number t
+  unfolding scanRule onNext
+  rule-stop number e = rw e
+
+  pub rule-step : (h : Heading) (rest : List ℕ) → ruleHeadingLine t ≡ read h rest → scanRule t ≡ ruleNodes h (scanNodes (h .second) 0 rest)
+  unfolding scanRule onNext
+  rule-step h rest e = rw e
 
 -- the first line, without byte 10
 unfoldable pub headingText : ℕ → ℕ → List ℕ

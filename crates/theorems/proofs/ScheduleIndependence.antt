@@ -1,26 +1,26 @@
 -- Demand 3: the verdicts of a rewritten rule over a whole recording are those of the rule on its own local trace, whatever else was recorded.
-use mathlib.Core.Path.{_≡_, refl, sym, ap, _∙_}
-use Prim.Native.Nat.{ℕ, zero, suc, _+_, _-_, _≤_, _<_}
+use mathlib.Core.Path.{_≡_, sym, ap, _∙_}
+use Prim.Native.Nat.{ℕ, suc, _-_, _≤_, _<_}
 use native.Mathlib.Omega.{arith}
-use mathlib.Core.Bool.{Bool, true, false, cond}
-use mathlib.Core.List.{List, [], _∷_, _++_, map}
-use lib.ListN.{length, getD, drop, replicate, length-append}
-use lib.Dec.{eqb, ltb}
+use mathlib.Core.Bool.{Bool, true, false}
+use mathlib.Core.List.{List, _++_, map}
+use lib.ListN.{length, getD, drop, replicate}
+use lib.Dec.{ltb}
 use borrow.Author.Tests.{lt-ltb, le-ltb}
 use Rattle.definitions.specs.Limits.{maxTableNodes, maxRowWords, accepted}
-use Rattle.definitions.specs.Bounded.{pick, orElse, bit, bitOf}
+use Rattle.definitions.specs.Bounded.{pick, orElse, bitOf}
 use Rattle.definitions.specs.Nodes.{Node, nodeWord}
-use Rattle.definitions.specs.Tables.{Rule, Table, ruleRefusal, tableRefusal, nodesIn}
-use Rattle.definitions.specs.Recordings.{Recording, recordingRefusal, maskOf, runsAt, wordAt}
-use Rattle.definitions.specs.Projection.{localTrace, endAt, placesOf, runStates}
-use Rattle.definitions.specs.Readings.{Trace, local, whole, verdict}
-use Rattle.definitions.specs.Rewriting.{Rewritten, rewriting, topOf}
-use Rattle.definitions.specs.Operations.{Answer, answer, left, tooShort, controllerRefusal, verdicts, localVerdicts, judgeLocalNumber, judgeLocalAnswer, rewrittenOf, sizeRefusal, rewriteNumber, rewriteAnswer, rewriteTable, answeredTable, judgeRecordingNumber, judgeRecordingAnswer}
+use Rattle.definitions.specs.Tables.{Rule, Table, tableOf, ruleRefusal, tableRefusal, nodesIn}
+use Rattle.definitions.specs.Recordings.{Recording, recordingRefusal, controllerRefusal, maskOf, runsAt, wordAt}
+use Rattle.definitions.specs.Projection.{localTrace, endAt}
+use Rattle.definitions.specs.Readings.{Trace, local, whole, verdict, localVerdicts}
+use Rattle.definitions.specs.Rewriting.{Rewritten, rewriting}
+use Rattle.definitions.specs.Operations.{Answer, answer, left, verdictValues, judgeLocalNumber, judgeLocalAnswer, rewrittenOf, sizeRefusal, rewriteNumber, rewriteAnswer, rewriteTable, answeredTable, judgeRecordingNumber, judgeRecordingAnswer}
 use Rattle.theorems.proofs.Choice.{none-or-else}
 use Rattle.theorems.proofs.RuleNodes.{RuleNodes, rule-nodes, rule-length, rule-some}
 use Rattle.theorems.proofs.RewrittenAccepted.{rewritten-fits, rewritten-nodes, rewritten-accepted}
 use Rattle.theorems.proofs.Semantics.{val, verdict-is}
-use Rattle.theorems.proofs.Faithful.{faithful}
+use Rattle.theorems.proofs.Faithful.{topOf, faithful}
 use Rattle.theorems.proofs.RecordingLaws.{Recorded, recorded}
 use Rattle.theorems.proofs.ProjectionLaws.{lastState, law, trace-length}
 
@@ -45,7 +45,7 @@ module _ (short : Bool) (ns : List Node) (some : 0 < length ns) (nodes : RuleNod
   abbrev localOf : ℕ → Trace
   localOf L = record {
     places = L;
-    atom = λ a d i. cond (bitOf (maskOf R c) a) (bitOf (getD (localTrace R c) i 0) a) (cond (ltb (suc i) L) (bitOf (getD (localTrace R c) i 0) a) d);
+    atom = λ a d i. pick (bitOf (maskOf R c) a) (bitOf (getD (localTrace R c) i 0) a) (pick (ltb (suc i) L) (bitOf (getD (localTrace R c) i 0) a) d);
     run = λ i. false;
     end = λ i. false;
   }
@@ -62,6 +62,10 @@ module _ (short : Bool) (ns : List Node) (some : 0 < length ns) (nodes : RuleNod
       verdict-is (whole R c) (W .nodes) (topOf d W) d (kept .some)
       ∙ (values-agree d ∙ sym (verdict-is (local (maskOf R c) (localTrace R c)) ns (length ns - 1) d trace-some))
 
+-- the table that a rewriting answered, with what is lent past it
+abbrev rewrittenTable : Rewritten → List ℕ → Table
+rewrittenTable w more = tableOf (length (w .nodes)) (map nodeWord (w .nodes) ++ more) (w .weakTop) (w .strongTop)
+
 -- what a rewriting answers for an accepted rule
 module _ (short : Bool) (r : Rule) (mask : ℕ) (table : List ℕ) (good : ruleRefusal r ≡ 0) (lent : maxTableNodes ≤ length table) where
   rewrite-accepted : rewriteNumber short r mask table ≡ 0
@@ -69,29 +73,25 @@ module _ (short : Bool) (r : Rule) (mask : ℕ) (table : List ℕ) (good : ruleR
   rewrite-accepted = rw (le-ltb (length table) maxTableNodes lent)
       (none-or-else (ruleRefusal r) (sizeRefusal (rewrittenOf short r mask)) good (rewritten-fits short r mask good))
 
-  answered-is : answeredTable short r mask table ≡ record {
-    count = length ((rewrittenOf short r mask) .nodes);
-    nodes = map nodeWord ((rewrittenOf short r mask) .nodes)
-        ++ (replicate (maxTableNodes - length (map nodeWord ((rewrittenOf short r mask) .nodes))) 0 ++ drop maxTableNodes table);
-    weakTop = (rewrittenOf short r mask) .weakTop;
-    strongTop = (rewrittenOf short r mask) .strongTop;
-  }
+  answered-is : answeredTable short r mask table ≡ rewrittenTable (rewrittenOf short r mask)
+      (replicate (maxTableNodes - length (map nodeWord ((rewrittenOf short r mask) .nodes))) 0 ++ drop maxTableNodes table)
   unfolding rewriteAnswer rewriteTable answer left pick
   answered-is = rw rewrite-accepted
 
-controller-accepted : (R : Recording) (c : ℕ) → c < R .controllers → controllerRefusal R c ≡ 0
+pub controller-accepted : (C c : ℕ) → c < C → controllerRefusal C c ≡ 0
 unfolding controllerRefusal pick
-controller-accepted R c h = rw (lt-ltb c (R .controllers) h)
+controller-accepted C c h = rw (lt-ltb c C h)
 
-local-accepted : (r : Rule) (R : Recording) → Accepted r R → judgeLocalNumber r R ≡ 0
+-- an accepted rule and recording are not refused
+pub local-accepted : (r : Rule) (R : Recording) → Accepted r R → judgeLocalNumber r R ≡ 0
 unfolding judgeLocalNumber
 local-accepted r R A =
-    none-or-else (ruleRefusal r) (orElse (recordingRefusal R) (controllerRefusal R (r .controller))) (A .rule)
-    (none-or-else (recordingRefusal R) (controllerRefusal R (r .controller)) (A .recording) (controller-accepted R (r .controller) (A .controller)))
+    none-or-else (ruleRefusal r) (orElse (recordingRefusal R) (controllerRefusal (R .controllers) (r .controller))) (A .rule)
+    (none-or-else (recordingRefusal R) (controllerRefusal (R .controllers) (r .controller)) (A .recording) (controller-accepted (R .controllers) (r .controller) (A .controller)))
 
 -- judging on the local trace answers the verdicts of the rule there
 pub local-judging : (r : Rule) (R : Recording) → Accepted r R →
-    judgeLocalAnswer r R ≡ answer accepted (localVerdicts (nodesIn (r .count) (r .nodes)) (maskOf R (r .controller)) (localTrace R (r .controller)))
+    judgeLocalAnswer r R ≡ answer accepted (verdictValues (localVerdicts (nodesIn (r .count) (r .nodes)) (maskOf R (r .controller)) (localTrace R (r .controller))))
 unfolding judgeLocalAnswer
 local-judging r R A = rw (local-accepted r R A)
 
@@ -100,12 +100,8 @@ pub local-judging-same : (r : Rule) (R S : Recording) → Accepted r R → Accep
     localTrace R (r .controller) ≡ localTrace S (r .controller) → maskOf R (r .controller) ≡ maskOf S (r .controller) → judgeLocalAnswer r R ≡ judgeLocalAnswer r S
 local-judging-same r R S A B places mask = rw (local-judging r R A, local-judging r S B, places, mask)
 
--- the table that a rewriting answered, with what is lent past it
-abbrev tableOf : Rewritten → List ℕ → Table
-tableOf w more = record { count = length (w .nodes); nodes = map nodeWord (w .nodes) ++ more; weakTop = w .weakTop; strongTop = w .strongTop }
-
 table-judging : (short : Bool) (r : Rule) (R : Recording) (more rows : List ℕ) → Accepted r R → maxRowWords ≤ length rows →
-    judgeRecordingAnswer (tableOf (rewrittenOf short r (maskOf R (r .controller))) more) R (r .controller) rows ≡ judgeLocalAnswer r R
+    judgeRecordingAnswer (rewrittenTable (rewrittenOf short r (maskOf R (r .controller))) more) R (r .controller) rows ≡ judgeLocalAnswer r R
 unfolding judgeRecordingAnswer judgeRecordingNumber pick
 table-judging short r R more rows A lent =
     let c : ℕ = r .controller in
@@ -113,10 +109,10 @@ table-judging short r R more rows A lent =
     let ns : List Node = nodesIn (r .count) (r .nodes) in
     let some : 0 < length ns = omega (arith, rule-length r (A .rule), rule-some r (A .rule)) in
     let agrees = verdict-agrees short ns some (rule-nodes r (A .rule)) R c (A .recording) (A .controller) in
-    let t : Table = tableOf (rewrittenOf short r mask) more in
-    let number : orElse (tableRefusal t) (orElse (recordingRefusal R) (controllerRefusal R c)) ≡ 0
-    = none-or-else (tableRefusal t) (orElse (recordingRefusal R) (controllerRefusal R c)) (rewritten-accepted short r mask more (A .rule))
-    (none-or-else (recordingRefusal R) (controllerRefusal R c) (A .recording) (controller-accepted R c (A .controller))) in
+    let t : Table = rewrittenTable (rewrittenOf short r mask) more in
+    let number : orElse (tableRefusal t) (orElse (recordingRefusal R) (controllerRefusal (R .controllers) c)) ≡ 0
+    = none-or-else (tableRefusal t) (orElse (recordingRefusal R) (controllerRefusal (R .controllers) c)) (rewritten-accepted short r mask more (A .rule))
+    (none-or-else (recordingRefusal R) (controllerRefusal (R .controllers) c) (A .recording) (controller-accepted (R .controllers) c (A .controller))) in
     rw (
       le-ltb (length rows) maxRowWords lent,
       number,
@@ -161,7 +157,7 @@ pub record OneAnswer (r : Rule) (R S : Recording) (l₁ l₂ l₃ l₄ : Lent) (
 -- weak and the strong verdict of the rule itself on that local trace.
 pub schedule-independence : (r : Rule) (R S : Recording) → Accepted r R → Accepted r S →
     localTrace R (r .controller) ≡ localTrace S (r .controller) → maskOf R (r .controller) ≡ maskOf S (r .controller) → (l₁ l₂ l₃ l₄ : Lent) →
-    OneAnswer r R S l₁ l₂ l₃ l₄ (answer accepted (localVerdicts (nodesIn (r .count) (r .nodes)) (maskOf R (r .controller)) (localTrace R (r .controller))))
+    OneAnswer r R S l₁ l₂ l₃ l₄ (answer accepted (verdictValues (localVerdicts (nodesIn (r .count) (r .nodes)) (maskOf R (r .controller)) (localTrace R (r .controller)))))
 schedule-independence r R S A B places mask l₁ l₂ l₃ l₄ =
     let own = local-judging r R A in
     let other = sym (local-judging-same r R S A B places mask) ∙ own in

@@ -1,14 +1,15 @@
 -- The readings of a table as functions of reading and place, with the operators in their recursive forms; and that they are the rows of the definitions.
-use mathlib.Core.Path.{_≡_, refl, sym, ap, _∙_}
+use mathlib.Core.Path.{_≡_, refl, ap, _∙_}
 use Prim.Native.Nat.{ℕ, zero, suc, _+_, _-_, _≤_, _<_}
 use native.Mathlib.Omega.{arith}
-use mathlib.Core.Bool.{Bool, true, false, not, _&&_, _||_, cond}
+use mathlib.Core.Bool.{Bool, true, false, not, _||_}
 use mathlib.Core.List.{List, [], _∷_, _++_}
 use lib.ListN.{length, getD, length-append, List·getD-append, List·getD-eq-default}
 use lib.Seq.{getD-at}
 use lib.Dec.{ltb}
 use native.Mathlib.Decide.{ℕ-discrete, decLt}
 use borrow.Author.Tests.{ltb-true}
+use Rattle.definitions.specs.Bounded.{pick}
 use Rattle.definitions.specs.Nodes.{Kind, True, Atom, Not, Or, Next, Until, Prev, Since, Run, End, Unknown, Node}
 use Rattle.definitions.specs.Readings.{Trace, reading, Rows, noRows, rowOf, readFrom, nodeRows, rowsAfter, rowsOf, verdict}
 use Rattle.theorems.proofs.Tabulations.{tabulate-at}
@@ -31,7 +32,7 @@ abbrev pub opOr : Row → Row → Row
 opOr f g d k = f d k || g d k
 
 abbrev pub opNext : ℕ → Row → Row
-opNext L f d k = cond (ltb (suc k) L) (f d (suc k)) d
+opNext L f d k = pick (ltb (suc k) L) (f d (suc k)) d
 
 abbrev pub opUntil : ℕ → Row → Row → Row
 opUntil L f g d k = untilN d (f d) (g d) (L - k) k
@@ -101,10 +102,11 @@ prev-agree : (L : ℕ) (p p′ : ℕ → Bool) → Agree L p p′ → Agree L (p
 prev-agree L p p′ a zero h = refl
 prev-agree L p p′ a (suc k) h = a k (omega arith)
 
-next-agree : (L : ℕ) (d : Bool) (p p′ : ℕ → Bool) → Agree L p p′ → (k : ℕ) → cond (ltb (suc k) L) (p (suc k)) d ≡ cond (ltb (suc k) L) (p′ (suc k)) d
+next-agree : (L : ℕ) (d : Bool) (p p′ : ℕ → Bool) → Agree L p p′ → (k : ℕ) → pick (ltb (suc k) L) (p (suc k)) d ≡ pick (ltb (suc k) L) (p′ (suc k)) d
+unfolding pick
 next-agree L d p p′ h k = go (ltb (suc k) L) refl
   where
-    go : (c : Bool) → ltb (suc k) L ≡ c → cond c (p (suc k)) d ≡ cond c (p′ (suc k)) d
+    go : (c : Bool) → ltb (suc k) L ≡ c → pick c (p (suc k)) d ≡ pick c (p′ (suc k)) d
     go true e = h (suc k) (ltb-true (suc k) L e)
     go false e = refl
 

@@ -9,6 +9,7 @@ use native.Mathlib.Omega.{arith}
 use native.Mathlib.Numerals.{add-one}
 use lib.Dec.{eqb, ltb}
 use borrow.Author.Tests.{eq-eqb, ne-eqb, eqb-true, lt-ltb, le-ltb, ltb-true, ltb-false}
+use Rattle.definitions.specs.Bounded.{pick}
 use Rattle.definitions.specs.Lines.{before}
 use Rattle.theorems.proofs.Choice.{by-test}
 
@@ -18,11 +19,11 @@ Without b t = before b t ≡ length t
 
 module _ (b x : ℕ) (t : List ℕ) where
   before-here : eqb x b ≡ true → before b (x ∷ t) ≡ 0
-  unfolding before
+  unfolding before pick
   before-here e = rw (e, before)
 
   before-later : eqb x b ≡ false → before b (x ∷ t) ≡ suc (before b t)
-  unfolding before
+  unfolding before pick
   before-later e = rw (e, before)
 
   pub without-cons : (x ≡ b → ⊥) → Without b t → Without b (x ∷ t)

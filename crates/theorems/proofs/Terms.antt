@@ -3,13 +3,13 @@
 use mathlib.Core.Path.{_≡_, refl, sym, ap, _∙_}
 use Prim.Native.Nat.{ℕ, zero, suc, _+_, _-_, _≤_, _<_}
 use native.Mathlib.Omega.{arith}
-use mathlib.Core.Bool.{Bool, true, false}
+use mathlib.Core.Bool.{true}
 use mathlib.Core.List.{List, [], _∷_, _++_, append-assoc, append-nil}
-use lib.ListN.{length, getD, length-append, List·getD-append}
+use lib.ListN.{length, length-append, List·getD-append}
 use lib.Seq.{getD-at}
 use Rattle.definitions.specs.Nodes.{Kind, True, Atom, Not, Or, Next, Until, Prev, Since, Node, node}
 use Rattle.definitions.specs.Readings.{Trace}
-use Rattle.theorems.proofs.Semantics.{Row, noRow, nth, ev, evNode, rowsOn, rows, val, opNot, opOr, opNext, opUntil, opPrev, opSince}
+use Rattle.theorems.proofs.Semantics.{Row, noRow, ev, evNode, rowsOn, rows, val, opNot, opOr, opNext, opUntil, opPrev, opSince}
 
 -- ---- tables
 

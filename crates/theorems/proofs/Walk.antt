@@ -1,15 +1,16 @@
 -- Walking a recording: the place of a state, and the two inductions that carry a fact over the states in which the controller does not run.
-use mathlib.Core.Path.{_≡_, refl, sym, ap, _∙_}
+use mathlib.Core.Path.{_≡_, refl, _∙_}
 use Prim.Native.Nat.{ℕ, zero, suc, _+_, _-_, _≤_, _<_}
 use native.Mathlib.Omega.{arith}
 use native.Mathlib.Decide.{ℕ-discrete}
-use mathlib.Core.Bool.{Bool, true, false, not, _&&_, _||_, cond}
+use mathlib.Core.Bool.{Bool, true, false, _&&_, _||_}
+use Rattle.definitions.specs.Bounded.{pick}
 use Rattle.theorems.proofs.Recursions.{untilN}
 
 -- the place of state k: how often c ran before it
 abbrev pub count : (ℕ → Bool) → ℕ → ℕ
 count run zero = zero
-count run (suc k) = cond (run k) (suc (count run k)) (count run k)
+count run (suc k) = pick (run k) (suc (count run k)) (count run k)
 
 -- from the end down: U is Y at the place
 module _ (run : ℕ → Bool) (e : ℕ) (U Y : ℕ → Bool)
@@ -17,6 +18,7 @@ module _ (run : ℕ → Bool) (e : ℕ) (U Y : ℕ → Bool)
     (skip : (k : ℕ) → k < e → run k ≡ false → U k ≡ U (suc k))
     (step : (k : ℕ) → k < e → run k ≡ true → U (suc k) ≡ Y (suc (count run k)) → U k ≡ Y (count run k)) where
   downOne : (k : ℕ) → k < e → U (suc k) ≡ Y (count run (suc k)) → U k ≡ Y (count run k)
+  unfolding pick
   downOne k l ih = go (run k) refl
     where
       go : (b : Bool) → run k ≡ b → U k ≡ Y (count run k)
@@ -36,6 +38,7 @@ module _ (run : ℕ → Bool) (e : ℕ) (U Y : ℕ → Bool)
     (skip : (k : ℕ) → k < e → run k ≡ false → U (suc k) ≡ U k)
     (step : (k : ℕ) → k < e → run k ≡ true → U k ≡ Y (count run k) → U (suc k) ≡ Y (suc (count run k))) where
   pub up : (k : ℕ) → k ≤ e → U k ≡ Y (count run k)
+  unfolding pick
   up zero h = first
   up (suc k) h = go (run k) refl (up k (omega arith))
     where
@@ -44,10 +47,11 @@ module _ (run : ℕ → Bool) (e : ℕ) (U Y : ℕ → Bool)
       go false r ih = rw r (skip k h r ∙ ih)
 
 pub count-mono : (run : ℕ → Bool) (j k : ℕ) → j ≤ k → count run j ≤ count run k
+unfolding pick
 count-mono run j zero h = let s : j ≡ 0 = omega arith in rw s (omega arith)
 count-mono run j (suc k) h = go (ℕ-discrete j (suc k)) (λ b. count-mono run j k b)
   where
-    one : (b : Bool) → count run k ≤ cond b (suc (count run k)) (count run k)
+    one : (b : Bool) → count run k ≤ pick b (suc (count run k)) (count run k)
     one true = omega arith
     one false = omega arith
 
@@ -57,6 +61,7 @@ count-mono run j (suc k) h = go (ℕ-discrete j (suc k)) (λ b. count-mono run j
 
 -- where c runs before e, the place is not the last
 pub count-lt : (run : ℕ → Bool) (e k : ℕ) → k < e → run k ≡ true → count run k < count run e
+unfolding pick
 count-lt run e k h r = let m : count run (suc k) ≤ count run e = count-mono run (suc k) e h in rw r at m
 
 -- the two equations of until

@@ -15,15 +15,15 @@ use borrow.Author.Needs.{needs}
 use borrow.Author.Tests.{ne-eqb, lt-ltb, le-ltb, leb-true, leb-false, lt-leb, le-leb}
 use Rattle.definitions.specs.Limits.{maxControllers, maxStates, recordingLimits, masksMeet, recordingLines, lastMark, outputRule, noController, accepted}
 use Rattle.definitions.specs.Bounded.{pick, bitOf, within, orElse}
-use Rattle.definitions.specs.Recordings.{Recording, stateOf, atomsOf, marksOf, marked, outputBroken, stateRefusal, recordingHeadingRefusal, masksRefusal, statesRefusal, recordingLinesRefusal, recordingRefusal}
-use Rattle.definitions.specs.Operations.{controllerRefusal}
+use Rattle.definitions.specs.Recordings.{Recording, stateOf, atomsOf, marksOf, marked, maskOf, outputBroken, stateRefusal, recordingHeadingRefusal, masksRefusal, statesRefusal, recordingLinesRefusal, recordingRefusal, controllerRefusal, recordingOf}
 use Rattle.theorems.proofs.Choice.{accept-yes, both-true, refuse-no}
 use Rattle.theorems.proofs.Recursions.{some-cong}
+use Rattle.traces.specs.Joining.{traceRefusal}
 use Rattle.traces.specs.Unions.{unionOf, unionRefusal, unionsRefusal}
 use Rattle.traces.specs.Turns.{stepRefusal, lastRefusal}
-use Rattle.traces.specs.Held.{heldGroup, heldChanged}
+use Rattle.traces.specs.Held.{heldGroup, heldAt, heldChanged}
 use Rattle.traces.proofs.MaskLaws.{masks-union}
-use Rattle.traces.proofs.HeldLaws.{tables-broken}
+use Rattle.traces.proofs.HeldLaws.{held-broken}
 
 -- ---- choice by a test
 pub pick-yes : (t : Bool) (x y : ℕ) → t ≡ true → x ≡ pick t x y
@@ -125,17 +125,14 @@ module _ (C : ℕ) (masks : List ℕ) (seen c : ℕ) (inv : MasksLeft C masks se
 pub mask-none : (masks : List ℕ) (c : ℕ) → length masks ≤ c → 0 ≡ getD masks c 0
 mask-none masks c h = sym (List·getD-eq-default masks 0 h)
 
+pub own-mask : (R : Recording) (c : ℕ) → c < R .controllers → getD (R .masks) c 0 ≡ maskOf R c
+own-mask R c h = sym (getD-take (R .controllers) (R .masks) c 0 h)
+
 pub marked-is : (c s marks : ℕ) → marks ≡ marksOf s → eqb (marks / 2 ^ c % 2) 1 ≡ marked c s
 unfolding bitOf
 marked-is c s marks e = rw e
 
 -- ---- one state
-pub broken-later : (k : ℕ) (broken r : Bool) → 0 < k → r ≡ broken → r ≡ (ltb 0 k && broken)
-broken-later k broken r h e = rw (lt-ltb 0 k h) e
-
-pub broken-first : (k : ℕ) (broken : Bool) → k ≤ 0 → false ≡ (ltb 0 k && broken)
-broken-first k broken h = rw (le-ltb 0 k h)
-
 -- the code's shift loses nothing
 pub limit-is : (C : ℕ) → C ≤ maxControllers → 2 ^ 32 * 2 ^ C % 2 ^ 64 ≡ stateOf (2 ^ C) 0
 limit-is C h = let e : 2 ^ C ≤ 256 = pow-mono {i = C} {j = 8} h in omega arith
@@ -176,7 +173,7 @@ state-split C N masks k before s =
     (numbers-split (leb (stateOf (2 ^ C) 0) s) (ltb 0 k && outputBroken C masks before s) (eqb (k + 1) N) (eqb (marksOf s) 0))
 
 pub state-is : (C N : ℕ) (masks : List ℕ) (k before s marks limit step last r : ℕ) (broken : Bool) → marks ≡ marksOf s → limit ≡ stateOf (2 ^ C) 0 →
-    broken ≡ (ltb 0 k && outputBroken C masks before s) → step ≡ stepRefusal limit s broken → last ≡ lastRefusal (eqb (k + 1) N) marks →
+    broken ≡ outputBroken C masks before s → step ≡ stepRefusal limit s (ltb 0 k && broken) → last ≡ lastRefusal (eqb (k + 1) N) marks →
     r ≡ orElse step last → r ≡ stateRefusal C N masks k before s
 state-is C N masks k before s marks limit step last r broken m l b p q e = e ∙ (rw (p, q, b, m, l) (sym (state-split C N masks k before s)))
 
@@ -241,26 +238,14 @@ module _ (C N : ℕ) (masks states : List ℕ) (before held k there : ℕ) (inv 
     pub states-refused : (r ≡ 0 → ⊥) → r ≡ statesRefusal C N masks 0 0 (take N states)
     states-refused z = sym (one-left ∙ rw (or-else-stop r _ z, or-else-stop r _ z))
 
-    few-marks : r ≡ 0 → C ≤ maxControllers → marksOf (getD states k 0) < 256
-    unfolding stepRefusal
-    few-marks z few =
-        let below = leb-false limit (getD states k 0) ((refuse-no (leb limit (getD states k 0)) recordingLimits (pick changed outputRule accepted) (omega arith) (sym e ∙ z)) .0) in
-        let most : 2 ^ C ≤ 256 = pow-mono {i = C} {j = 8} few in
-        omega arith
-
-    module _ (z : r ≡ 0) (few : C ≤ maxControllers) (marks : ℕ) (m : marks ≡ marksOf (getD states k 0)) where
-      -- the marks of a state that is not refused have an entry in each table
-      pub marks-high : marks / 16 < 16
-      marks-high = omega (arith, few-marks z few)
-
-      pub states-next : (low high : List ℕ) → low ≡ heldGroup (take C masks) 0 → high ≡ heldGroup (take C masks) 4 →
-          StatesLeft C N masks states (getD states k 0) (bitOr (getD low (marks % 16) 0) (getD high (marks / 16) 0)) (k + 1)
-      states-next low high p q =
-          record {
-            within = omega arith;
-            left = one-left ∙ rw (or-else-go r _ z);
-            rule = λ s. rw (p, q, m, lt-ltb 0 (k + 1) (omega arith)) (tables-broken C masks (getD states k 0) s few (few-marks z few));
-          }
+    pub states-next : r ≡ 0 → C ≤ maxControllers → (low high : List ℕ) → low ≡ heldGroup (take C masks) 0 → high ≡ heldGroup (take C masks) 4 →
+        (marks held′ : ℕ) → marks ≡ marksOf (getD states k 0) → held′ ≡ heldAt low high marks → StatesLeft C N masks states (getD states k 0) held′ (k + 1)
+    states-next z few low high p q marks held′ m h′ =
+        record {
+          within = omega arith;
+          left = one-left ∙ rw (or-else-go r _ z);
+          rule = λ s. rw (lt-ltb 0 (k + 1) (omega arith)) (held-broken C masks (getD states k 0) s few low high p q marks held′ m h′);
+        }
 
 -- ---- the output rule depends on the masks of the controllers only
 output-own : (C : ℕ) (masks : List ℕ) (before s : ℕ) → outputBroken C masks before s ≡ outputBroken C (take C masks) before s
@@ -282,7 +267,7 @@ states-own C N masks k before (s ∷ ss) = rw (state-own C N masks k before s, s
 -- ---- the whole recording
 module _ (C N : ℕ) (masks states : List ℕ) where
   abbrev recorded : Recording
-  recorded = record { controllers = C; count = N; masks = masks; states = states }
+  recorded = recordingOf C N masks states
 
   pub lines-is : (short r : ℕ) → short ≡ pick (ltb (length states) N) recordingLines accepted → r ≡ pick (ltb (length masks) C) recordingLines short → r ≡ recordingLinesRefusal recorded
   unfolding recordingLinesRefusal
@@ -301,14 +286,10 @@ module _ (C N : ℕ) (masks states : List ℕ) where
       sym (rw (← e, or-else-go heading _ z, ← m, ← t, ← l, ← o, ← f))
 
 -- ---- a controller of the recording
-pub controller-is : (C c r : ℕ) → r ≡ pick (ltb c C) accepted noController → (R : Recording) → R .controllers ≡ C → r ≡ controllerRefusal R c
+pub joining-is : (R : Recording) (c recording joining r : ℕ) → recording ≡ recordingRefusal R → joining ≡ pick (ltb c (R .controllers)) accepted noController →
+    r ≡ orElse recording joining → r ≡ traceRefusal R c
 unfolding controllerRefusal
-controller-is C c r e R h = rw h e
-
--- the same for a recording given by its tables, as callers need it
-pub controller-of : (C N : ℕ) (masks states : List ℕ) (c r : ℕ) → ((R : Recording) → R .controllers ≡ C → r ≡ controllerRefusal R c) →
-    r ≡ controllerRefusal (record { controllers = C; count = N; masks = masks; states = states }) c
-controller-of C N masks states c r e = e (record { controllers = C; count = N; masks = masks; states = states }) refl
+joining-is R c recording joining r e f g = cc
 
 -- what each function's returns and turns are answered with
 pub ruleset test-laws = (pick-yes, pick-no, or-else-is, heading-is, mask-is)
@@ -317,8 +298,8 @@ pub ruleset mask-laws = (masks-start, masks-missing, masks-end, masks-refused, m
 
 pub ruleset output-laws = (mask-none, marked-is)
 
-pub ruleset state-laws = (needs, broken-later, broken-first, limit-is, step-is, last-is, state-is, states-start, states-end, states-refused, marks-high, states-next)
+pub ruleset state-laws = (needs, limit-is, step-is, last-is, state-is, states-start, states-end, states-refused, states-next)
 
-pub ruleset recording-laws = (lines-is, controller-is, recording-heading)
+pub ruleset recording-laws = (lines-is, joining-is, recording-heading)
 
 pub ruleset heading-bounds = (needs, heading-few)

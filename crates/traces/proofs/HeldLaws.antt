@@ -17,8 +17,8 @@ use Rattle.definitions.specs.Limits.{maxControllers}
 use Rattle.definitions.specs.Bounded.{pick, bitOf, someOf}
 use Rattle.definitions.specs.Recordings.{atomsOf, marksOf, marked, outputBroken}
 use Rattle.theorems.proofs.Recursions.{some-cong}
-use Rattle.rows.proofs.WordLaws.{bit-shr}
-use Rattle.traces.specs.Held.{heldWith, heldFrom, heldBy, heldEntries, heldTable, heldGroup, heldChanged}
+use Rattle.mark_words.proofs.WordLaws.{bit-shr}
+use Rattle.traces.specs.Held.{heldWith, heldFrom, heldBy, heldEntries, heldTable, heldGroup, heldAt, heldChanged}
 use Rattle.traces.proofs.MaskLaws.{and-or, some-atom}
 
 -- ---- own atoms differ where the difference meets the mask
@@ -119,42 +119,7 @@ broken-touched C masks before s =
     (λ (j : ℕ). not (marked j before) && touched (getD masks j 0) (bitXor (atomsOf before) (atomsOf s)))
     C 0 (λ j a b. ap (λ (z : Bool). not (marked j before) && z) (own-touched (atomsOf before) (atomsOf s) (getD masks j 0))))
 
-pub held-broken : (C : ℕ) (masks : List ℕ) (before s held : ℕ) (r : Bool) → held ≡ heldBy C masks (marksOf before) → r ≡ heldChanged held before s →
-    r ≡ outputBroken C masks before s
-unfolding heldBy heldChanged
-held-broken C masks before s held r h e =
-    e ∙ (rw h (touched-from C 0 0 masks (marksOf before) (bitXor (atomsOf before) (atomsOf s))) ∙ sym (broken-touched C masks before s))
-
--- ---- the loop over the controllers
-pub record HeldLeft (C : ℕ) (masks : List ℕ) (marks held c : ℕ) : Type 0 where
-  pub within : c ≤ C
-  pub left : heldBy C masks marks ≡ heldFrom (C - c) c held masks marks
-
-pub held-start : (C : ℕ) (masks : List ℕ) (marks : ℕ) → HeldLeft C masks marks 0 0
-unfolding heldBy
-held-start C masks marks = let z : C - 0 ≡ C = omega arith in record { within = omega arith; left = rw z }
-
-module _ (C : ℕ) (masks : List ℕ) (s held c : ℕ) (inv : HeldLeft C masks (marksOf s) held c) where
-  pub held-end : C ≤ c → held ≡ heldBy C masks (marksOf s)
-  unfolding heldFrom
-  held-end h = let e : C - c ≡ 0 = omega arith in sym (inv .left ∙ rw e)
-
-  pub held-next : c < C → (mask r : ℕ) (ran : Bool) → mask ≡ getD masks c 0 → ran ≡ marked c s → r ≡ heldWith held mask ran →
-      HeldLeft C masks (marksOf s) r (c + 1)
-  unfolding heldFrom
-  held-next h mask r ran m n e =
-      let z : C - c ≡ suc (C - (c + 1)) = omega arith in
-      record { within = omega arith; left = inv .left ∙ rw (z, e, m, n) }
-
 -- ---- the tables
-pub with-ran : (held m : ℕ) (ran : Bool) → ran ≡ true → held ≡ heldWith held m ran
-unfolding heldWith pick
-with-ran held m ran e = rw e
-
-pub with-idle : (held m : ℕ) (ran : Bool) → ran ≡ false → bitOr held m ≡ heldWith held m ran
-unfolding heldWith pick
-with-idle held m ran e = rw e
-
 pub changed-is : (held before s a b : ℕ) → a ≡ atomsOf before → b ≡ atomsOf s → not (eqb (bitAnd held (bitXor a b)) 0) ≡ heldChanged held before s
 unfolding heldChanged
 changed-is held before s a b p q = rw (p, q)
@@ -252,17 +217,31 @@ module _ (C : ℕ) (masks : List ℕ) (before s : ℕ) (few : C ≤ maxControlle
       (touched-from 4 0 0 (getD own 0 0 ∷ getD own 1 0 ∷ getD own 2 0 ∷ getD own 3 0 ∷ []) (marks % 16) differing
       ∙ rw (bits .0, bits .1, bits .2, bits .3))
 
-  high-four : marks < 256 → touched (getD (heldGroup own 4) (marks / 16) 0) differing ≡ someOf 4 4 broke
+  high-four : touched (getD (heldGroup own 4) (marks / 16 % 16) 0) differing ≡ someOf 4 4 broke
   unfolding heldBy
-  high-four h =
-      rw (group-at own 4 (marks / 16) (omega arith))
-      (touched-from 4 0 0 (getD own 4 0 ∷ getD own 5 0 ∷ getD own 6 0 ∷ getD own 7 0 ∷ []) (marks / 16) differing
-      ∙ rw (bit-shr 0 4 marks, bit-shr 1 4 marks, bit-shr 2 4 marks, bit-shr 3 4 marks))
+  high-four =
+      let bits = low-bits (marks / 16) in
+      rw (group-at own 4 (marks / 16 % 16) (omega arith))
+      (touched-from 4 0 0 (getD own 4 0 ∷ getD own 5 0 ∷ getD own 6 0 ∷ getD own 7 0 ∷ []) (marks / 16 % 16) differing
+      ∙ rw (bits .0, bits .1, bits .2, bits .3, bit-shr 0 4 marks, bit-shr 1 4 marks, bit-shr 2 4 marks, bit-shr 3 4 marks))
 
-  pub tables-broken : marks < 256 → heldChanged (bitOr (getD (heldGroup own 0) (marks % 16) 0) (getD (heldGroup own 4) (marks / 16) 0)) before s ≡ outputBroken C masks before s
-  unfolding heldChanged
-  tables-broken h =
-      touched-or (getD (heldGroup own 0) (marks % 16) 0) (getD (heldGroup own 4) (marks / 16) 0) differing
-      ∙ (rw (low-four, high-four h) (simp or-group) ∙ sym broken-eight)
+  tables-broken : heldChanged (heldAt (heldGroup own 0) (heldGroup own 4) marks) before s ≡ outputBroken C masks before s
+  unfolding heldAt heldChanged
+  tables-broken =
+      touched-or (getD (heldGroup own 0) (marks % 16) 0) (getD (heldGroup own 4) (marks / 16 % 16) 0) differing
+      ∙ (rw (low-four, high-four) (simp or-group) ∙ sym broken-eight)
 
-pub ruleset held-laws = (needs, with-ran, with-idle, changed-is, table-is, part-length, group-is, held-broken, held-start, held-end, held-next)
+-- the atoms that a state holds, of the tables of its recording
+pub held-broken : (C : ℕ) (masks : List ℕ) (before s : ℕ) → C ≤ maxControllers → (low high : List ℕ) → low ≡ heldGroup (take C masks) 0 → high ≡ heldGroup (take C masks) 4 →
+    (marks held : ℕ) → marks ≡ marksOf before → held ≡ heldAt low high marks → heldChanged held before s ≡ outputBroken C masks before s
+held-broken C masks before s few low high l h marks held m e = rw (e, l, h, m) (tables-broken C masks before s few)
+
+pub broken-is : (C : ℕ) (masks : List ℕ) (before s : ℕ) → C ≤ maxControllers → (low high : List ℕ) → low ≡ heldGroup (take C masks) 0 → high ≡ heldGroup (take C masks) 4 →
+    (marks held : ℕ) → marks ≡ marksOf before → held ≡ heldAt low high marks → (r : Bool) → r ≡ heldChanged held before s → r ≡ outputBroken C masks before s
+broken-is C masks before s few low high l h marks held m e r d = d ∙ held-broken C masks before s few low high l h marks held m e
+
+pub at-is : (low high : List ℕ) (marks : ℕ) → bitOr (getD low (marks % 16) 0) (getD high (marks / 16 % 16) 0) ≡ heldAt low high marks
+unfolding heldAt
+at-is low high marks = refl
+
+pub ruleset held-laws = (needs, changed-is, table-is, part-length, group-is, at-is, broken-is)

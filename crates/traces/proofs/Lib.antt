@@ -1,5 +1,3 @@
 pub mod MaskLaws
 pub mod HeldLaws
 pub mod CheckLaws
-pub mod ProjectLaws
-pub mod OperationLaws

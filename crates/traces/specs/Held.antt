@@ -1,5 +1,5 @@
 -- Held atoms: own atoms of the controllers that don't run in a state; the next state may not change them.
-use Prim.Native.Nat.{ℕ, zero, suc, _+_}
+use Prim.Native.Nat.{ℕ, zero, suc, _+_, _/_, _%_}
 use mathlib.Core.Bool.{Bool, not}
 use mathlib.Core.List.{List, [], _∷_}
 use lib.ListN.{getD}
@@ -33,6 +33,10 @@ heldTable a b c d = heldEntries 16 0 (a ∷ b ∷ c ∷ d ∷ [])
 -- the table of the four controllers from c on
 unfoldable pub heldGroup : List ℕ → ℕ → List ℕ
 heldGroup masks c = heldTable (getD masks c 0) (getD masks (c + 1) 0) (getD masks (c + 2) 0) (getD masks (c + 3) 0)
+
+-- the atoms that eight controllers hold, of the tables of the first four and of the others
+unfoldable pub heldAt : List ℕ → List ℕ → ℕ → ℕ
+heldAt low high marks = bitOr (getD low (marks % 16) 0) (getD high (marks / 16 % 16) 0)
 
 -- a held atom differs in two states
 unfoldable pub heldChanged : ℕ → ℕ → ℕ → Bool

@@ -1,5 +1,4 @@
 pub mod Held
+pub mod Joining
 pub mod Unions
 pub mod Turns
-pub mod Places
-pub mod Answers

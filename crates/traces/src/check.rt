@@ -1,19 +1,17 @@
 // The check of a recording: heading, masks, states, then lines that are missing.
 ghost use mathlib.Core.Path.{_≡_};
-ghost use mathlib.Core.Bool.{_&&_};
-ghost use mathlib.Core.List.{[]};
 ghost use Prim.Native.Nat.{_^_, _≤_};
-ghost use lib.Dec.{ltb};
-ghost use lib.ListN.{take, getD};
+ghost use lib.ListN.{take};
 ghost use Rattle.definitions.specs.Limits.{maxControllers};
-ghost use Rattle.definitions.specs.Recordings.{Recording, stateOf, outputBroken, stateRefusal, recordingHeadingRefusal, masksRefusal, statesRefusal, recordingLinesRefusal, recordingRefusal};
-ghost use Rattle.definitions.specs.Operations.{controllerRefusal};
-ghost use Rattle.traces.specs.Unions.{unionRefusal};
+ghost use Rattle.definitions.specs.Recordings.{stateOf, stateRefusal, recordingHeadingRefusal, statesRefusal, recordingLinesRefusal, recordingRefusal, recordingOf};
+ghost use Rattle.traces.specs.Joining.{traceRefusal};
 ghost use Rattle.traces.specs.Turns.{InTurn, stepRefusal, lastRefusal};
-use super::held::held_atoms;
+use super::held::held_at;
 use super::held::held_changed;
 use super::held::held_group;
 use super::held::least;
+use super::held::output_broken;
+use super::masks::masks_refusal;
 use super::state::ATOM_WORDS;
 use super::state::marks_of;
 use formulas::choice::or_else;
@@ -36,61 +34,6 @@ pub fn heading_refusal(controllers: usize, count: usize) -> u8
         Refusal::RECORDING_LIMITS,
     );
     pick(1 <= controllers, few, Refusal::RECORDING_LIMITS)
-}
-
-// One mask against `seen`, the union of the earlier ones.
-pub fn mask_refusal(seen: u32, mask: u32) -> u8
-    ensures { λ r. ⌜ r ≡ unionRefusal seen mask ⌝ }
-{
-    pick(seen & mask == 0, Refusal::NONE, Refusal::MASKS_MEET)
-}
-
-// The masks that are there, in order.
-pub fn masks_refusal(controllers: usize, masks: &[u32]) -> u8
-    ensures { λ r. ⌜ r ≡ masksRefusal [] (take controllers (now (masks .entry))) ⌝ }
-{
-    let mut seen: u32 = 0;
-    for c in 0..controllers {
-        if masks.len() <= c {
-            return Refusal::NONE;
-        }
-        let mask = masks[c];
-        let refusal = mask_refusal(seen, mask);
-        if refusal != Refusal::NONE {
-            return refusal;
-        }
-        seen = seen | mask;
-    }
-    Refusal::NONE
-}
-
-// A mask that isn't there has no atoms.
-pub fn mask_at(masks: &[u32], c: usize) -> u32
-    ensures { λ r. ⌜ r ≡ getD (now (masks .entry)) c 0 ⌝ }
-{
-    if c < masks.len() {
-        return masks[c];
-    }
-    0
-}
-
-pub fn output_broken(controllers: usize, masks: &[u32], before: u64, state: u64) -> bool
-    requires { ⌜ controllers ≤ maxControllers ⌝ }
-    ensures { λ r. ⌜ r ≡ outputBroken controllers (now (masks .entry)) before state ⌝ }
-{
-    let held = held_atoms(controllers, masks, before);
-    held_changed(held, before, state)
-}
-
-// The first state has no state before it.
-fn output_broken_at(controllers: usize, masks: &[u32], k: usize, before: u64, state: u64) -> bool
-    requires { ⌜ controllers ≤ maxControllers ⌝ }
-    ensures { λ r. ⌜ r ≡ (ltb 0 k && outputBroken controllers (now (masks .entry)) before state) ⌝ }
-{
-    if 0 < k {
-        return output_broken(controllers, masks, before, state);
-    }
-    false
 }
 
 // States from this word on have a run mark at C or above.
@@ -129,14 +72,13 @@ pub fn state_refusal(
     requires { ⌜ InTurn controllers count k ⌝ }
     ensures { λ r. ⌜ r ≡ stateRefusal controllers count (now (masks .entry)) k before state ⌝ }
 {
-    let broken = output_broken_at(controllers, masks, k, before, state);
+    let broken = (0 < k) & output_broken(controllers, masks, before, state);
     let step = step_refusal(state_limit(controllers), state, broken);
     let last = last_refusal(k + 1 == count, marks_of(state));
     or_else(step, last)
 }
 
-// The states that are there, in order. `held` are the atoms that the state before holds, none before the first:
-// by its marks of controllers 0 to 3 and of 4 to 7, so that no branch depends on them.
+// The states that are there, in order. `held` are the atoms that the state before holds, none before the first.
 pub fn states_refusal(controllers: usize, count: usize, masks: &[u32], states: &[u64]) -> u8
     requires { ⌜ controllers ≤ maxControllers ⌝ }
     ensures { λ r. ⌜ r ≡ statesRefusal controllers count (now (masks .entry)) 0 0 (take count (now (states .entry))) ⌝ }
@@ -153,8 +95,7 @@ pub fn states_refusal(controllers: usize, count: usize, masks: &[u32], states: &
         if refusal != Refusal::NONE {
             return refusal;
         }
-        let marks = marks_of(state);
-        held = low[(marks % 16) as usize] | high[(marks / 16) as usize];
+        held = held_at(&low, &high, marks_of(state));
         before = state;
     }
     last_refusal(there == count, marks_of(before))
@@ -162,7 +103,7 @@ pub fn states_refusal(controllers: usize, count: usize, masks: &[u32], states: &
 
 // Fewer masks or states than the heading says.
 fn lines_refusal(controllers: usize, count: usize, masks: &[u32], states: &[u64]) -> u8
-    ensures { λ r. ⌜ r ≡ recordingLinesRefusal (record { controllers = controllers; count = count; masks = now (masks .entry); states = now (states .entry) }) ⌝ }
+    ensures { λ r. ⌜ r ≡ recordingLinesRefusal (recordingOf controllers count (now (masks .entry)) (now (states .entry))) ⌝ }
 {
     let short = pick(
         states.len() < count,
@@ -174,7 +115,7 @@ fn lines_refusal(controllers: usize, count: usize, masks: &[u32], states: &[u64]
 
 // A refused heading ends it: the shifts of the states need C within its limit.
 pub fn recording_refusal(controllers: usize, count: usize, masks: &[u32], states: &[u64]) -> u8
-    ensures { λ r. ⌜ r ≡ recordingRefusal (record { controllers = controllers; count = count; masks = now (masks .entry); states = now (states .entry) }) ⌝ }
+    ensures { λ r. ⌜ r ≡ recordingRefusal (recordingOf controllers count (now (masks .entry)) (now (states .entry))) ⌝ }
 {
     let heading = heading_refusal(controllers, count);
     if heading != Refusal::NONE {
@@ -187,9 +128,17 @@ pub fn recording_refusal(controllers: usize, count: usize, masks: &[u32], states
     or_else(meeting, late)
 }
 
-// Of the recording only the number of controllers decides.
-pub fn controller_refusal(controllers: usize, c: usize) -> u8
-    ensures { λ r. ⌜ ((R : Recording) → R .controllers ≡ controllers → r ≡ controllerRefusal R c) ⌝ }
+// The recording, then the controller that it is asked for.
+pub fn trace_refusal(
+    controllers: usize,
+    count: usize,
+    masks: &[u32],
+    states: &[u64],
+    c: usize,
+) -> u8
+    ensures { λ r. ⌜ r ≡ traceRefusal (recordingOf controllers count (now (masks .entry)) (now (states .entry))) c ⌝ }
 {
-    pick(c < controllers, Refusal::NONE, Refusal::NO_CONTROLLER)
+    let recording = recording_refusal(controllers, count, masks, states);
+    let joining = pick(c < controllers, Refusal::NONE, Refusal::NO_CONTROLLER);
+    or_else(recording, joining)
 }

@@ -1,35 +1,13 @@
 // Held atoms: own atoms of the controllers that don't run in a state, which the next state may not change.
 ghost use mathlib.Core.Path.{_≡_};
 ghost use Prim.Native.Nat.{_≤_, min};
-ghost use lib.ListN.{take};
+ghost use lib.ListN.{length, take};
 ghost use Rattle.definitions.specs.Limits.{maxControllers};
-ghost use Rattle.definitions.specs.Recordings.{marksOf};
-ghost use Rattle.traces.specs.Held.{heldWith, heldBy, heldTable, heldGroup, heldChanged};
-use super::check::mask_at;
+ghost use Rattle.definitions.specs.Recordings.{outputBroken};
+ghost use Rattle.traces.specs.Held.{heldTable, heldGroup, heldAt, heldChanged};
+use super::masks::mask_at;
 use super::state::atoms_of;
-use super::state::runs;
-
-// A mask is held where its controller does not run.
-fn held_with(held: u32, mask: u32, ran: bool) -> u32
-    ensures { λ r. ⌜ r ≡ heldWith held mask ran ⌝ }
-{
-    if ran {
-        return held;
-    }
-    held | mask
-}
-
-// What the masks hold in this state, one controller after the other.
-pub fn held_atoms(controllers: usize, masks: &[u32], state: u64) -> u32
-    requires { ⌜ controllers ≤ maxControllers ⌝ }
-    ensures { λ r. ⌜ r ≡ heldBy controllers (now (masks .entry)) (marksOf state) ⌝ }
-{
-    let mut held: u32 = 0;
-    for c in 0..controllers {
-        held = held_with(held, mask_at(masks, c), runs(c, state));
-    }
-    held
-}
+use super::state::marks_of;
 
 // What four masks hold, for each word of four run marks.
 fn held_table(a: u32, b: u32, c: u32, d: u32) -> [u32; 16]
@@ -78,8 +56,25 @@ pub fn held_group(controllers: usize, masks: &[u32], first: usize) -> [u32; 16]
     held_table(a, b, c, d)
 }
 
+// Looked up by the marks of controllers 0 to 3 and of 4 to 7, so that no branch depends on them.
+pub fn held_at(low: &[u32], high: &[u32], marks: u64) -> u32
+    requires { ⌜ (16 ≤ length (now low)) × (16 ≤ length (now high)) ⌝ }
+    ensures { λ r. ⌜ r ≡ heldAt (now (low .entry)) (now (high .entry)) marks ⌝ }
+{
+    low[(marks % 16) as usize] | high[(marks / 16 % 16) as usize]
+}
+
 pub fn held_changed(held: u32, before: u64, state: u64) -> bool
     ensures { λ r. ⌜ r ≡ heldChanged held before state ⌝ }
 {
     held & (atoms_of(before) ^ atoms_of(state)) != 0
+}
+
+pub fn output_broken(controllers: usize, masks: &[u32], before: u64, state: u64) -> bool
+    requires { ⌜ controllers ≤ maxControllers ⌝ }
+    ensures { λ r. ⌜ r ≡ outputBroken controllers (now (masks .entry)) before state ⌝ }
+{
+    let low = held_group(controllers, masks, 0);
+    let high = held_group(controllers, masks, 4);
+    held_changed(held_at(&low, &high, marks_of(before)), before, state)
 }

@@ -1,6 +1,5 @@
-// Recordings (global traces): their check, and the projection to the local trace of one controller (component).
+// Recordings (global traces): their check, and one state against the state before it.
 pub mod check;
 pub mod held;
-pub mod operation;
-pub mod project;
+pub mod masks;
 pub mod state;

@@ -1,19 +1,23 @@
--- `program::tables::judge_tables` meets its contract.
+-- `judge_tables` meets its contract.
+use borrow.Author.Needs.{needs}
 use Rattle.program.proofs.TableLaws.{table-laws}
 use Rattle.program.proofs.tables.judge_tables.Statement.{statement}
 use Rattle.program.proofs.tables.judge_tables.Tie as tie
 
-slice-aggregate-count-places : tie.Need-slice-aggregate-count-places
-slice-aggregate-count-places c = search table-laws
+local-length-requires : tie.Need-local-length-requires
+local-length-requires c κs = search table-laws
 
-count-places-requires : tie.Need-count-places-requires
-count-places-requires c κs = search table-laws
+judge-accepted-requires : tie.Need-judge-accepted-requires
+judge-accepted-requires c κs = search needs
 
-judge-own-requires : tie.Need-judge-own-requires
-judge-own-requires c κs = search table-laws
+judge-rewriting-requires : tie.Need-judge-rewriting-requires
+judge-rewriting-requires c κs = search needs
 
-judge-rewritings-requires : tie.Need-judge-rewritings-requires
-judge-rewritings-requires c κs = search table-laws
+judge-rewriting-requires-2 : tie.Need-judge-rewriting-requires-2
+judge-rewriting-requires-2 c κs = search needs
+
+cast-t10 : tie.Need-cast-t10
+cast-t10 c = search table-laws
 
 returns : tie.Need-returns
 returns c = search table-laws
@@ -22,8 +26,9 @@ pub judge-tables-spec : {M : Type 1} → statement M
 judge-tables-spec =
     tie.close
     (tie.spec
-    slice-aggregate-count-places
-    count-places-requires
-    judge-own-requires
-    judge-rewritings-requires
+    local-length-requires
+    judge-accepted-requires
+    judge-rewriting-requires
+    judge-rewriting-requires-2
+    cast-t10
     returns)

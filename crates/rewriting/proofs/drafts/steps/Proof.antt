@@ -1,17 +1,15 @@
--- `steps` meets its contract. The invariant: the draft of the nodes so far is in the table and in the arrays (DraftLaws).
-use Prim.Native.Nat.{_-_}
+-- `steps` meets its contract.
 use borrow.Author.Needs.{needs}
-use Rattle.rewriting.proofs.DraftLaws.{Drafting, image-small, drafting-next, draft-laws}
+use Prim.Native.Nat.{_-_}
+use Rattle.rewriting.proofs.DraftLaws.{Drafting, image-small, draft-laws}
 use Rattle.rewriting.proofs.drafts.steps.Statement.{statement}
 use Rattle.rewriting.proofs.drafts.steps.Tie as tie
 
 abbrev Inv-loop : tie.InvT-loop
-Inv-loop table₀ short mask count nodes weak₀ strong₀ tolerant₀ last₀ at₀ i₀ table weak strong tolerant last at i =
-    Drafting short mask count nodes table₀ i at weak strong tolerant last table
+Inv-loop table₀ short mask count nodes images₀ last₀ at₀ i₀ table images last at i = Drafting short mask count nodes table₀ i at images last table
 
 abbrev μ-loop : tie.MeasureT-loop
-μ-loop table₀ short mask count nodes weak₀ strong₀ tolerant₀ last₀ at₀ i₀ table weak strong tolerant last at i =
-    count - i
+μ-loop table₀ short mask count nodes images₀ last₀ at₀ i₀ table images last at i = count - i
 
 opening-requires : tie.Need-opening-requires Inv-loop μ-loop
 opening-requires c κs = search needs
@@ -34,56 +32,29 @@ index-requires c κs = search draft-laws
 index-requires-2 : tie.Need-index-requires-2 Inv-loop μ-loop
 index-requires-2 c κs = search draft-laws
 
-mul-t20 : tie.Need-mul-t20 Inv-loop μ-loop
-mul-t20 c = search needs
-
-array-read-t25 : tie.Need-array-read-t25 Inv-loop μ-loop
-array-read-t25 c = search needs
-
-mul-t26 : tie.Need-mul-t26 Inv-loop μ-loop
-mul-t26 c = search needs
-
-array-read-t29 : tie.Need-array-read-t29 Inv-loop μ-loop
-array-read-t29 c = search needs
-
-array-read-step : tie.Need-array-read-step Inv-loop μ-loop
-array-read-step c = search needs
-
-mul-t20-2 : tie.Need-mul-t20-2 Inv-loop μ-loop
-mul-t20-2 c = search needs
-
-array-read-t25-2 : tie.Need-array-read-t25-2 Inv-loop μ-loop
-array-read-t25-2 c = search needs
-
-mul-t26-2 : tie.Need-mul-t26-2 Inv-loop μ-loop
-mul-t26-2 c = search needs
-
-array-read-t29-2 : tie.Need-array-read-t29-2 Inv-loop μ-loop
-array-read-t29-2 c = search needs
-
-array-read-step-2 : tie.Need-array-read-step-2 Inv-loop μ-loop
-array-read-step-2 c = search needs
-
 is-own-requires : tie.Need-is-own-requires Inv-loop μ-loop
 is-own-requires c κs = search needs
 
+mul-step : tie.Need-mul-step Inv-loop μ-loop
+mul-step c = search needs
+
+array-copy-out-step : tie.Need-array-copy-out-step Inv-loop μ-loop
+array-copy-out-step c = search needs
+
+mul-step-2 : tie.Need-mul-step-2 Inv-loop μ-loop
+mul-step-2 c = search needs
+
+array-copy-out-step-2 : tie.Need-array-copy-out-step-2 Inv-loop μ-loop
+array-copy-out-step-2 c = search needs
+
 step-requires : tie.Need-step-requires Inv-loop μ-loop
-step-requires c κs = (search draft-laws, search draft-laws, search draft-laws, search image-small, search image-small)
+step-requires c κs = (search draft-laws, search draft-laws, search draft-laws, search draft-laws, search image-small, search image-small)
 
-mul-weak : tie.Need-mul-weak Inv-loop μ-loop
-mul-weak c = search needs
+mul-images : tie.Need-mul-images Inv-loop μ-loop
+mul-images c = search needs
 
-array-write-weak : tie.Need-array-write-weak Inv-loop μ-loop
-array-write-weak c = search needs
-
-mul-strong : tie.Need-mul-strong Inv-loop μ-loop
-mul-strong c = search needs
-
-array-write-strong : tie.Need-array-write-strong Inv-loop μ-loop
-array-write-strong c = search needs
-
-array-write-tolerant : tie.Need-array-write-tolerant Inv-loop μ-loop
-array-write-tolerant c = search needs
+array-set-from-images : tie.Need-array-set-from-images Inv-loop μ-loop
+array-set-from-images c = search needs
 
 cast-at : tie.Need-cast-at Inv-loop μ-loop
 cast-at c = search needs
@@ -98,12 +69,7 @@ loop-less : tie.Need-loop-less Inv-loop μ-loop
 loop-less c = search needs
 
 loop-again : tie.Need-loop-again Inv-loop μ-loop
-loop-again c =
-    let turn = c .before .before .before in
-    let read = turn .before .before .before .before .before in
-    let head = read .before .before .before in
-    drafting-next _ _ _ _ _ _ _ _ _ _ _ _ (head .loop .inv) (read .before .before .loop-test .taken) _ _ _ _ _ _ (read .of-word .ensures)
-    (turn .before .before .before .before .index .ensures) (turn .before .before .before .index2 .ensures) (turn .before .is-own .ensures) (turn .step .ensures)
+loop-again c = search draft-laws
 
 same-length : tie.Need-same-length Inv-loop μ-loop
 same-length c = search needs
@@ -124,23 +90,14 @@ steps-spec =
     of-word-requires
     index-requires
     index-requires-2
-    mul-t20
-    array-read-t25
-    mul-t26
-    array-read-t29
-    array-read-step
-    mul-t20-2
-    array-read-t25-2
-    mul-t26-2
-    array-read-t29-2
-    array-read-step-2
     is-own-requires
+    mul-step
+    array-copy-out-step
+    mul-step-2
+    array-copy-out-step-2
     step-requires
-    mul-weak
-    array-write-weak
-    mul-strong
-    array-write-strong
-    array-write-tolerant
+    mul-images
+    array-set-from-images
     cast-at
     add-at
     add-i

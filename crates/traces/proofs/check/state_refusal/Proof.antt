@@ -4,8 +4,8 @@ use Rattle.traces.proofs.CheckLaws.{state-laws}
 use Rattle.traces.proofs.check.state_refusal.Statement.{statement}
 use Rattle.traces.proofs.check.state_refusal.Tie as tie
 
-output-broken-at-requires : tie.Need-output-broken-at-requires
-output-broken-at-requires c κs = search needs
+output-broken-requires : tie.Need-output-broken-requires
+output-broken-requires c κs = search needs
 
 state-limit-requires : tie.Need-state-limit-requires
 state-limit-requires c κs = search needs
@@ -32,7 +32,7 @@ pub state-refusal-spec : {M : Type 1} → statement M
 state-refusal-spec =
     tie.close
     (tie.spec
-    output-broken-at-requires
+    output-broken-requires
     state-limit-requires
     step-refusal-requires
     add-last-refusal

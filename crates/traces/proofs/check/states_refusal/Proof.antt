@@ -1,6 +1,6 @@
 -- `traces::check::states_refusal` meets its contract.
 use Prim.Native.Nat.{_-_}
-use Rattle.traces.proofs.CheckLaws.{StatesLeft, state-laws}
+use Rattle.traces.proofs.CheckLaws.{StatesLeft, states-next, state-laws}
 use Rattle.traces.proofs.check.states_refusal.Statement.{statement}
 use Rattle.traces.proofs.check.states_refusal.Tie as tie
 
@@ -40,20 +40,17 @@ step-refusal-requires c κs = search state-laws
 returns : tie.Need-returns Inv-loop μ-loop
 returns c = search state-laws
 
+slice-aggregate-held-at : tie.Need-slice-aggregate-held-at Inv-loop μ-loop
+slice-aggregate-held-at c = search state-laws
+
+slice-aggregate-held-at-2 : tie.Need-slice-aggregate-held-at-2 Inv-loop μ-loop
+slice-aggregate-held-at-2 c = search state-laws
+
 marks-of-requires : tie.Need-marks-of-requires Inv-loop μ-loop
 marks-of-requires c κs = search state-laws
 
-mul-held : tie.Need-mul-held Inv-loop μ-loop
-mul-held c = search state-laws
-
-array-read-held : tie.Need-array-read-held Inv-loop μ-loop
-array-read-held c = search state-laws
-
-mul-held-2 : tie.Need-mul-held-2 Inv-loop μ-loop
-mul-held-2 c = search state-laws
-
-array-read-held-2 : tie.Need-array-read-held-2 Inv-loop μ-loop
-array-read-held-2 c = search state-laws
+held-at-requires : tie.Need-held-at-requires Inv-loop μ-loop
+held-at-requires c κs = search state-laws
 
 add-k : tie.Need-add-k Inv-loop μ-loop
 add-k c = search state-laws
@@ -62,7 +59,24 @@ loop-less : tie.Need-loop-less Inv-loop μ-loop
 loop-less c = search state-laws
 
 loop-again : tie.Need-loop-again Inv-loop μ-loop
-loop-again c = search state-laws
+loop-again c =
+    let met = c .before in
+    let go = met .before .before .before in
+    let step = go .before in
+    let changed = step .before in
+    let turn = changed .before .before in
+    let l = turn .before .loop in
+    let least = turn .before .before in
+    let limit = least .before in
+    let high = limit .before in
+    let low = high .before in
+    let start = low .before .before .before in
+    let a = start .args in
+    states-next (a .controllers) (a .count) (a .masks .now) (a .states .now) (l .before) (l .held) (l .k) (least .least .result) (l .inv) (least .least .ensures)
+    (turn .loop-test .taken) (limit .state-limit .result) (step .step-refusal .result) (changed .held-changed .result)
+    (limit .state-limit .ensures) (changed .held-changed .ensures) (step .step-refusal .ensures) (go .if1 .left) (start .pre)
+    (low .held-group .result) (high .held-group2 .result) (low .held-group .ensures) (high .held-group2 .ensures)
+    (met .marks-of .result) (c .held-at .result) (met .marks-of .ensures) (c .held-at .ensures)
 
 marks-of-requires-2 : tie.Need-marks-of-requires-2 Inv-loop μ-loop
 marks-of-requires-2 c κs = search state-laws
@@ -89,11 +103,10 @@ states-refusal-spec =
     held-changed-requires
     step-refusal-requires
     returns
+    slice-aggregate-held-at
+    slice-aggregate-held-at-2
     marks-of-requires
-    mul-held
-    array-read-held
-    mul-held-2
-    array-read-held-2
+    held-at-requires
     add-k
     loop-less
     loop-again

@@ -1,28 +1,28 @@
+-- `Row::column` meets its contract: the states of one word, or of two (PackedLaws).
 use native.Mathlib.Omega.{arith}
-use borrow.Author.Needs.{needs}
-use Rattle.rows.proofs.RowLaws.{column-low, column-high}
+use Rattle.rows.proofs.PackedLaws.{column-low, column-high, packed-laws}
 use Rattle.rows.proofs.row.Row.column.Statement.{statement}
 use Rattle.rows.proofs.row.Row.column.Tie as tie
 
 gather-requires : tie.Need-gather-requires
-gather-requires c κs = search needs
+gather-requires c κs = search packed-laws
 
 returns : tie.Need-returns
 returns c =
     let a = c .before .before .before .args in
-    column-low (a .states .now) (a .n) (a .bit) (c .gather .result) (omega arith) (c .gather .ensures)
+    column-low (a .states .now) (a .n) (a .bit) (c .gather .result) (c .gather .ensures) (omega arith)
 
 gather-requires-2 : tie.Need-gather-requires-2
-gather-requires-2 c κs = search needs
+gather-requires-2 c κs = search packed-laws
 
 gather-requires-3 : tie.Need-gather-requires-3
-gather-requires-3 c κs = search needs
+gather-requires-3 c κs = search packed-laws
 
 returns-2 : tie.Need-returns-2
 returns-2 c =
     let s = c .before .before .before .before in
     let a = s .args in
-    column-high (a .states .now) (a .n) (a .bit) (c .before .gather2 .result) (c .gather3 .result) (omega arith) (s .pre .0) (c .before .gather2 .ensures) (c .gather3 .ensures)
+    column-high (a .states .now) (a .n) (a .bit) (c .before .gather2 .result) (c .gather3 .result) (c .before .gather2 .ensures) (c .gather3 .ensures) (omega arith) (s .pre .0)
 
 pub column-spec : {M : Type 1} → statement M
 column-spec =

@@ -1,6 +1,7 @@
+-- `Row::mark` meets its contract: a bit of one of its words (PackedLaws).
 use borrow.Author.Needs.{needs}
 use Rattle.definitions.specs.Bounded.{bitOf}
-use Rattle.rows.proofs.RowLaws.{mark-is}
+use Rattle.rows.proofs.PackedLaws.{mark-is}
 use Rattle.rows.proofs.row.Row.mark.Statement.{statement}
 use Rattle.rows.proofs.row.Row.mark.Tie as tie
 

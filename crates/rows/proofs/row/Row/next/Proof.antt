@@ -1,45 +1,29 @@
-use borrow.Author.Needs.{needs}
+-- `Row::next` meets its contract: the row one place on, and the ending at its last place (RowLaws).
 use Rattle.rows.proofs.RowLaws.{row-laws}
 use Rattle.rows.proofs.row.Row.next.Statement.{statement}
 use Rattle.rows.proofs.row.Row.next.Tie as tie
 
+low-requires : tie.Need-low-requires
+low-requires c κs = search row-laws
+
+high-requires : tie.Need-high-requires
+high-requires c κs = search row-laws
+
+sub-t7 : tie.Need-sub-t7
+sub-t7 c = search row-laws
+
+shl-t9 : tie.Need-shl-t9
+shl-t9 c = search row-laws
+
+last-requires : tie.Need-last-requires
+last-requires c κs = search row-laws
+
+or-requires : tie.Need-or-requires
+or-requires c κs = search row-laws
+
 returns : tie.Need-returns
 returns c = search row-laws
 
-array-read-t9 : tie.Need-array-read-t9
-array-read-t9 c = search needs
-
-array-read-t13 : tie.Need-array-read-t13
-array-read-t13 c = search needs
-
-sub-t14 : tie.Need-sub-t14
-sub-t14 c = search needs
-
-shl-t16 : tie.Need-shl-t16
-shl-t16 c = search needs
-
-array-read-t20 : tie.Need-array-read-t20
-array-read-t20 c = search needs
-
-sub-with : tie.Need-sub-with
-sub-with c = search needs
-
-with-requires : tie.Need-with-requires
-with-requires c κs = search needs
-
-returns-2 : tie.Need-returns-2
-returns-2 c = search row-laws
-
 pub next-spec : {M : Type 1} → statement M
 next-spec =
-    tie.close
-    (tie.spec
-    returns
-    array-read-t9
-    array-read-t13
-    sub-t14
-    shl-t16
-    array-read-t20
-    sub-with
-    with-requires
-    returns-2)
+    tie.close (tie.spec low-requires high-requires sub-t7 shl-t9 last-requires or-requires returns)

@@ -1,9 +1,13 @@
-use Rattle.rows.proofs.RowLaws.{row-laws}
+-- `Row::none` meets its contract: no mark, not even the last (PackedLaws).
+use Rattle.rows.proofs.PackedLaws.{packed-laws}
 use Rattle.rows.proofs.row.Row.none.Statement.{statement}
 use Rattle.rows.proofs.row.Row.none.Tie as tie
 
+last-requires : tie.Need-last-requires
+last-requires c κs = search packed-laws
+
 returns : tie.Need-returns
-returns c = search row-laws
+returns c = search packed-laws
 
 pub none-spec : {M : Type 1} → statement M
-none-spec = tie.close (tie.spec returns)
+none-spec = tie.close (tie.spec last-requires returns)

@@ -1,22 +1,22 @@
-use borrow.Author.Needs.{needs}
+-- `Row::not` meets its contract: against the full row (RowLaws).
 use Rattle.rows.proofs.RowLaws.{row-laws}
 use Rattle.rows.proofs.row.Row.not.Statement.{statement}
 use Rattle.rows.proofs.row.Row.not.Tie as tie
 
 full-requires : tie.Need-full-requires
-full-requires c κs = search needs
+full-requires c κs = search row-laws
 
-array-read-t7 : tie.Need-array-read-t7
-array-read-t7 c = search needs
+low-requires : tie.Need-low-requires
+low-requires c κs = search row-laws
 
-array-read-t10 : tie.Need-array-read-t10
-array-read-t10 c = search needs
+low-requires-2 : tie.Need-low-requires-2
+low-requires-2 c κs = search row-laws
 
-array-read-t14 : tie.Need-array-read-t14
-array-read-t14 c = search needs
+high-requires : tie.Need-high-requires
+high-requires c κs = search row-laws
 
-array-read-t17 : tie.Need-array-read-t17
-array-read-t17 c = search needs
+high-requires-2 : tie.Need-high-requires-2
+high-requires-2 c κs = search row-laws
 
 returns : tie.Need-returns
 returns c = search row-laws
@@ -24,4 +24,4 @@ returns c = search row-laws
 pub not-spec : {M : Type 1} → statement M
 not-spec =
     tie.close
-    (tie.spec full-requires array-read-t7 array-read-t10 array-read-t14 array-read-t17 returns)
+    (tie.spec full-requires low-requires low-requires-2 high-requires high-requires-2 returns)

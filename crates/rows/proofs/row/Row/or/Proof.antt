@@ -1,22 +1,29 @@
-use borrow.Author.Needs.{needs}
-use Rattle.rows.proofs.RowLaws.{row-laws}
+-- `Row::or` meets its contract: the words of a whole row are those of its marks (RowLaws).
+use Rattle.rows.proofs.RowLaws.{or-made, row-laws}
 use Rattle.rows.proofs.row.Row.or.Statement.{statement}
 use Rattle.rows.proofs.row.Row.or.Tie as tie
 
-array-read-t7 : tie.Need-array-read-t7
-array-read-t7 c = search needs
+low-requires : tie.Need-low-requires
+low-requires c κs = search row-laws
 
-array-read-t10 : tie.Need-array-read-t10
-array-read-t10 c = search needs
+low-requires-2 : tie.Need-low-requires-2
+low-requires-2 c κs = search row-laws
 
-array-read-t14 : tie.Need-array-read-t14
-array-read-t14 c = search needs
+high-requires : tie.Need-high-requires
+high-requires c κs = search row-laws
 
-array-read-t17 : tie.Need-array-read-t17
-array-read-t17 c = search needs
+high-requires-2 : tie.Need-high-requires-2
+high-requires-2 c κs = search row-laws
 
 returns : tie.Need-returns
-returns c = search row-laws
+returns c =
+    let s = c .before .before .before .before in
+    let low = c .before .before .before .low in
+    let low2 = c .before .before .low2 in
+    let high = c .before .high in
+    let high2 = c .high2 in
+    or-made (s .args .self) (s .args .q) (low .result) (low2 .result) (high .result) (high2 .result) (low .ensures) (low2 .ensures) (high .ensures) (high2 .ensures)
+    (s .pre .0) (s .pre .1) (s .pre .2)
 
 pub or-spec : {M : Type 1} → statement M
-or-spec = tie.close (tie.spec array-read-t7 array-read-t10 array-read-t14 array-read-t17 returns)
+or-spec = tie.close (tie.spec low-requires low-requires-2 high-requires high-requires-2 returns)

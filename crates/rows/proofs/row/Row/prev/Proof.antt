@@ -1,31 +1,28 @@
-use borrow.Author.Needs.{needs}
+-- `Row::prev` meets its contract: the low word carries into the high, and the full row cuts (RowLaws).
 use Rattle.rows.proofs.RowLaws.{row-laws}
 use Rattle.rows.proofs.row.Row.prev.Statement.{statement}
 use Rattle.rows.proofs.row.Row.prev.Tie as tie
 
 full-requires : tie.Need-full-requires
-full-requires c κs = search needs
+full-requires c κs = search row-laws
 
-array-read-t7 : tie.Need-array-read-t7
-array-read-t7 c = search needs
+low-requires : tie.Need-low-requires
+low-requires c κs = search row-laws
 
-array-read-t11 : tie.Need-array-read-t11
-array-read-t11 c = search needs
+high-requires : tie.Need-high-requires
+high-requires c κs = search row-laws
 
-array-read-t15 : tie.Need-array-read-t15
-array-read-t15 c = search needs
+sub-carried : tie.Need-sub-carried
+sub-carried c = search row-laws
 
-array-read-t19 : tie.Need-array-read-t19
-array-read-t19 c = search needs
+shr-carried : tie.Need-shr-carried
+shr-carried c = search row-laws
 
-sub-t20 : tie.Need-sub-t20
-sub-t20 c = search needs
+low-requires-2 : tie.Need-low-requires-2
+low-requires-2 c κs = search row-laws
 
-shr-t22 : tie.Need-shr-t22
-shr-t22 c = search needs
-
-array-read-t26 : tie.Need-array-read-t26
-array-read-t26 c = search needs
+high-requires-2 : tie.Need-high-requires-2
+high-requires-2 c κs = search row-laws
 
 returns : tie.Need-returns
 returns c = search row-laws
@@ -35,11 +32,10 @@ prev-spec =
     tie.close
     (tie.spec
     full-requires
-    array-read-t7
-    array-read-t11
-    array-read-t15
-    array-read-t19
-    sub-t20
-    shr-t22
-    array-read-t26
+    low-requires
+    high-requires
+    sub-carried
+    shr-carried
+    low-requires-2
+    high-requires-2
     returns)

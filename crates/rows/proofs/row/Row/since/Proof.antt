@@ -1,31 +1,31 @@
-use borrow.Author.Needs.{needs}
+-- `Row::since` meets its contract: the low word carries into the high (RowLaws).
 use Rattle.rows.proofs.RowLaws.{row-laws}
 use Rattle.rows.proofs.row.Row.since.Statement.{statement}
 use Rattle.rows.proofs.row.Row.since.Tie as tie
 
-array-read-since-word : tie.Need-array-read-since-word
-array-read-since-word c = search needs
+low-requires : tie.Need-low-requires
+low-requires c κs = search row-laws
 
-array-read-since-word-2 : tie.Need-array-read-since-word-2
-array-read-since-word-2 c = search needs
+low-requires-2 : tie.Need-low-requires-2
+low-requires-2 c κs = search row-laws
 
 since-word-requires : tie.Need-since-word-requires
-since-word-requires c κs = search needs
+since-word-requires c κs = search row-laws
 
-array-read-since-word-3 : tie.Need-array-read-since-word-3
-array-read-since-word-3 c = search needs
+high-requires : tie.Need-high-requires
+high-requires c κs = search row-laws
 
-array-read-since-word-4 : tie.Need-array-read-since-word-4
-array-read-since-word-4 c = search needs
+high-requires-2 : tie.Need-high-requires-2
+high-requires-2 c κs = search row-laws
 
 sub-since-word : tie.Need-sub-since-word
-sub-since-word c = search needs
+sub-since-word c = search row-laws
 
 shr-since-word : tie.Need-shr-since-word
-shr-since-word c = search needs
+shr-since-word c = search row-laws
 
 since-word-requires-2 : tie.Need-since-word-requires-2
-since-word-requires-2 c κs = search needs
+since-word-requires-2 c κs = search row-laws
 
 returns : tie.Need-returns
 returns c = search row-laws
@@ -34,11 +34,11 @@ pub since-spec : {M : Type 1} → statement M
 since-spec =
     tie.close
     (tie.spec
-    array-read-since-word
-    array-read-since-word-2
+    low-requires
+    low-requires-2
     since-word-requires
-    array-read-since-word-3
-    array-read-since-word-4
+    high-requires
+    high-requires-2
     sub-since-word
     shr-since-word
     since-word-requires-2

@@ -1,87 +1,57 @@
-use borrow.Author.Needs.{needs}
-use Rattle.rows.proofs.RowLaws.{row-laws, until-made}
+-- `Row::until` meets its contract: the ending enters at the last place, the high word at the end of the low (RowLaws).
+use Rattle.rows.proofs.RowLaws.{row-laws}
 use Rattle.rows.proofs.row.Row.until.Statement.{statement}
 use Rattle.rows.proofs.row.Row.until.Tie as tie
 
-returns : tie.Need-returns
-returns c = search row-laws
+last-requires : tie.Need-last-requires
+last-requires c κs = search row-laws
 
-none-requires : tie.Need-none-requires
-none-requires c κs = search needs
+and-requires : tie.Need-and-requires
+and-requires c κs = search row-laws
 
-sub-with : tie.Need-sub-with
-sub-with c = search needs
+or-requires : tie.Need-or-requires
+or-requires c κs = search row-laws
 
-with-requires : tie.Need-with-requires
-with-requires c κs = search needs
+low-requires : tie.Need-low-requires
+low-requires c κs = search row-laws
 
-array-read-until-word : tie.Need-array-read-until-word
-array-read-until-word c = search needs
+high-requires : tie.Need-high-requires
+high-requires c κs = search row-laws
 
-array-read-until-word-2 : tie.Need-array-read-until-word-2
-array-read-until-word-2 c = search needs
-
-array-read-until-word-3 : tie.Need-array-read-until-word-3
-array-read-until-word-3 c = search needs
-
-array-read-until-word-4 : tie.Need-array-read-until-word-4
-array-read-until-word-4 c = search needs
+high-requires-2 : tie.Need-high-requires-2
+high-requires-2 c κs = search row-laws
 
 until-word-requires : tie.Need-until-word-requires
-until-word-requires c κs = search needs
+until-word-requires c κs = search row-laws
 
-array-read-until-word-5 : tie.Need-array-read-until-word-5
-array-read-until-word-5 c = search needs
-
-array-read-until-word-6 : tie.Need-array-read-until-word-6
-array-read-until-word-6 c = search needs
-
-array-read-until-word-7 : tie.Need-array-read-until-word-7
-array-read-until-word-7 c = search needs
-
-array-read-until-word-8 : tie.Need-array-read-until-word-8
-array-read-until-word-8 c = search needs
-
-array-read-until-word-9 : tie.Need-array-read-until-word-9
-array-read-until-word-9 c = search needs
+low-requires-2 : tie.Need-low-requires-2
+low-requires-2 c κs = search row-laws
 
 sub-until-word : tie.Need-sub-until-word
-sub-until-word c = search needs
+sub-until-word c = search row-laws
 
 shl-until-word : tie.Need-shl-until-word
-shl-until-word c = search needs
+shl-until-word c = search row-laws
 
 until-word-requires-2 : tie.Need-until-word-requires-2
-until-word-requires-2 c κs = search needs
+until-word-requires-2 c κs = search row-laws
 
-returns-2 : tie.Need-returns-2
-returns-2 c =
-    let b = c .before .before .before .before .before .before in
-    let k = c .before .before .before .before .before in
-    let s = b .before .before in
-    let a = s .args in
-    until-made (a .self) (a .q) (b .none .result) (k .with .result) (a .weak) (c .until-word2 .result) (c .before .until-word .result) (s .pre .0) (s .pre .1) (s .pre .2)
-    (b .before .if1 .left) (b .none .ensures) (k .with .ensures) (c .before .until-word .ensures) (c .until-word2 .ensures)
+returns : tie.Need-returns
+returns c = search row-laws
 
 pub until-spec : {M : Type 1} → statement M
 until-spec =
     tie.close
     (tie.spec
-    returns
-    none-requires
-    sub-with
-    with-requires
-    array-read-until-word
-    array-read-until-word-2
-    array-read-until-word-3
-    array-read-until-word-4
+    last-requires
+    and-requires
+    or-requires
+    low-requires
+    high-requires
+    high-requires-2
     until-word-requires
-    array-read-until-word-5
-    array-read-until-word-6
-    array-read-until-word-7
-    array-read-until-word-8
-    array-read-until-word-9
+    low-requires-2
     sub-until-word
     shl-until-word
     until-word-requires-2
-    returns-2)
+    returns)

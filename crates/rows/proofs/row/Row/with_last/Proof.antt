@@ -1,49 +1,27 @@
-use borrow.Author.Needs.{needs}
+-- `Row::with_last` meets its contract: its last mark is cut off, then put (RowLaws).
 use Rattle.rows.proofs.RowLaws.{row-laws}
 use Rattle.rows.proofs.row.Row.with_last.Statement.{statement}
 use Rattle.rows.proofs.row.Row.with_last.Tie as tie
 
+last-requires : tie.Need-last-requires
+last-requires c κs = search row-laws
+
+not-requires : tie.Need-not-requires
+not-requires c κs = search row-laws
+
+and-requires : tie.Need-and-requires
+and-requires c κs = search row-laws
+
+last-requires-2 : tie.Need-last-requires-2
+last-requires-2 c κs = search row-laws
+
+or-requires : tie.Need-or-requires
+or-requires c κs = search row-laws
+
 returns : tie.Need-returns
 returns c = search row-laws
-
-sub-full : tie.Need-sub-full
-sub-full c = search needs
-
-full-requires : tie.Need-full-requires
-full-requires c κs = search needs
-
-array-read-t12 : tie.Need-array-read-t12
-array-read-t12 c = search needs
-
-array-read-t15 : tie.Need-array-read-t15
-array-read-t15 c = search needs
-
-array-read-t19 : tie.Need-array-read-t19
-array-read-t19 c = search needs
-
-array-read-t22 : tie.Need-array-read-t22
-array-read-t22 c = search needs
-
-sub-with : tie.Need-sub-with
-sub-with c = search needs
-
-with-requires : tie.Need-with-requires
-with-requires c κs = search needs
-
-returns-2 : tie.Need-returns-2
-returns-2 c = search row-laws
 
 pub with-last-spec : {M : Type 1} → statement M
 with-last-spec =
     tie.close
-    (tie.spec
-    returns
-    sub-full
-    full-requires
-    array-read-t12
-    array-read-t15
-    array-read-t19
-    array-read-t22
-    sub-with
-    with-requires
-    returns-2)
+    (tie.spec last-requires not-requires and-requires last-requires-2 or-requires returns)

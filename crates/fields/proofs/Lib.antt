@@ -1,0 +1,4 @@
+pub mod ScanLaws
+pub mod PartLaws
+pub mod FieldLaws
+pub mod HexLaws

@@ -1,0 +1,35 @@
+// The first line of a rule text: `rule`, controller, node count.
+ghost use mathlib.Core.Path.{_≡_};
+ghost use Rattle.definitions.specs.Lines.{newline, before};
+ghost use Rattle.definitions.specs.RuleText.{ruleHeadingLine};
+ghost use Rattle.formula_lines.specs.NextLines.{headingAnswer};
+use formulas::limits::Refusal;
+use lines::form;
+use lines::form::Pair;
+use lines::next::end_refusal;
+use table_check::rule_heading_refusal;
+
+// Controller and node count, or the refusal.
+pub enum HeadingRead {
+    Heading(usize, usize),
+    Refused(u8),
+}
+
+// The next line as the first; `end` bytes stand before its newline.
+pub fn next_heading(t: &[u8], end: usize) -> HeadingRead
+    requires { ⌜ end ≡ before newline (now t) ⌝ }
+    ensures { λ r. ⌜ r ≡ headingAnswer (ruleHeadingLine (now (t .entry))) ⌝ }
+{
+    let unread = end_refusal(t, end, Refusal::RULE_LINES, Refusal::RULE_FORM);
+    if unread != Refusal::NONE {
+        return HeadingRead::Refused(unread);
+    }
+    let Pair::Numbers(controller, count) = form::worded_decimals(&t[..end], b"rule") else {
+        return HeadingRead::Refused(Refusal::RULE_FORM);
+    };
+    let refusal = rule_heading_refusal(controller as usize, count as usize);
+    if refusal != Refusal::NONE {
+        return HeadingRead::Refused(refusal);
+    }
+    HeadingRead::Heading(controller as usize, count as usize)
+}

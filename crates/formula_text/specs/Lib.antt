@@ -1,4 +1,0 @@
-pub mod Words
-pub mod NodeLines
-pub mod Reading
-pub mod Writing

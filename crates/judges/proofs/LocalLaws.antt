@@ -1,0 +1,182 @@
+-- One law for each need of judging a rule on its local trace.
+use mathlib.Core.Path.{_≡_, refl, sym, ap, ap₂, _∙_}
+use mathlib.Core.Bool.{false}
+use mathlib.Core.List.{List, _++_, append-assoc}
+use Prim.Native.Nat.{ℕ, suc, _+_, _*_, _-_, _<_, _≤_}
+use native.Mathlib.Numerals.{add-one}
+use native.Mathlib.Omega.{arith}
+use lib.ListN.{length, take, drop, getD, set, length-append, length-drop}
+use lib.Seq.{take-at, drop-at, drop-drop, take-suc, set-split, length-take-le}
+use borrow.Author.Needs.{needs}
+use Rattle.definitions.specs.Limits.{maxStates, maxRuleNodes, pairWords}
+use Rattle.definitions.specs.Bounded.{orElse}
+use Rattle.definitions.specs.Tables.{Rule, ruleOf, ruleRefusal, nodesRefusal, nodesIn}
+use Rattle.definitions.specs.Recordings.{Recording, recordingOf, maskOf, recordingRefusal, controllerRefusal}
+use Rattle.definitions.specs.Projection.{localTrace}
+use Rattle.definitions.specs.Readings.{local, rowsOf, pairsWords, verdicts, localVerdicts}
+use Rattle.definitions.specs.Operations.{verdictValues, judgeLocalNumber, judgeLocalAnswer}
+use Rattle.theorems.proofs.Choice.{or-else-none}
+use Rattle.theorems.proofs.NodeLaws.{accepted-rule}
+use Rattle.theorems.proofs.RuleNodes.{rule-some, rule-few}
+use Rattle.theorems.proofs.ScheduleIndependence.{Accepted}
+use Rattle.lent.specs.Space.{laid}
+use Rattle.traces.specs.Joining.{traceRefusal}
+use Rattle.traces.proofs.CheckLaws.{own-mask}
+use Rattle.projection.specs.Places.{runsIn, placesIn, Projectable, Countable}
+use Rattle.projection.proofs.LengthLaws.{length-of}
+use Rattle.projection.proofs.PlaceLaws.{projectable, countable, local-places, few-local}
+use Rattle.evaluation.specs.Traced.{traceOf}
+use Rattle.evaluation.specs.Nodes.{Evaluable, rowsTo}
+use Rattle.evaluation.proofs.TableLaws.{nodes-length}
+use Rattle.judges.specs.declared.verdicts.Verdicts.{Verdicts}
+use Rattle.judges.specs.declared.verdicts.Judgement.the-variants.{Judged, Refused}
+use Rattle.judges.specs.Verdicts.{meant, answerOf, ownVerdicts, OwnReady, Topped, topsIn}
+use Rattle.judges.proofs.CheckedNodes.{nodes-fit, nodes-there}
+use Rattle.judges.proofs.TraceLaws.{local-rows}
+use Rattle.judges.proofs.TopLaws.{topped, tops-verdicts, same-verdicts}
+use Rattle.judges.proofs.WholeLaws.{answer-refused, accepted-controller}
+
+-- ---- places widened
+
+-- before place i: the places before it are laid
+pub record Widening (words : List ℕ) (n : ℕ) (entry : List ℕ) (i : ℕ) (l : List ℕ) : Type 0 where
+  pub within : i ≤ n
+  pub laid : l ≡ take i words ++ drop i entry
+
+pub widening-none : (words : List ℕ) (n : ℕ) (entry : List ℕ) → Widening words n entry 0 entry
+widening-none words n entry = record { within = omega arith; laid = refl }
+
+module _ (words : List ℕ) (n : ℕ) (entry : List ℕ) (i : ℕ) (l : List ℕ) (there : n ≤ length words) (room : n ≤ length entry) (so : Widening words n entry i l) where
+  front-length : length (take i words) ≡ i
+  front-length = length-take-le i words (omega (arith, so .within))
+
+  pub widening-length : length l ≡ length entry
+  widening-length = ap length (so .laid) ∙ rw (length-append, front-length, length-drop) (omega (arith, so .within))
+
+  pub widening-room : i < n → i < length l
+  widening-room h = omega (arith, widening-length)
+
+  pub widening-more : i < n → Widening words n entry (i + 1) (set l i (getD words i 0))
+  widening-more h =
+      let front : take i l ≡ take i words = ap (take i) (so .laid) ∙ take-at (take i words) (drop i entry) i front-length in
+      let back : drop i l ≡ drop i entry = ap (drop i) (so .laid) ∙ drop-at (take i words) (drop i entry) i front-length in
+      let sum : i + 1 ≡ suc i = add-one i in
+      let past : drop (suc i) l ≡ drop (suc i) entry = rw sum at (sym (drop-drop 1 i l) ∙ ap (drop 1) back ∙ drop-drop 1 i entry) in
+      record {
+        within = omega arith;
+        laid = set-split l i (getD words i 0) (omega (arith, widening-length)) ∙ rw (sum, front, past, take-suc words i 0 (omega arith), append-assoc);
+      }
+
+  pub widening-done : n ≤ i → l ≡ take n words ++ drop n entry
+  widening-done h = let e : i ≡ n = omega (arith, so .within) in rw e at (so .laid)
+
+-- ---- an accepted rule over the local trace of an accepted recording
+
+module _ (c count : ℕ) (nodes : List ℕ) (C n : ℕ) (masks states words places rows : List ℕ)
+    (ready : OwnReady (ruleOf c count nodes) (recordingOf C n masks states) words places rows) where
+  abbrev r : Rule
+  r = ruleOf c count nodes
+
+  abbrev R : Recording
+  R = recordingOf C n masks states
+
+  A : Accepted r R
+  A = ready .accepted
+
+  pub own-some : 1 ≤ count
+  own-some = omega (arith, rule-some r (A .rule))
+
+  pub own-countable : Countable n c states
+  own-countable = countable R c (A .recording) (A .controller)
+
+  pub own-projectable : Projectable n c states words
+  own-projectable = projectable R c words (A .recording) (A .controller) (ready .wordsRoom)
+
+  nodes-accepted : nodesRefusal false 0 count nodes ≡ 0
+  nodes-accepted = (accepted-rule r (A .rule)) .1
+
+  module _ (L : ℕ) (le : L ≡ length (runsIn n c states) + 1) where
+    few : L ≤ maxStates
+    few = omega (arith, few-local n c states words own-projectable, own-projectable .fewStates)
+
+    pub own-few : (words′ : List ℕ) → length words′ ≡ length words → L ≤ length words′
+    own-few words′ kept = omega (arith, few, ready .wordsRoom)
+
+    pub own-room : L ≤ length places
+    own-room = omega (arith, few, ready .placesRoom)
+
+    module _ (mask : ℕ) (me : mask ≡ getD masks c 0) (words′ : List ℕ) (p : words′ ≡ laid (placesIn n mask c states) words)
+        (places′ : List ℕ) (w : places′ ≡ take L words′ ++ drop L places) where
+      abbrev content : List ℕ
+      content = placesIn n mask c states
+
+      size : length content ≡ L
+      size = length-of n c mask states ∙ sym le
+
+      front : places′ ≡ content ++ drop L places
+      front = w ∙ ap (λ (l : List ℕ). l ++ drop L places) (ap (take L) p ∙ take-at content (drop (length content) words) L size)
+
+      pub own-evaluable : Evaluable nodes count places′ L 0 rows
+      own-evaluable = record {
+        counted = nodes-there false 0 count nodes nodes-accepted;
+        fit = nodes-fit false count nodes nodes-accepted;
+        few = few;
+        there = rw (front, length-append) (omega (arith, size));
+        controller = omega arith;
+        room = omega (arith, rule-few r (A .rule), ready .rowsRoom);
+      }
+
+      module _ (rows′ : List ℕ) (evaluated : rows′ ≡ pairsWords (rowsTo nodes count places′ L 0 mask) ++ drop (count * pairWords) rows) where
+        below : count - 1 < count
+        below = omega (arith, own-some)
+
+        pub own-topped : Topped rows′ (count - 1) (count - 1)
+        own-topped = topped nodes count places′ L 0 mask rows rows′ (drop (count * pairWords) rows) (count - 1) (count - 1) own-evaluable evaluated below below
+
+        pub own-judged : (v : Verdicts) → v ≡ topsIn rows′ (count - 1) (count - 1) → meant v ≡ ownVerdicts r R
+        own-judged v e =
+            let own : mask ≡ maskOf R c = me ∙ own-mask R c (A .controller) in
+            let ns : length (nodesIn count nodes) ≡ count = nodes-length nodes count (own-evaluable .counted) in
+            let trace : content ≡ localTrace R c = ap (λ (m : ℕ). placesIn n m c states) own ∙ local-places R c in
+            let same : rowsOf (local mask content) (nodesIn count nodes) ≡ rowsOf (traceOf places′ L 0 mask) (nodesIn count nodes) =
+            rw (front, ← size) (local-rows mask 0 content (drop (length content) places) count nodes nodes-accepted) in
+            tops-verdicts nodes count places′ L 0 mask rows rows′ (drop (count * pairWords) rows) (count - 1) (count - 1) own-evaluable evaluated below below v e
+            ∙ (sym (same-verdicts (local mask content) (traceOf places′ L 0 mask) (nodesIn count nodes) (count - 1) (count - 1) same)
+            ∙ rw ns (ap₂ (λ (m : ℕ) (l : List ℕ). verdicts (local m l) (nodesIn count nodes) (count - 1) (count - 1)) own trace))
+
+-- ---- the check, and the answers
+
+pub local-number : (r : Rule) (R : Recording) (refusal trace number : ℕ) → refusal ≡ ruleRefusal r → trace ≡ traceRefusal R (r .controller) → number ≡ orElse refusal trace
+    → number ≡ judgeLocalNumber r R
+unfolding judgeLocalNumber
+local-number r R refusal trace number a b e = cc
+
+module _ (c count : ℕ) (nodes : List ℕ) (C n : ℕ) (masks states : List ℕ) (number : ℕ)
+    (e : number ≡ judgeLocalNumber (ruleOf c count nodes) (recordingOf C n masks states)) where
+  abbrev rule : Rule
+  rule = ruleOf c count nodes
+
+  abbrev recording : Recording
+  recording = recordingOf C n masks states
+
+  pub local-refused : (number ≡ 0 → ⊥) → answerOf (Refused number) ≡ judgeLocalAnswer rule recording
+  unfolding judgeLocalAnswer
+  local-refused some = rw (← e) (answer-refused number (verdictValues (localVerdicts (nodesIn count nodes) (maskOf recording c) (localTrace recording c))) some)
+
+  module _ (none : number ≡ 0) where
+    pub local-accepted : Accepted rule recording
+    unfolding judgeLocalNumber
+    local-accepted =
+        let p = or-else-none (ruleRefusal rule) (traceRefusal recording c) (sym e ∙ none) in
+        let q = or-else-none (recordingRefusal recording) (controllerRefusal C c) (p .1) in
+        record { rule = p .0; recording = q .0; controller = accepted-controller C c (q .1) }
+
+    pub local-judged : (v : Verdicts) → meant v ≡ ownVerdicts rule recording → answerOf (Judged v) ≡ judgeLocalAnswer rule recording
+    unfolding answerOf judgeLocalAnswer
+    local-judged v a = rw (← e, none, a)
+
+pub ruleset widen-laws = (needs, widening-none, widening-length, widening-room, widening-more, widening-done)
+
+pub ruleset own-laws = (needs, own-some, own-countable, own-projectable, own-few, own-room, own-evaluable, own-topped, own-judged)
+
+pub ruleset local-laws = (needs, local-number, local-refused, local-accepted, local-judged)

@@ -1,0 +1,17 @@
+// What stands before the nodes of a rule or of a judge's table, and before the masks of a recording.
+
+pub struct RuleHeading {
+    pub controller: usize,
+    pub count: usize,
+}
+
+pub struct TableHeading {
+    pub count: usize,
+    pub weak_top: usize,
+    pub strong_top: usize,
+}
+
+pub struct RecordingHeading {
+    pub controllers: usize,
+    pub count: usize,
+}

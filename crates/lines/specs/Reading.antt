@@ -1,0 +1,20 @@
+-- How the next line of a text ends, and what a reading of lines leaves.
+use mathlib.Core.Path.{_≡_}
+use Prim.Native.Nat.{ℕ, _≤_}
+use mathlib.Core.List.{List, _++_}
+use lib.ListN.{length, drop}
+use Rattle.definitions.specs.Limits.{accepted}
+use Rattle.definitions.specs.Bounded.{pick}
+use Rattle.definitions.specs.Lines.{newline, isEmpty, has, Scan}
+use Rattle.lines.specs.declared.next.Stopped.{Stopped}
+
+-- the next line is missing, it is not closed, or it ends as it should
+unfoldable pub endRefusal : (missing unclosed : ℕ) → List ℕ → ℕ
+endRefusal missing unclosed t = pick (isEmpty t) missing (pick (has newline t) accepted unclosed)
+
+-- lines of a text were read as s says: its words are laid over the start of lent space
+pub record LinesScanned (s : Scan) (text entry : List ℕ) (r : Stopped) (exit : List ℕ) : Type 0 where
+  pub number : r .number ≡ s .number
+  pub inside : r .at ≤ length text
+  pub rest : drop (r .at) text ≡ s .rest
+  pub words : exit ≡ s .words ++ drop (length (s .words)) entry

@@ -1,0 +1,27 @@
+-- `projection::places::local_length` meets its contract.
+use borrow.Author.Needs.{needs}
+use Rattle.projection.proofs.LengthLaws.{length-laws}
+use Rattle.projection.proofs.places.local_length.Statement.{statement}
+use Rattle.projection.proofs.places.local_length.Tie as tie
+
+add-column : tie.Need-add-column
+add-column c = search needs
+
+column-requires : tie.Need-column-requires
+column-requires c κs = search needs
+
+total-requires : tie.Need-total-requires
+total-requires c κs = search needs
+
+cast-result : tie.Need-cast-result
+cast-result c = search needs
+
+add-result : tie.Need-add-result
+add-result c = search needs
+
+returns : tie.Need-returns
+returns c = search length-laws
+
+pub local-length-spec : {M : Type 1} → statement M
+local-length-spec =
+    tie.close (tie.spec add-column column-requires total-requires cast-result add-result returns)

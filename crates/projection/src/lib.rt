@@ -1,0 +1,3 @@
+// Projection: the local trace of one controller (component) of a recording.
+pub mod places;
+pub mod project;

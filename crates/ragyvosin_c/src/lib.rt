@@ -1,0 +1,231 @@
+// The nine operations for C: each returns its number, and its values lie in `values`, zeros on a refusal.
+ghost use mathlib.Core.Path.{_≡_};
+ghost use mathlib.Core.Bool.{true, false};
+ghost use mathlib.Core.List.{_∷_, _++_};
+ghost use Rattle.definitions.specs.Tables.{ruleOf, tableOf};
+ghost use Rattle.definitions.specs.Recordings.{recordingOf};
+ghost use Rattle.definitions.specs.Operations.{readRuleAnswer, readRuleNodes, writeRuleAnswer, writeRuleText, readRecordingAnswer, readRecordingMasks, readRecordingStates};
+ghost use Rattle.definitions.specs.Operations.{readJointHeading, readJointNodes, readJointMasks, readJointStates, readJointPart, projectAnswer, projectPlaces, judgeLocalAnswer};
+ghost use Rattle.definitions.specs.Operations.{rewriteAnswer, rewriteTable, judgeRecordingAnswer, judgeRecordingRows};
+ghost use Rattle.ragyvosin_c.specs.Values.{heading, partValues};
+use formulas::choice::pick_index;
+use joint_text::joint::join;
+use values::of_judgement;
+use values::of_projection;
+use values::of_recording_read;
+use values::of_rewriting;
+use values::of_rule_read;
+use values::of_rule_written;
+
+mod values;
+
+// Which text a part lies in.
+const RULE_TEXT: usize = 0;
+
+const RECORDING_TEXT: usize = 1;
+
+// Values: controller, node count.
+#[no_mangle]
+pub extern "C" fn rgv_read_rule(text: &[u8], nodes: &mut [u32], values: &mut [usize; 2]) -> u8
+    ensures { λ r. ⌜ r ∷ now (values .exit) ≡ heading 2 (readRuleAnswer (now (text .entry)) (now (nodes .entry))) ⌝ }
+    ensures { λ _. ⌜ now (nodes .exit) ≡ readRuleNodes (now (text .entry)) (now (nodes .entry)) ⌝ }
+{
+    let answer = ragyvosin::read_rule(text, nodes);
+    let laid = of_rule_read(answer);
+    let laid_values = laid.values;
+    *values = laid_values;
+    laid.number
+}
+
+// Value: length.
+#[no_mangle]
+pub extern "C" fn rgv_write_rule(
+    controller: usize,
+    count: usize,
+    nodes: &[u32],
+    text: &mut [u8],
+    values: &mut [usize; 1],
+) -> u8
+    ensures { λ r. ⌜ r ∷ now (values .exit) ≡ heading 1 (writeRuleAnswer (ruleOf controller count (now (nodes .entry))) (now (text .entry))) ⌝ }
+    ensures { λ _. ⌜ now (text .exit) ≡ writeRuleText (ruleOf controller count (now (nodes .entry))) (now (text .entry)) ⌝ }
+{
+    let answer = ragyvosin::write_rule(controller, count, nodes, text);
+    let laid = of_rule_written(answer);
+    let laid_values = laid.values;
+    *values = laid_values;
+    laid.number
+}
+
+// Values: C, N.
+#[no_mangle]
+pub extern "C" fn rgv_read_recording(
+    text: &[u8],
+    masks: &mut [u32],
+    states: &mut [u64],
+    values: &mut [usize; 2],
+) -> u8
+    ensures { λ r. ⌜ r ∷ now (values .exit) ≡ heading 2 (readRecordingAnswer (now (text .entry)) (now (masks .entry)) (now (states .entry))) ⌝ }
+    ensures { λ _. ⌜ now (masks .exit) ≡ readRecordingMasks (now (text .entry)) (now (masks .entry)) (now (states .entry)) ⌝ }
+    ensures { λ _. ⌜ now (states .exit) ≡ readRecordingStates (now (text .entry)) (now (masks .entry)) (now (states .entry)) ⌝ }
+{
+    let answer = ragyvosin::read_recording(text, masks, states);
+    let laid = of_recording_read(answer);
+    let laid_values = laid.values;
+    *values = laid_values;
+    laid.number
+}
+
+// Values: controller, node count, C, N; and of the part handed back: which text it lies in, start, length.
+#[no_mangle]
+pub extern "C" fn rgv_read_joint(
+    rule: &[u8],
+    recording: &[u8],
+    nodes: &mut [u32],
+    masks: &mut [u32],
+    states: &mut [u64],
+    values: &mut [usize; 7],
+) -> u8
+    ensures { λ r. ⌜ r ∷ now (values .exit) ≡ readJointHeading (now (rule .entry)) (now (recording .entry)) (now (nodes .entry)) (now (masks .entry)) (now (states .entry)) ++ partValues (readJointPart (now (rule .entry)) (now (recording .entry)) (now (nodes .entry)) (now (masks .entry)) (now (states .entry))) ⌝ }
+    ensures { λ _. ⌜ now (nodes .exit) ≡ readJointNodes (now (rule .entry)) (now (recording .entry)) (now (nodes .entry)) (now (masks .entry)) (now (states .entry)) ⌝ }
+    ensures { λ _. ⌜ now (masks .exit) ≡ readJointMasks (now (rule .entry)) (now (recording .entry)) (now (nodes .entry)) (now (masks .entry)) (now (states .entry)) ⌝ }
+    ensures { λ _. ⌜ now (states .exit) ≡ readJointStates (now (rule .entry)) (now (recording .entry)) (now (nodes .entry)) (now (masks .entry)) (now (states .entry)) ⌝ }
+{
+    let found = join(rule, recording, nodes, masks, states);
+    let text = pick_index(found.of_rule, RULE_TEXT, RECORDING_TEXT);
+    *values = [
+        found.controller as usize,
+        found.count as usize,
+        found.controllers as usize,
+        found.states as usize,
+        text,
+        found.from,
+        found.len,
+    ];
+    found.number
+}
+
+// Value: length of the local trace.
+#[no_mangle]
+pub extern "C" fn rgv_project(
+    controllers: usize,
+    count: usize,
+    masks: &[u32],
+    states: &[u64],
+    c: usize,
+    places: &mut [u32],
+    values: &mut [usize; 1],
+) -> u8
+    ensures { λ r. ⌜ r ∷ now (values .exit) ≡ heading 1 (projectAnswer (recordingOf controllers count (now (masks .entry)) (now (states .entry))) c (now (places .entry))) ⌝ }
+    ensures { λ _. ⌜ now (places .exit) ≡ projectPlaces (recordingOf controllers count (now (masks .entry)) (now (states .entry))) c (now (places .entry)) ⌝ }
+{
+    let answer = ragyvosin::project(controllers, count, masks, states, c, places);
+    let laid = of_projection(answer);
+    let laid_values = laid.values;
+    *values = laid_values;
+    laid.number
+}
+
+// Values: weak, strong verdict.
+#[no_mangle]
+pub extern "C" fn rgv_judge_local(
+    controller: usize,
+    count: usize,
+    nodes: &[u32],
+    controllers: usize,
+    states_count: usize,
+    masks: &[u32],
+    states: &[u64],
+    values: &mut [usize; 2],
+) -> u8
+    ensures { λ r. ⌜ r ∷ now (values .exit) ≡ heading 2 (judgeLocalAnswer (ruleOf controller count (now (nodes .entry))) (recordingOf controllers «states_count» (now (masks .entry)) (now (states .entry)))) ⌝ }
+{
+    let answer = ragyvosin::judge_local(
+        controller,
+        count,
+        nodes,
+        controllers,
+        states_count,
+        masks,
+        states,
+    );
+    let laid = of_judgement(answer);
+    let laid_values = laid.values;
+    *values = laid_values;
+    laid.number
+}
+
+// Values: node count, weak top, strong top.
+#[no_mangle]
+pub extern "C" fn rgv_rewrite_plain(
+    controller: usize,
+    count: usize,
+    nodes: &[u32],
+    mask: u32,
+    table: &mut [u32],
+    values: &mut [usize; 3],
+) -> u8
+    ensures { λ r. ⌜ r ∷ now (values .exit) ≡ heading 3 (rewriteAnswer false (ruleOf controller count (now (nodes .entry))) mask (now (table .entry))) ⌝ }
+    ensures { λ _. ⌜ now (table .exit) ≡ rewriteTable false (ruleOf controller count (now (nodes .entry))) mask (now (table .entry)) ⌝ }
+{
+    let answer = ragyvosin::rewrite_plain(controller, count, nodes, mask, table);
+    let laid = of_rewriting(answer);
+    let laid_values = laid.values;
+    *values = laid_values;
+    laid.number
+}
+
+// Values: node count, weak top, strong top.
+#[no_mangle]
+pub extern "C" fn rgv_rewrite_short(
+    controller: usize,
+    count: usize,
+    nodes: &[u32],
+    mask: u32,
+    table: &mut [u32],
+    values: &mut [usize; 3],
+) -> u8
+    ensures { λ r. ⌜ r ∷ now (values .exit) ≡ heading 3 (rewriteAnswer true (ruleOf controller count (now (nodes .entry))) mask (now (table .entry))) ⌝ }
+    ensures { λ _. ⌜ now (table .exit) ≡ rewriteTable true (ruleOf controller count (now (nodes .entry))) mask (now (table .entry)) ⌝ }
+{
+    let answer = ragyvosin::rewrite_short(controller, count, nodes, mask, table);
+    let laid = of_rewriting(answer);
+    let laid_values = laid.values;
+    *values = laid_values;
+    laid.number
+}
+
+// Values: weak, strong verdict.
+#[no_mangle]
+pub extern "C" fn rgv_judge_recording(
+    count: usize,
+    nodes: &[u32],
+    weak_top: usize,
+    strong_top: usize,
+    controllers: usize,
+    states_count: usize,
+    masks: &[u32],
+    states: &[u64],
+    c: usize,
+    rows: &mut [u64],
+    values: &mut [usize; 2],
+) -> u8
+    ensures { λ r. ⌜ r ∷ now (values .exit) ≡ heading 2 (judgeRecordingAnswer (tableOf count (now (nodes .entry)) «weak_top» «strong_top») (recordingOf controllers «states_count» (now (masks .entry)) (now (states .entry))) c (now (rows .entry))) ⌝ }
+    ensures { λ _. ⌜ now (rows .exit) ≡ judgeRecordingRows (tableOf count (now (nodes .entry)) «weak_top» «strong_top») (recordingOf controllers «states_count» (now (masks .entry)) (now (states .entry))) c (now (rows .entry)) ⌝ }
+{
+    let answer = ragyvosin::judge_recording(
+        count,
+        nodes,
+        weak_top,
+        strong_top,
+        controllers,
+        states_count,
+        masks,
+        states,
+        c,
+        rows,
+    );
+    let laid = of_judgement(answer);
+    let laid_values = laid.values;
+    *values = laid_values;
+    laid.number
+}

@@ -1,0 +1,3 @@
+pub mod HeadingLaws
+pub mod MaskLaws
+pub mod StateLaws

@@ -1,0 +1,100 @@
+-- Laws of the line of a state: one for each return, and what a caller has of its answer.
+use mathlib.Core.Path.{_≡_, ap, sym, _∙_}
+use mathlib.Core.Bool.{true}
+use mathlib.Core.List.{List}
+use Prim.Native.Nat.{ℕ}
+use native.Mathlib.Omega.{arith}
+use lib.ListN.{take}
+use Rattle.definitions.specs.Limits.{recordingForm, recordingLines}
+use Rattle.definitions.specs.Recordings.{stateOf, stateRefusal}
+use Rattle.definitions.specs.Lines.{newline, before, has, upTo, after, formed, malformed, onParsed, heading, worded, hexadecimal, twoFields, NextLine, refused, read}
+use Rattle.definitions.specs.RecordingText.{atWord, wordDigits, markDigits, stateForm, stateLine}
+use Rattle.theorems.proofs.NextLines.{next-malformed, next-denied, next-read, next-back}
+use Rattle.lines.specs.Forms.{exactPair}
+use Rattle.lines.specs.Reading.{endRefusal}
+use Rattle.lines.specs.declared.form.Pair.{Pair}
+use Rattle.lines.specs.declared.form.Pair.the-variants as pair
+use Rattle.fields.proofs.PartLaws.{part-laws, up-to-part}
+use Rattle.lines.proofs.FormLaws.{worded-made, exact-pair, exact-pair-malformed}
+use Rattle.lines.proofs.NextLaws.{next-unread, end-fine}
+use Rattle.trace_lines.specs.NextLines.{stateAnswer}
+use Rattle.trace_lines.specs.declared.StateRead.{StateRead}
+use Rattle.trace_lines.specs.declared.StateRead.the-variants as state
+
+is-refused : (n : NextLine ℕ) (k : ℕ) → n ≡ refused k → state.Refused k ≡ stateAnswer n
+unfolding stateAnswer
+is-refused n k e = rw e
+
+is-read : (n : NextLine ℕ) (s : ℕ) (rest : List ℕ) → n ≡ read s rest → state.State s ≡ stateAnswer n
+unfolding stateAnswer
+is-read n s rest e = rw e
+
+-- ---- the form
+state-not : (s : List ℕ) → worded atWord (twoFields (hexadecimal markDigits) (hexadecimal wordDigits) heading) s ≡ malformed → stateForm s ≡ malformed
+unfolding stateForm onParsed
+state-not s e = worded-made stateOf (hexadecimal markDigits) (hexadecimal wordDigits) atWord s ∙ rw e
+
+state-formed : (s : List ℕ) (a b : ℕ) → worded atWord (twoFields (hexadecimal markDigits) (hexadecimal wordDigits) heading) s ≡ formed (heading a b) → stateForm s ≡ formed (stateOf a b)
+unfolding stateForm onParsed
+state-formed s a b e = worded-made stateOf (hexadecimal markDigits) (hexadecimal wordDigits) atWord s ∙ rw e
+
+-- ---- `next_state`
+module _ (C N : ℕ) (masks : List ℕ) (k prior : ℕ) (t : List ℕ) (n : ℕ) (ns : n ≡ endRefusal recordingLines recordingForm t) where
+  pub state-unread : (n ≡ 0 → ⊥) → state.Refused n ≡ stateAnswer (stateLine C N masks k prior t)
+  state-unread z = is-refused (stateLine C N masks k prior t) n (next-unread recordingLines recordingForm t n ns _ _ z)
+
+  module _ (z : n ≡ 0) (end : ℕ) (is : end ≡ before newline t) (r : Pair) (rs : r ≡ exactPair (worded atWord (twoFields (hexadecimal markDigits) (hexadecimal wordDigits) heading) (take end t))) where
+    closed : has newline t ≡ true
+    closed = end-fine recordingLines recordingForm t n ns (omega arith) (omega arith) z
+
+    line : r ≡ exactPair (worded atWord (twoFields (hexadecimal markDigits) (hexadecimal wordDigits) heading) (upTo newline t))
+    line = rw (up-to-part newline t end is) at rs
+
+    pub state-malformed : r ≡ pair.Malformed → state.Refused recordingForm ≡ stateAnswer (stateLine C N masks k prior t)
+    state-malformed x =
+        is-refused (stateLine C N masks k prior t) recordingForm
+        (next-malformed recordingLines recordingForm stateForm (stateRefusal C N masks k prior) t closed (state-not (upTo newline t) (exact-pair-malformed _ r line x)))
+
+    module _ (a b : ℕ) (x : r ≡ pair.Numbers a b) (s : ℕ) (ss : s ≡ stateOf a b) (j : ℕ) (js : j ≡ stateRefusal C N masks k prior s) where
+      form : stateForm (upTo newline t) ≡ formed s
+      form = state-formed (upTo newline t) a b (exact-pair _ r a b line x) ∙ ap formed (sym ss)
+
+      pub state-refused : (j ≡ 0 → ⊥) → state.Refused j ≡ stateAnswer (stateLine C N masks k prior t)
+      state-refused y =
+          is-refused (stateLine C N masks k prior t) j (next-denied recordingLines recordingForm stateForm (stateRefusal C N masks k prior) t closed s form j (sym js) y)
+
+      pub state-read : j ≡ 0 → state.State s ≡ stateAnswer (stateLine C N masks k prior t)
+      state-read y =
+          is-read (stateLine C N masks k prior t) s (after newline t)
+          (next-read recordingLines recordingForm stateForm (stateRefusal C N masks k prior) t closed s form (sym js ∙ y))
+
+pub ruleset state-laws = (part-laws, state-unread, state-malformed, state-refused, state-read)
+
+-- ---- what a caller has of an answer
+pub record StateIs (C N : ℕ) (masks : List ℕ) (k prior : ℕ) (t : List ℕ) (s : ℕ) : Type 0 where
+  pub is : stateLine C N masks k prior t ≡ read s (after newline t)
+  pub closed : has newline t ≡ true
+
+record ReadWith (n : NextLine ℕ) (s : ℕ) : Type 0 where
+  rest : List ℕ
+  is : n ≡ read s rest
+
+answer-read : (n : NextLine ℕ) (r : StateRead) (s : ℕ) → r ≡ stateAnswer n → r ≡ state.State s → ReadWith n s
+unfolding stateAnswer
+answer-read (refused j) r s e x = let z : _≡_ {A = ℕ} 0 1 = cc in absurd (omega arith)
+answer-read (read a rest) r s e x = let q : a ≡ s = cc in record { rest = rest; is = ap (λ (b : ℕ). read b rest) q }
+
+answer-refused : (n : NextLine ℕ) (r : StateRead) (k : ℕ) → r ≡ stateAnswer n → r ≡ state.Refused k → n ≡ refused k
+unfolding stateAnswer
+answer-refused (refused j) r k e x = let q : j ≡ k = cc in ap refused q
+answer-refused (read a rest) r k e x = let z : _≡_ {A = ℕ} 0 1 = cc in absurd (omega arith)
+
+module _ (C N : ℕ) (masks : List ℕ) (k prior : ℕ) (t : List ℕ) (r : StateRead) (rs : r ≡ stateAnswer (stateLine C N masks k prior t)) where
+  pub state-is : (s : ℕ) → r ≡ state.State s → StateIs C N masks k prior t s
+  state-is s x =
+      let a = answer-read (stateLine C N masks k prior t) r s rs x in
+      let b = next-back recordingLines recordingForm stateForm (stateRefusal C N masks k prior) t s (a .rest) (a .is) in
+      record { is = a .is ∙ ap (read s) (b .left); closed = b .closed }
+
+  pub state-denied : (j : ℕ) → r ≡ state.Refused j → stateLine C N masks k prior t ≡ refused j
+  state-denied j x = answer-refused (stateLine C N masks k prior t) r j rs x

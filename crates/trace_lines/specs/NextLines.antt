@@ -1,0 +1,39 @@
+-- What the code answers of the next line of a recording text.
+use mathlib.Core.Path.{_≡_}
+use Prim.Native.Nat.{ℕ}
+use mathlib.Core.List.{List}
+use Rattle.definitions.specs.Limits.{recordingForm, recordingLines}
+use Rattle.definitions.specs.Lines.{newline, before, Heading, NextLine, refused, read, nextLine}
+use Rattle.definitions.specs.RecordingText.{maskForm}
+use Rattle.traces.specs.Unions.{unionRefusal}
+use Rattle.traces.specs.Turns.{InTurn}
+use Rattle.trace_lines.specs.declared.HeadingRead.{HeadingRead}
+use Rattle.trace_lines.specs.declared.HeadingRead.the-variants as first
+use Rattle.trace_lines.specs.declared.MaskRead.{MaskRead}
+use Rattle.trace_lines.specs.declared.MaskRead.the-variants as mask
+use Rattle.trace_lines.specs.declared.StateRead.{StateRead}
+use Rattle.trace_lines.specs.declared.StateRead.the-variants as state
+
+-- C and N of the first line, or its refusal
+unfoldable pub headingAnswer : NextLine Heading → HeadingRead
+headingAnswer (refused number) = first.Refused number
+headingAnswer (read h rest) = first.Heading (h .first) (h .second)
+
+-- the mask of an `owns` line, or its refusal
+unfoldable pub maskAnswer : NextLine ℕ → MaskRead
+maskAnswer (refused number) = mask.Refused number
+maskAnswer (read m rest) = mask.Mask m
+
+-- the state of an `at` line, or its refusal
+unfoldable pub stateAnswer : NextLine ℕ → StateRead
+stateAnswer (refused number) = state.Refused number
+stateAnswer (read s rest) = state.State s
+
+-- the next line, as an `owns` line, by the union of the earlier masks
+abbrev pub seenLine : (seen : ℕ) → List ℕ → NextLine ℕ
+seenLine seen t = nextLine recordingLines recordingForm maskForm (unionRefusal seen) t
+
+-- what the line of state k asks of its caller
+pub record StateTurn (C N k end : ℕ) (t : List ℕ) : Type 0 where
+  pub turn : InTurn C N k
+  pub ends : end ≡ before newline t

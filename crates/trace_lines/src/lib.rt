@@ -1,0 +1,115 @@
+// The lines of a recording text: the next line, refused with a number or read as the first line, as a mask or as a state.
+// In each function `end` bytes of the text stand before its newline; nothing is kept of a line but what it gives.
+ghost use mathlib.Core.Path.{_≡_};
+ghost use Rattle.definitions.specs.Recordings.{stateOf};
+ghost use Rattle.definitions.specs.Lines.{newline, before};
+ghost use Rattle.definitions.specs.RecordingText.{recordingHeadingLine, stateLine};
+ghost use Rattle.trace_lines.specs.NextLines.{headingAnswer, maskAnswer, stateAnswer, seenLine, StateTurn};
+use fields::number::Field;
+use formulas::limits::Limits;
+use formulas::limits::Refusal;
+use lines::form;
+use lines::form::Pair;
+use lines::next::end_refusal;
+use traces::check;
+use traces::masks;
+
+// C and N, or the refusal.
+pub enum HeadingRead {
+    Heading(usize, usize),
+    Refused(u8),
+}
+
+pub enum MaskRead {
+    Mask(u32),
+    Refused(u8),
+}
+
+// A state as one word, or the refusal.
+pub enum StateRead {
+    State(u64),
+    Refused(u8),
+}
+
+// The digits of a mask, and of a word of atoms.
+const WORD_DIGITS: usize = 8;
+
+// The digits of run marks.
+const MARK_DIGITS: usize = 2;
+
+pub fn next_heading(t: &[u8], end: usize) -> HeadingRead
+    requires { ⌜ end ≡ before newline (now t) ⌝ }
+    ensures { λ r. ⌜ r ≡ headingAnswer (recordingHeadingLine (now (t .entry))) ⌝ }
+{
+    let unread = end_refusal(t, end, Refusal::RECORDING_LINES, Refusal::RECORDING_FORM);
+    if unread != Refusal::NONE {
+        return HeadingRead::Refused(unread);
+    }
+    let Pair::Numbers(controllers, count) = form::worded_decimals(&t[..end], b"recording") else {
+        return HeadingRead::Refused(Refusal::RECORDING_FORM);
+    };
+    let refusal = check::heading_refusal(controllers as usize, count as usize);
+    if refusal != Refusal::NONE {
+        return HeadingRead::Refused(refusal);
+    }
+    HeadingRead::Heading(controllers as usize, count as usize)
+}
+
+// A mask against `seen`, the union of the earlier ones.
+pub fn next_mask(seen: u32, t: &[u8], end: usize) -> MaskRead
+    requires { ⌜ end ≡ before newline (now t) ⌝ }
+    ensures { λ r. ⌜ r ≡ maskAnswer (seenLine seen (now (t .entry))) ⌝ }
+{
+    let unread = end_refusal(t, end, Refusal::RECORDING_LINES, Refusal::RECORDING_FORM);
+    if unread != Refusal::NONE {
+        return MaskRead::Refused(unread);
+    }
+    let Field::Number(mask) = form::worded_hexadecimal(&t[..end], b"owns", WORD_DIGITS) else {
+        return MaskRead::Refused(Refusal::RECORDING_FORM);
+    };
+    let refusal = masks::mask_refusal(seen, mask);
+    if refusal != Refusal::NONE {
+        return MaskRead::Refused(refusal);
+    }
+    MaskRead::Mask(mask)
+}
+
+// The marks stand above the atoms.
+fn state_of(marks: u32, word: u32) -> u64
+    ensures { λ r. ⌜ r ≡ stateOf marks word ⌝ }
+{
+    ((marks as u64) << Limits::ATOMS) + word as u64
+}
+
+// State k against `prior`, the state before it.
+pub fn next_state(
+    controllers: usize,
+    count: usize,
+    masks: &[u32],
+    k: usize,
+    prior: u64,
+    t: &[u8],
+    end: usize,
+) -> StateRead
+    requires { ⌜ StateTurn controllers count k end (now t) ⌝ }
+    ensures { λ r. ⌜ r ≡ stateAnswer (stateLine controllers count (now (masks .entry)) k prior (now (t .entry))) ⌝ }
+{
+    let unread = end_refusal(t, end, Refusal::RECORDING_LINES, Refusal::RECORDING_FORM);
+    if unread != Refusal::NONE {
+        return StateRead::Refused(unread);
+    }
+    let Pair::Numbers(marks, word) = form::worded_hexadecimals(
+        &t[..end],
+        b"at",
+        MARK_DIGITS,
+        WORD_DIGITS,
+    ) else {
+        return StateRead::Refused(Refusal::RECORDING_FORM);
+    };
+    let state = state_of(marks, word);
+    let refusal = check::state_refusal(controllers, count, masks, k, prior, state);
+    if refusal != Refusal::NONE {
+        return StateRead::Refused(refusal);
+    }
+    StateRead::State(state)
+}

@@ -1,0 +1,98 @@
+-- `scan_states` meets its contract.
+use Prim.Native.Nat.{_-_}
+use Rattle.trace_reader.proofs.LoopLaws.{scan-state-laws, StatesLeft}
+use Rattle.trace_reader.proofs.scan_states.Statement.{statement}
+use Rattle.trace_reader.proofs.scan_states.Tie as tie
+
+abbrev Inv-loop : tie.InvT-loop
+Inv-loop text start controllers count masks states₀ at₀ prior₀ k₀ states at prior k = StatesLeft controllers count masks start text states₀ states at prior k
+
+abbrev μ-loop : tie.MeasureT-loop
+μ-loop text start controllers count masks states₀ at₀ prior₀ k₀ states at prior k = count - k
+
+loop-holds : tie.Need-loop-holds Inv-loop μ-loop
+loop-holds c = search scan-state-laws
+
+sub-t : tie.Need-sub-t Inv-loop μ-loop
+sub-t c = search scan-state-laws
+
+part-t-start : tie.Need-part-t-start Inv-loop μ-loop
+part-t-start c = search scan-state-laws
+
+part-t-end : tie.Need-part-t-end Inv-loop μ-loop
+part-t-end c = search scan-state-laws
+
+until-byte-requires : tie.Need-until-byte-requires Inv-loop μ-loop
+until-byte-requires c κs = search scan-state-laws
+
+next-state-requires : tie.Need-next-state-requires Inv-loop μ-loop
+next-state-requires c κs = search scan-state-laws
+
+enum-known-state : tie.Need-enum-known-state Inv-loop μ-loop
+enum-known-state c = search scan-state-laws
+
+mul-states : tie.Need-mul-states Inv-loop μ-loop
+mul-states c = search scan-state-laws
+
+slice-write-states : tie.Need-slice-write-states Inv-loop μ-loop
+slice-write-states c = search scan-state-laws
+
+add-at : tie.Need-add-at Inv-loop μ-loop
+add-at c = search scan-state-laws
+
+add-at-2 : tie.Need-add-at-2 Inv-loop μ-loop
+add-at-2 c = search scan-state-laws
+
+add-k : tie.Need-add-k Inv-loop μ-loop
+add-k c = search scan-state-laws
+
+loop-less : tie.Need-loop-less Inv-loop μ-loop
+loop-less c = search scan-state-laws
+
+loop-again : tie.Need-loop-again Inv-loop μ-loop
+loop-again c = search scan-state-laws
+
+enum-known-number : tie.Need-enum-known-number Inv-loop μ-loop
+enum-known-number c = search scan-state-laws
+
+same-length : tie.Need-same-length Inv-loop μ-loop
+same-length c = search scan-state-laws
+
+returns : tie.Need-returns Inv-loop μ-loop
+returns c = search scan-state-laws
+
+pick-requires : tie.Need-pick-requires Inv-loop μ-loop
+pick-requires c κs = search scan-state-laws
+
+same-length-2 : tie.Need-same-length-2 Inv-loop μ-loop
+same-length-2 c = search scan-state-laws
+
+returns-2 : tie.Need-returns-2 Inv-loop μ-loop
+returns-2 c = search scan-state-laws
+
+pub scan-states-spec : {M : Type 1} → statement M
+scan-states-spec =
+    tie.close
+    (tie.spec
+    Inv-loop
+    μ-loop
+    loop-holds
+    sub-t
+    part-t-start
+    part-t-end
+    until-byte-requires
+    next-state-requires
+    enum-known-state
+    mul-states
+    slice-write-states
+    add-at
+    add-at-2
+    add-k
+    loop-less
+    loop-again
+    enum-known-number
+    same-length
+    returns
+    pick-requires
+    same-length-2
+    returns-2)

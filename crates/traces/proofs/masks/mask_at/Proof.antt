@@ -1,0 +1,20 @@
+-- `traces::masks::mask_at` meets its contract.
+use borrow.Author.Needs.{needs}
+use Rattle.traces.proofs.CheckLaws.{output-laws}
+use Rattle.traces.proofs.masks.mask_at.Statement.{statement}
+use Rattle.traces.proofs.masks.mask_at.Tie as tie
+
+mul-result : tie.Need-mul-result
+mul-result c = search needs
+
+shared-slice-read-result : tie.Need-shared-slice-read-result
+shared-slice-read-result c = search needs
+
+returns : tie.Need-returns
+returns c = search output-laws
+
+returns-2 : tie.Need-returns-2
+returns-2 c = search output-laws
+
+pub mask-at-spec : {M : Type 1} → statement M
+mask-at-spec = tie.close (tie.spec mul-result shared-slice-read-result returns returns-2)
