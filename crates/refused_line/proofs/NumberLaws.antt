@@ -12,17 +12,18 @@ use mir.Val.{Fits}
 use borrow.Author.Needs.{needs}
 use borrow.Author.Tests.{eq-eqb, ne-eqb}
 use Rattle.definitions.specs.Limits.{maxInputBytes}
+use Rattle.definitions.specs.Bounded.{pick}
 use Rattle.definitions.specs.Lines.{newline}
 use Rattle.theorems.proofs.Choice.{by-test}
 use Rattle.refused_line.specs.Numbering.{closes, newlines, Newlines, lineNumber, LineStart}
 
 -- ---- `newline`
 pub closes-yes : (b : ℕ) → b ≡ newline → 1 ≡ closes b
-unfolding closes
+unfolding closes pick
 closes-yes b e = rw (eq-eqb b newline e)
 
 pub closes-no : (b : ℕ) → (b ≡ newline → ⊥) → 0 ≡ closes b
-unfolding closes
+unfolding closes pick
 closes-no b e = rw (ne-eqb b newline e)
 
 pub ruleset newline-laws = (needs, closes-yes, closes-no)
@@ -50,7 +51,7 @@ module _ (text : List ℕ) (i count : ℕ) (inv : Counted text i count) where
     next = rw (drop-cons text i 0 h, newlines, add-one, is)
 
     one-at-most : n ≤ 1
-    unfolding closes
+    unfolding closes pick
     one-at-most = rw is (by-test (eqb (getD text i 0) newline) (λ e. rw e (omega arith)) (λ e. rw e (omega arith)))
 
     pub counted-next : Counted text (i + 1) (count + n)

@@ -1,16 +1,16 @@
 -- The number of a line in its text, counted from 1.
 use mathlib.Core.Path.{_≡_}
 use Prim.Native.Nat.{ℕ, _+_, _≤_}
-use mathlib.Core.Bool.{cond}
 use mathlib.Core.List.{List, [], _∷_}
 use lib.Dec.{eqb}
 use lib.ListN.{length, take}
 use Rattle.definitions.specs.Limits.{maxInputBytes}
+use Rattle.definitions.specs.Bounded.{pick}
 use Rattle.definitions.specs.Lines.{newline}
 
 -- 1 for byte 10, which closes a line, 0 for any other
 unfoldable pub closes : ℕ → ℕ
-closes b = cond (eqb b newline) 1 0
+closes b = pick (eqb b newline) 1 0
 
 -- how many bytes 10 there are
 unfoldable pub newlines : List ℕ → ℕ
