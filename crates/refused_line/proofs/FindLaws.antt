@@ -11,7 +11,7 @@ use Rattle.definitions.specs.Limits.{lentShort, maxInputBytes, maxRuleNodes, ma
 use Rattle.definitions.specs.Bounded.{pick}
 use Rattle.definitions.specs.RecordingText.{jointNumber, jointPart}
 use Rattle.definitions.specs.Operations.{readJointNumber, readJointHeading, readJointPart}
-use Rattle.lines.proofs.PartLaws.{part-to-end}
+use Rattle.fields.proofs.PartLaws.{part-to-end}
 use Rattle.joint_text.specs.Joining.{partOf, Joined}
 use Rattle.joint_text.specs.declared.joint.Found.{Found}
 use Rattle.program.specs.Splitting.{SplitAt}

@@ -1,7 +1,7 @@
 // The number of a line in its text.
 ghost use mathlib.Core.Path.{_≡_};
 ghost use Rattle.refused_line.specs.Numbering.{closes, Newlines, lineNumber, LineStart};
-use lines::scan;
+use fields::scan;
 
 // 1 for byte 10, 0 for any other.
 fn newline(b: u8) -> usize
