@@ -1,6 +1,9 @@
 /*
  * Ragyvosin: judges the rule of one controller over the recording of a whole
- * rack. Link the archive that `rt staticlib ragyvosin_c` writes.
+ * rack. Link the archive that `rt staticlib ragyvosin_c` writes; it is for
+ * Linux on x86-64 (64-bit size_t, the usual calling convention of C there),
+ * C99 or C++. docs/FORMATS.md describes both texts and every refusal with what
+ * to mend; docs/MEANING.md says what a verdict means; examples/c is a program.
  *
  * Every function takes any input: any bytes, any tables, any lent space, each
  * slice as a pointer and the number of its entries. What C owes: a pointer is
@@ -19,11 +22,31 @@
  * only read may have any length: entries past the count aren't read, and
  * fewer entries than the count are a line missing (4 or 8).
  *
- * Words. A node is kind + 256 * first + 1048576 * second, each operand below
- * 4096. A state is atoms + 4294967296 * run marks, bit c for controller c. A
- * mask and a place are 32 atoms, bit a for atom a. A row pair is six words:
- * the weak row's marks 0 to 63, its marks 64 to 127, the count of states, and
- * the same three of the strong row.
+ * A rule is a controller, 0 to 7, and 1 to 64 nodes; the last node is the
+ * rule, the others are its parts. A node is
+ *     kind + 256 * first + 1048576 * second,
+ * each operand below 4096 and 0 where it isn't used. The first operand of an
+ * atom is the atom's number, 0 to 31. Every other operand is the number of an
+ * earlier node, counted from 0. not, next and prev have a first operand only;
+ * or, until and since have both, in the order in which they are said: until
+ * is "first until second", since is "first since second".
+ *
+ * A recording is C controllers, 1 to 8, each with a mask of the atoms that it
+ * owns, and N states, 1 to 128. A state is atoms + 4294967296 * run marks, bit
+ * c for controller c. A mask and a place of a local trace are 32 atoms, bit a
+ * for atom a.
+ *
+ * Verdicts come in pairs. Weak: yes unless what is recorded breaks the rule.
+ * Strong: yes if what is recorded shows the rule, however it would go on. So
+ * 1 1 is kept, 0 0 is broken, and 1 0 is open.
+ *
+ * A rewritten table belongs to the mask that it was made for. Judged over a
+ * recording whose mask of controller c is that mask, with the same c, its
+ * count and its tops, it gives the verdicts that rgv_judge_local gives of the
+ * rule. Over another mask or another c its verdicts mean nothing.
+ *
+ * A row pair is six words: the weak row's marks 0 to 63, its marks 64 to 127,
+ * the count of states, and the same three of the strong row.
  */
 #ifndef RAGYVOSIN_H
 #define RAGYVOSIN_H
@@ -51,10 +74,11 @@ enum {
     RGV_OUTPUT_RULE = 10,      /* an own atom changed though its controller didn't run in the state before */
     RGV_NO_CONTROLLER = 11,    /* the controller is not below C */
     RGV_TOO_MANY_NODES = 12,   /* a rewritten table over 1,024 nodes */
-    RGV_LENT_SHORT = 13        /* lent space shorter than its full size */
+    RGV_LENT_SHORT = 13,       /* lent space shorter than its full size */
+    RGV_INPUT_LONG = 14        /* the program's alone, which takes 16,384 bytes: no function here answers it */
 };
 
-/* Node kinds; run and end stand only in rewritten tables. */
+/* Node kinds; run and end stand only in rewritten tables: c runs, c runs no more from here on. */
 enum {
     RGV_TRUE = 0, RGV_ATOM = 1, RGV_NOT = 2, RGV_OR = 3, RGV_NEXT = 4,
     RGV_UNTIL = 5, RGV_PREV = 6, RGV_SINCE = 7, RGV_RUN = 8, RGV_END = 9
@@ -115,7 +139,9 @@ uint8_t rgv_read_joint(const uint8_t *rule, size_t rule_len,
                        size_t values[7]);
 
 /*
- * The local trace of controller c. Full size: places RGV_PLACES.
+ * The local trace of controller c: the words of the states in which it runs,
+ * then the state after the last of them with its own atoms only. Full size:
+ * places RGV_PLACES.
  * values: local length. Refusals: 13, 6, 7, 10, 9, 8, 11.
  */
 uint8_t rgv_project(size_t controllers, size_t count,

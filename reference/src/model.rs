@@ -449,3 +449,21 @@ pub fn program(input: &[u8]) -> Vec<u8> {
         Ok(tables) => report(&tables).unwrap_or_else(|number| refused_output(number, &[])),
     }
 }
+
+/// What the program says on standard error of an input that it refuses at a
+/// line: `line`, the text it is of, and its number there, counted from 1.
+pub fn program_says(input: &[u8]) -> Vec<u8> {
+    if input.len() > limits::PROGRAM_INPUT {
+        return Vec::new();
+    }
+    let (rule_text, recording_text) = text::split_input(input);
+    let Err((_, part)) = joint(rule_text, recording_text) else {
+        return Vec::new();
+    };
+    let (word, text): (&[u8], &[u8]) = match part.source {
+        Source::Rule => (b"rule", rule_text),
+        Source::Recording => (b"recording", recording_text),
+    };
+    let closed = text[..part.start].iter().filter(|byte| **byte == 10).count();
+    text::printed(&[b"line", word, (closed + 1).to_string().as_bytes()])
+}

@@ -49,7 +49,7 @@ refused-length n line h l =
       digits-fit 1 n (omega arith),
     )
 
-joint-low : (rule recording : List ℕ) → jointNumber rule recording < lentShort
+pub joint-low : (rule recording : List ℕ) → jointNumber rule recording < lentShort
 unfolding jointNumber controllerRefusal
 joint-low rule recording =
     pick-low _ _ _ lentShort (pick-low _ _ _ lentShort (pick-low _ accepted noController lentShort (omega arith) (omega arith)) (omega (arith, recording-low recording))) (omega (arith, rule-low rule))

@@ -11,7 +11,7 @@ use reference::generate::random::Random;
 use reference::generate::texts::{self, program_input, recording_text, rule_text};
 use reference::generate::{formulas, traces};
 use reference::model::limits::{CONTROLLERS, PROGRAM_INPUT, RULE_NODES, STATES};
-use reference::model::program;
+use reference::model::{program, program_says};
 
 use crate::check::Check;
 use crate::difference::Difference;
@@ -85,28 +85,35 @@ fn run(input: &[u8], pieces: &[usize]) -> io::Result<Output> {
     }
 }
 
-/// Where an output differs from the expected one, in words.
-fn difference(expected: &[u8], output: &Output) -> Option<String> {
-    let found = &output.stdout;
+/// What the program is to write: to standard output and to standard error.
+struct Expected {
+    output: Vec<u8>,
+    errors: Vec<u8>,
+}
+
+/// Where a stream differs from the expected one, in words.
+fn difference(stream: &str, expected: &[u8], found: &[u8]) -> Option<String> {
     let quoted = format!("expected \"{}\"", expected.escape_ascii());
     let quoted = format!("{quoted}, found \"{}\"", found.escape_ascii());
     if let Some((at, _, _)) = first_difference(expected, found) {
-        return Some(format!("output byte {at}: {quoted}"));
+        return Some(format!("{stream} byte {at}: {quoted}"));
     }
-    if expected.len() != found.len() {
-        return Some(format!("output length: {quoted}"));
-    }
-    if output.status.code().is_none() || !output.stderr.is_empty() {
-        return Some(format!("the end of the program: {output:?}"));
-    }
-    None
+    (expected.len() != found.len()).then(|| format!("{stream} length: {quoted}"))
 }
 
-/// Compares the program's whole output with an expected one.
+/// Where a run differs from the expected one, in words.
+fn run_difference(expected: &Expected, output: &Output) -> Option<String> {
+    let killed = output.status.code().is_none();
+    difference("output", &expected.output, &output.stdout)
+        .or_else(|| difference("errors", &expected.errors, &output.stderr))
+        .or_else(|| killed.then(|| format!("the end of the program: {output:?}")))
+}
+
+/// Compares all that the program writes with what is expected.
 fn require(
     check: &mut Check,
     input: &[u8],
-    expected: &[u8],
+    expected: &Expected,
     pieces: &[usize],
 ) -> Result<(), Difference> {
     let failed = |place| {
@@ -115,8 +122,8 @@ fn require(
     };
     let output = run(input, pieces).map_err(|error| failed(format!("running: {error}")))?;
     check.count(Operation::Program, 1, output.stdout.len() as u64);
-    check.tally.met(Operation::Program, refusal(expected));
-    difference(expected, &output).map_or(Ok(()), |place| Err(failed(place)))
+    check.tally.met(Operation::Program, refusal(&expected.output));
+    run_difference(expected, &output).map_or(Ok(()), |place| Err(failed(place)))
 }
 
 /// The refusal number of an output, 0 if it isn't a refusal.
@@ -128,12 +135,15 @@ fn refusal(output: &[u8]) -> u8 {
 
 /// Compares the program with the model on an input.
 fn compare(check: &mut Check, input: &[u8], pieces: &[usize]) -> Result<(), Difference> {
-    let mut expected = program(input);
+    let mut expected = Expected { output: program(input), errors: program_says(input) };
     if check.wrong(Operation::Program, Place::Content) {
-        expected[0] ^= 1;
+        expected.output[0] ^= 1;
     }
     if check.wrong(Operation::Program, Place::Length) {
-        expected.pop();
+        expected.output.pop();
+    }
+    if check.wrong(Operation::Program, Place::Line) {
+        expected.errors.push(10);
     }
     require(check, input, &expected, pieces)
 }
@@ -142,13 +152,13 @@ fn compare(check: &mut Check, input: &[u8], pieces: &[usize]) -> Result<(), Diff
 fn example(check: &mut Check) -> Result<(), Difference> {
     let input = program_input(&rule_text(&example_rule()), &recording_text(&recording_r()));
     let output = "local 3\nown yes no\nplain 55 yes no\nshort 43 yes no\n".replace(' ', "\t");
-    let mut output = output.into_bytes();
+    let mut expected = Expected { output: output.into_bytes(), errors: Vec::new() };
     if check.wrong(Operation::Program, Place::Named) {
-        output[6] ^= 1;
+        expected.output[6] ^= 1;
     }
-    require(check, &input, &output, &[])?;
+    require(check, &input, &expected, &[])?;
     let bytewise = vec![1; input.len()];
-    require(check, &input, &output, &bytewise)
+    require(check, &input, &expected, &bytewise)
 }
 
 /// Inputs at the edges: without parting line, with an unclosed one, at the

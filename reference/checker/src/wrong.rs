@@ -100,7 +100,7 @@ fn lists() -> Vec<(Section, Operation, &'static [Place])> {
         (Section::Texts, Operation::ReadRecording, &[Number, Value, Content]),
         (Section::Texts, Operation::ReadJoint, &[Number, Value, Line]),
         (Section::Texts, Operation::RoundTrip, &[Content]),
-        (Section::Program, Operation::Program, &[Named, Content, Length]),
+        (Section::Program, Operation::Program, &[Named, Content, Length, Line]),
         (Section::Small, Operation::Project, &[Number, Value, Content]),
         (Section::Small, Operation::RewritePlain, &[Value, Content]),
         (Section::Small, Operation::RewriteShort, &[Value, Content]),

@@ -1,45 +1,85 @@
--- `main` meets its contract: the bytes that it writes are the ones printed.
-use Rattle.program.proofs.OutputLaws.{caller-laws}
+-- `main` meets its contract.
+use Rattle.judge.proofs.MainLaws.{main-laws}
 use Rattle.judge.proofs.main.Statement.{statement}
 use Rattle.judge.proofs.main.Tie as tie
 
-slice-aggregate-read-full : tie.Need-slice-aggregate-read-full
-slice-aggregate-read-full c = search caller-laws
+slice-aggregate-read-input : tie.Need-slice-aggregate-read-input
+slice-aggregate-read-input c = search main-laws
 
-read-full-requires : tie.Need-read-full-requires
-read-full-requires c κs = search caller-laws
-
-array-share-prefix-input : tie.Need-array-share-prefix-input
-array-share-prefix-input c = search caller-laws
-
-slice-aggregate-judge : tie.Need-slice-aggregate-judge
-slice-aggregate-judge c = search caller-laws
-
-judge-requires : tie.Need-judge-requires
-judge-requires c κs = search caller-laws
-
-array-share-prefix-output : tie.Need-array-share-prefix-output
-array-share-prefix-output c = search caller-laws
+read-input-requires : tie.Need-read-input-requires
+read-input-requires c κs = search main-laws
 
 slice-aggregate-write-all : tie.Need-slice-aggregate-write-all
-slice-aggregate-write-all c = search caller-laws
+slice-aggregate-write-all c = search main-laws
 
 write-all-requires : tie.Need-write-all-requires
-write-all-requires c κs = search caller-laws
+write-all-requires c κs = search main-laws
 
 returns : tie.Need-returns
-returns c = search caller-laws
+returns c = search main-laws
+
+array-share-prefix-space : tie.Need-array-share-prefix-space
+array-share-prefix-space c = search main-laws
+
+slice-aggregate-judge : tie.Need-slice-aggregate-judge
+slice-aggregate-judge c = search main-laws
+
+judge-requires : tie.Need-judge-requires
+judge-requires c κs = search main-laws
+
+array-share-prefix-output : tie.Need-array-share-prefix-output
+array-share-prefix-output c = search main-laws
+
+slice-aggregate-write-all-2 : tie.Need-slice-aggregate-write-all-2
+slice-aggregate-write-all-2 c = search main-laws
+
+write-all-requires-2 : tie.Need-write-all-requires-2
+write-all-requires-2 c κs = search main-laws
+
+array-share-prefix-space-2 : tie.Need-array-share-prefix-space-2
+array-share-prefix-space-2 c = search main-laws
+
+slice-aggregate-refused-line : tie.Need-slice-aggregate-refused-line
+slice-aggregate-refused-line c = search main-laws
+
+refused-line-requires : tie.Need-refused-line-requires
+refused-line-requires c κs = search main-laws
+
+say-line-requires : tie.Need-say-line-requires
+say-line-requires c κs = search main-laws
+
+slice-aggregate-write-all-3 : tie.Need-slice-aggregate-write-all-3
+slice-aggregate-write-all-3 c = search main-laws
+
+write-all-requires-3 : tie.Need-write-all-requires-3
+write-all-requires-3 c κs = search main-laws
+
+returns-2 : tie.Need-returns-2
+returns-2 c = search main-laws
+
+returns-3 : tie.Need-returns-3
+returns-3 c = search main-laws
 
 pub main-spec : {M : Type 1} → statement M
 main-spec =
     tie.close
     (tie.spec
-    slice-aggregate-read-full
-    read-full-requires
-    array-share-prefix-input
+    slice-aggregate-read-input
+    read-input-requires
+    slice-aggregate-write-all
+    write-all-requires
+    returns
+    array-share-prefix-space
     slice-aggregate-judge
     judge-requires
     array-share-prefix-output
-    slice-aggregate-write-all
-    write-all-requires
-    returns)
+    slice-aggregate-write-all-2
+    write-all-requires-2
+    array-share-prefix-space-2
+    slice-aggregate-refused-line
+    refused-line-requires
+    say-line-requires
+    slice-aggregate-write-all-3
+    write-all-requires-3
+    returns-2
+    returns-3)

@@ -1,0 +1,87 @@
+-- Laws of the refused line: one for each return, and what its calls ask.
+use mathlib.Core.Path.{_≡_, refl, ap, sym, _∙_}
+use mathlib.Core.Bool.{Bool, true, false}
+use mathlib.Core.List.{List}
+use Prim.Native.Nat.{ℕ, _+_, _-_, _<_, _≤_}
+use native.Mathlib.Omega.{arith}
+use lib.ListN.{length, take, drop, getD, length-take, length-drop}
+use borrow.Author.Needs.{needs}
+use borrow.Author.Tests.{ne-eqb, eq-eqb, lt-ltb, le-ltb}
+use Rattle.definitions.specs.Limits.{lentShort, maxInputBytes, maxRuleNodes, maxControllers, maxStates}
+use Rattle.definitions.specs.Bounded.{pick}
+use Rattle.definitions.specs.RecordingText.{jointNumber, jointPart}
+use Rattle.definitions.specs.Operations.{readJointNumber, readJointHeading, readJointPart}
+use Rattle.fields.proofs.PartLaws.{part-to-end}
+use Rattle.joint_text.specs.Joining.{partOf, Joined}
+use Rattle.joint_text.specs.declared.joint.Found.{Found}
+use Rattle.program.specs.Splitting.{SplitAt}
+use Rattle.program.specs.declared.split.Parts.{Parts}
+use Rattle.program.proofs.OutputLaws.{joint-low, rule-counted}
+use Rattle.refused_line.specs.Numbering.{lineNumber, LineStart}
+use Rattle.refused_line.specs.Finding.{Texts, Readable, partLine, textsLine, inputLine}
+use Rattle.refused_line.specs.declared.find.Line.{Line}
+use Rattle.refused_line.specs.declared.find.Line.the-variants.{OfRule, OfRecording, Nowhere}
+
+-- ---- `in_tables`
+module _ (rule recording nodes masks states nodes′ masks′ states′ : List ℕ) (f : Found)
+    (j : Joined rule recording nodes masks states f nodes′ masks′ states′) (can : Readable rule recording nodes masks states) where
+  number-is : readJointNumber rule recording nodes masks states ≡ jointNumber rule recording
+  unfolding readJointNumber pick
+  number-is =
+      rw (le-ltb (length nodes) maxRuleNodes (can .room .nodesRoom), le-ltb (length masks) maxControllers (can .room .masksRoom), le-ltb (length states) maxStates (can .room .statesRoom))
+
+  found-number : f .number ≡ jointNumber rule recording
+  unfolding readJointHeading
+  found-number = ap (λ (l : List ℕ). getD l 0 0) (j .heading) ∙ number-is
+
+  found-part : partOf f ≡ jointPart rule recording
+  unfolding readJointPart pick
+  found-part = j .part ∙ rw (number-is, ne-eqb (jointNumber rule recording) lentShort (λ q. omega (arith, joint-low rule recording)))
+
+  pub accepted-nowhere : f .number ≡ 0 → Nowhere ≡ textsLine rule recording
+  unfolding textsLine pick
+  accepted-nowhere z = rw (eq-eqb (jointNumber rule recording) 0 (sym found-number ∙ z))
+
+  module _ (z : f .number ≡ 0 → ⊥) where
+    refused-part : partLine rule recording (partOf f) ≡ textsLine rule recording
+    unfolding textsLine pick
+    refused-part = rw (found-part, ne-eqb (jointNumber rule recording) 0 (λ q. z (found-number ∙ q)))
+
+    module _ (o : f .«of_rule» ≡ true) where
+      pub rule-start : LineStart (f .from) rule
+      unfolding pick
+      rule-start = record { inside = omega (arith, rw o at (j .inside)); small = can .texts .ruleFits }
+
+      pub rule-line : (n : ℕ) → n ≡ lineNumber (f .from) rule → OfRule n ≡ textsLine rule recording
+      unfolding partLine pick
+      rule-line n e = rw e (rw o at refused-part)
+
+    module _ (o : f .«of_rule» ≡ false) where
+      pub recording-start : LineStart (f .from) recording
+      unfolding pick
+      recording-start = record { inside = omega (arith, rw o at (j .inside)); small = can .texts .recordingFits }
+
+      pub recording-line : (n : ℕ) → n ≡ lineNumber (f .from) recording → OfRecording n ≡ textsLine rule recording
+      unfolding partLine pick
+      recording-line n e = rw e (rw o at refused-part)
+
+pub ruleset table-laws = (needs, accepted-nowhere, rule-start, rule-line, recording-start, recording-line)
+
+-- ---- `refused_line`
+module _ (input : List ℕ) where
+  pub long-nowhere : maxInputBytes < length input → Nowhere ≡ inputLine input
+  unfolding inputLine pick
+  long-nowhere h = rw (lt-ltb maxInputBytes (length input) h)
+
+  module _ (short : length input ≤ maxInputBytes) (s : Parts) (is : SplitAt input s) where
+    pub texts-fit : Texts (take (s .«rule_end») input) (take (length input - s .«recording_at») (drop (s .«recording_at») input))
+    texts-fit = record {
+      ruleFits = rw length-take (omega arith);
+      recordingFits = rw (part-to-end input (s .«recording_at»), length-drop) (omega arith);
+    }
+
+    pub texts-line : (r : Line) → r ≡ textsLine (take (s .«rule_end») input) (take (length input - s .«recording_at») (drop (s .«recording_at») input)) → r ≡ inputLine input
+    unfolding inputLine pick
+    texts-line r e = e ∙ rw (le-ltb maxInputBytes (length input) short, part-to-end input (s .«recording_at»), is .rule, is .recording)
+
+pub ruleset input-laws = (needs, rule-counted, long-nowhere, texts-fit, texts-line)
