@@ -28,3 +28,6 @@ pub mod RuleTextSteps
 pub mod RuleTextBack
 pub mod RuleTextForth
 pub mod RoundTrips
+pub mod Phrases
+pub mod PhraseUnique
+pub mod SentenceTrees
