@@ -31,3 +31,4 @@ pub mod RoundTrips
 pub mod Phrases
 pub mod PhraseUnique
 pub mod SentenceTrees
+pub mod SignSpelling
