@@ -32,3 +32,4 @@ pub mod Phrases
 pub mod PhraseUnique
 pub mod SentenceTrees
 pub mod SignSpelling
+pub mod OneLineMeaning
