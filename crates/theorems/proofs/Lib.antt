@@ -33,3 +33,4 @@ pub mod PhraseUnique
 pub mod SentenceTrees
 pub mod SignSpelling
 pub mod OneLineMeaning
+pub mod OneLineTables

@@ -88,13 +88,13 @@ implies-means t p q weak i = refl
 -- ---- the table of a tree
 
 -- a formula as a term that is written out at the end of a table
-data Writes : Formula → Term → Type 0 where
+pub data Writes : Formula → Term → Type 0 where
   writes-true : Writes (leaf True 0) yes₀
   writes-atom : (n : ℕ) → Writes (leaf Atom n) (atom₀ n)
   writes-one : {p : Formula} {x : Term} (o : Unary) → Writes p x → Writes (unary (kind₁ o) p) (one o x)
   writes-two : {p q : Formula} {x y : Term} (o : Binary) → Writes p x → Writes q y → Writes (binary (kind₂ o) p q) (two o x y)
 
-abbrev termOf : Tree → Term
+abbrev pub termOf : Tree → Term
 termOf tree.always = yes₀
 termOf (tree.reading n) = atom₀ n
 termOf (tree.one sign.Not p) = one not₁ (termOf p)
@@ -108,7 +108,7 @@ termOf (tree.two sign.And p q) = one not₁ (two or₂ (one not₁ (termOf p)) (
 termOf (tree.two sign.Until p q) = two until₂ (termOf p) (termOf q)
 termOf (tree.two sign.Since p q) = two since₂ (termOf p) (termOf q)
 
-tree-writes : (t : Tree) → Writes (formulaOf t) (termOf t)
+pub tree-writes : (t : Tree) → Writes (formulaOf t) (termOf t)
 unfolding formulaOf
 tree-writes tree.always = writes-true
 tree-writes (tree.reading n) = writes-atom n

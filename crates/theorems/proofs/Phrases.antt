@@ -176,7 +176,7 @@ phrase-weight isTrue = refl
 phrase-weight (isAtom n) = refl
 phrase-weight (bracketed x) = omega (arith, phrase-weight x)
 
-larger-low : (m n k : ℕ) → ltb (larger m n) k ≡ (ltb m k && ltb n k)
+pub larger-low : (m n k : ℕ) → ltb (larger m n) k ≡ (ltb m k && ltb n k)
 unfolding larger pick
 larger-low m n k =
     by-test (ltb m n)
@@ -216,7 +216,7 @@ phrase-low isTrue = refl
 phrase-low (isAtom n) = refl
 phrase-low (bracketed x) = phrase-low x
 
-larger-first : (m n : ℕ) → m ≤ larger m n
+pub larger-first : (m n : ℕ) → m ≤ larger m n
 unfolding larger pick
 larger-first m n = by-test (ltb m n) (λ e. rw e (omega (arith, ltb-true m n e))) (λ e. rw e (omega arith))
 
