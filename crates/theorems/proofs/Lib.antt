@@ -34,3 +34,4 @@ pub mod SentenceTrees
 pub mod SignSpelling
 pub mod OneLineMeaning
 pub mod OneLineTables
+pub mod OneLineAnswers

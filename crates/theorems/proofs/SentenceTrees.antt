@@ -155,6 +155,7 @@ least-some least-4 = (omega arith, omega arith)
 
 mutual
   unfolding operandBy flat pick
+
   operand-right : (n : ℕ) (s : List Sign) → length s * 2 ≤ n → Result 5 Prefixes s (operandBy n s)
   operand-right zero [] h = nothing (λ k. refl)
   operand-right zero (x ∷ s) h = absurd (omega arith)
