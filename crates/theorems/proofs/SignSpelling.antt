@@ -27,7 +27,7 @@ NoDigit t = within 48 57 (firstByte t) ≡ false
 
 -- ---- what is read is spelled so
 
-past-begins : (w t u : List ℕ) → past w t ≡ formed u → t ≡ w ++ u
+pub past-begins : (w t u : List ℕ) → past w t ≡ formed u → t ≡ w ++ u
 unfolding past
 past-begins [] t u e = formed-same t u e
 past-begins (x ∷ w) [] u e = absurd (never-formed u e)
@@ -220,3 +220,53 @@ spelled-signs line s p = read p (length line) (omega arith)
 -- a line spells one list of signs at most
 pub spells-once : (line : List ℕ) (s s′ : List Sign) → Spells line s → Spells line s′ → s ≡ s′
 spells-once line s s′ p q = formed-same s s′ (sym (spelled-signs line s p) ∙ spelled-signs line s′ q)
+
+-- ---- a line read on from a place
+
+-- more steps than bytes change nothing
+signs-enough : (n : ℕ) (t : List ℕ) → length t ≤ n → signsBy n t ≡ signsOf t
+signs-enough n t h = go (signsBy n t) refl
+  where
+    go : (p : Parsed (List Sign)) → signsBy n t ≡ p → p ≡ signsOf t
+    go (formed s) e = sym (spelled-signs t s (spell n t s e))
+    go malformed e = none (signsOf t) refl e
+      where
+        none : (q : Parsed (List Sign)) → signsOf t ≡ q → signsBy n t ≡ malformed → malformed ≡ q
+        none (formed s) f e = absurd (never-formed s (sym e ∙ read (signs-spelled t s f) n h))
+        none malformed f e = refl
+
+-- no sign comes first
+pub signs-none : (t : List ℕ) → signFirst t ≡ malformed → signsOf t ≡ malformed
+unfolding signsOf signsBy onParsed
+signs-none [] e = refl
+signs-none (x ∷ t) e = rw e
+
+pub signs-empty : signsOf [] ≡ malformed
+unfolding signsOf signsBy
+signs-empty = refl
+
+first-some : (t : List ℕ) (x : Sign) (u : List ℕ) → signFirst t ≡ formed (taken x u) → length u < length t
+first-some t x u e =
+    let b = first-begins t (taken x u) e in
+    omega (arith, ap length b, length-append (signBytes x) u, line-begins (last x) .some)
+
+-- a sign comes first, and nothing after it
+pub signs-last : (t : List ℕ) (x : Sign) → signFirst t ≡ formed (taken x []) → signsOf t ≡ formed (x ∷ [])
+unfolding signsOf signsBy onParsed pick
+signs-last [] x e = absurd (omega (arith, first-some [] x [] e))
+signs-last (y ∷ t) x e = rw e
+
+after-shorter : (u : List ℕ) → length (afterSpace u) ≤ length u
+unfolding afterSpace pick
+after-shorter [] = omega arith
+after-shorter (x ∷ u) = by-test (eqb x space) (λ e. rw e (omega arith)) (λ e. rw e (omega arith))
+
+-- a sign comes first, and more after it
+pub signs-on : (t : List ℕ) (x : Sign) (u : List ℕ) → signFirst t ≡ formed (taken x u) → 0 < length u
+    → signsOf t ≡ onParsed (signsOf (afterSpace u)) malformed (λ s. formed (x ∷ s))
+unfolding onParsed pick signsBy
+signs-on [] x u e h = absurd (omega (arith, first-some [] x u e))
+signs-on (y ∷ t) x u e h =
+    let l = first-some (y ∷ t) x u e in
+    let f = signs-enough (length t) (afterSpace u) (omega (arith, after-shorter u)) in
+    sym (signs-enough (suc (length t)) (y ∷ t) (omega arith)) ∙ rw (e, ne-eqb (length u) 0 (λ q. omega arith), f)
