@@ -35,3 +35,4 @@ pub mod SignSpelling
 pub mod OneLineMeaning
 pub mod OneLineTables
 pub mod OneLineAnswers
+pub mod FlatRefusal

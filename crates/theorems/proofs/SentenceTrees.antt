@@ -242,3 +242,16 @@ flat-no-tree s h = go (treeOf s) (tree-right s)
     go : (f : Parsed Tree) → TreeIs s f → f ≡ malformed
     go f (tree t y) = absurd (true≢false (sym (sentence-flat y) ∙ h))
     go f (none e) = refl
+
+-- what is read flat is a sentence
+pub record Derived (s : List Sign) : Type 0 where
+  pub tree : Tree
+  pub computed : treeOf s ≡ formed tree
+  pub sentence : Sentence s tree
+
+pub flat-tree : (s : List Sign) → flat s operand 0 ≡ true → Derived s
+flat-tree s h = go (treeOf s) (tree-right s) refl
+  where
+    go : (f : Parsed Tree) → TreeIs s f → treeOf s ≡ f → Derived s
+    go f (tree t y) q = record { tree = t; computed = q; sentence = y }
+    go f (none e) q = absurd (true≢false (sym h ∙ e))
