@@ -18,7 +18,11 @@ pub struct Spot {
 fn peek(codes: &[u8], at: usize) -> u8
     ensures { λ r. ⌜ r ≡ getD (now (codes .entry)) at 0 ⌝ }
 {
-    if at < codes.len() { codes[at] } else { Sign::CLOSING }
+    if at < codes.len() {
+        codes[at]
+    } else {
+        Sign::CLOSING
+    }
 }
 
 // "`->` (to the right)": p, not, q, or.
