@@ -19,7 +19,7 @@ use Rattle.theorems.proofs.Choice.{by-test, pick-true, pick-false}
 use Rattle.theorems.proofs.Phrases.{Due, operand, operator, flat, prefixNodes, infixNodes, signNodes, weight, signLow, lowAtoms, larger-first, larger-second}
 use Rattle.theorems.proofs.FlatRefusal.{flatRefusal}
 use Rattle.signs.specs.Codes.{signOf, signs, ahead}
-use Rattle.signs.proofs.CodeLaws.{by-code, atom-sign, ahead-cons, ahead-none, ahead-all}
+use Rattle.signs.proofs.CodeLaws.{by-code, code-low, atom-sign, ahead-cons, ahead-none, ahead-all}
 use Rattle.sentences.specs.Tallies.{mayStand, dueAfter, openAfter, Few, Stepped, ended, Tallied, tallyRefusal}
 use Rattle.sentences.specs.declared.tally.Tally.{Tally}
 
@@ -152,17 +152,6 @@ sign-nodes-few (between Until) = omega arith
 sign-nodes-few (between Since) = omega arith
 sign-nodes-few opening = omega arith
 sign-nodes-few closing = omega arith
-
--- an atom is low where its code is
-code-low : (c : ℕ) → ltb c 45 ≡ signLow (signOf c)
-unfolding signLow signOf
-code-low =
-    by-code (λ c. ltb c 45 ≡ signLow (signOf c))
-    refl refl refl refl refl refl refl refl refl refl refl refl refl
-    (λ m.
-    by-test (ltb m atomCount)
-    (λ e. let h = ltb-true m atomCount e in lt-ltb (suc (suc (suc (suc (suc (suc (suc (suc (suc (suc (suc (suc (suc m))))))))))))) 45 (omega arith) ∙ sym e)
-    (λ e. let h = ltb-false m atomCount e in le-ltb (suc (suc (suc (suc (suc (suc (suc (suc (suc (suc (suc (suc (suc m))))))))))))) 45 (omega arith) ∙ sym e))
 
 module _ (t : Tally) (c : ℕ) where
   pub step-few : (n : ℕ) → Few t → n ≡ signNodes (signOf c) → Fits w64 (t .nodes + n)

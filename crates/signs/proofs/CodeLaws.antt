@@ -40,6 +40,17 @@ pub atom-sign : (c : ℕ) → 13 ≤ c → signOf c ≡ atom (c - 13)
 unfolding signOf
 atom-sign = by-code (λ c. 13 ≤ c → signOf c ≡ atom (c - 13)) (λ h. absurd (omega arith)) (λ h. absurd (omega arith)) (λ h. absurd (omega arith)) (λ h. absurd (omega arith)) (λ h. absurd (omega arith)) (λ h. absurd (omega arith)) (λ h. absurd (omega arith)) (λ h. absurd (omega arith)) (λ h. absurd (omega arith)) (λ h. absurd (omega arith)) (λ h. absurd (omega arith)) (λ h. absurd (omega arith)) (λ h. absurd (omega arith)) (λ n h. ap atom (omega arith))
 
+-- an atom is low where its code is
+pub code-low : (c : ℕ) → ltb c 45 ≡ signLow (signOf c)
+unfolding signLow signOf
+code-low =
+    by-code (λ c. ltb c 45 ≡ signLow (signOf c))
+    refl refl refl refl refl refl refl refl refl refl refl refl refl
+    (λ m.
+    by-test (ltb m atomCount)
+    (λ e. let h = ltb-true m atomCount e in lt-ltb (suc (suc (suc (suc (suc (suc (suc (suc (suc (suc (suc (suc (suc m))))))))))))) 45 (omega arith) ∙ sym e)
+    (λ e. let h = ltb-false m atomCount e in le-ltb (suc (suc (suc (suc (suc (suc (suc (suc (suc (suc (suc (suc (suc m))))))))))))) 45 (omega arith) ∙ sym e))
+
 -- ---- the signs from a place on
 
 pub ahead-cons : (cs : List ℕ) (i : ℕ) → i < length cs → ahead cs i ≡ (signOf (getD cs i 0) ∷ ahead cs (i + 1))
@@ -146,3 +157,10 @@ capped-same (before x ∷ s) e = rw (capped-same s e)
 capped-same (between x ∷ s) e = rw (capped-same s e)
 capped-same (opening ∷ s) e = rw (capped-same s e)
 capped-same (closing ∷ s) e = rw (capped-same s e)
+
+-- where each atom is low, each code is
+pub codes-low : (cs : List ℕ) → lowAtoms (signs cs) ≡ true → (i : ℕ) → getD cs i 0 < 45
+unfolding signs lowAtoms
+codes-low [] e i = omega (arith, List·getD-eq-default {A = ℕ} [] 0 {n = i} (omega arith))
+codes-low (c ∷ cs) e zero = ltb-true c 45 (code-low c ∙ (both-true (signLow (signOf c)) (lowAtoms (signs cs)) e) .0)
+codes-low (c ∷ cs) e (suc i) = codes-low cs ((both-true (signLow (signOf c)) (lowAtoms (signs cs)) e) .1) i

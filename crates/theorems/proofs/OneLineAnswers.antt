@@ -77,16 +77,16 @@ or-second : (a b : Bool) → ((a || true) || b) ≡ true
 or-second true b = refl
 or-second false b = refl
 
-long-refused : (controller : ℕ) (line : List ℕ) → maxLineBytes < length line → lineRefusal controller line ≡ lineForm
+pub long-refused : (controller : ℕ) (line : List ℕ) → maxLineBytes < length line → lineRefusal controller line ≡ lineForm
 unfolding lineRefusal
 long-refused controller line h = pick-true _ _ _ (lt-ltb maxLineBytes (length line) h)
 
 module _ (controller : ℕ) (line : List ℕ) (h : length line ≤ maxLineBytes) where
-  short-refused : lineRefusal controller line ≡ onParsed (signsOf line) lineForm (λ s. onParsed (treeOf s) lineForm (sentenceRefusal controller s))
+  pub short-refused : lineRefusal controller line ≡ onParsed (signsOf line) lineForm (λ s. onParsed (treeOf s) lineForm (sentenceRefusal controller s))
   unfolding lineRefusal
   short-refused = pick-false _ _ _ (le-ltb maxLineBytes (length line) h)
 
-  unspelled-refused : signsOf line ≡ malformed → lineRefusal controller line ≡ lineForm
+  pub unspelled-refused : signsOf line ≡ malformed → lineRefusal controller line ≡ lineForm
   unfolding onParsed
   unspelled-refused e = short-refused ∙ rw e
 

@@ -134,7 +134,7 @@ bracket (opening ∷ u) x h = nothing (λ k. phrase-flat x (suc k))
 bracket {t = t} (closing ∷ u) x h = found t u (noPrefix (bracketed x)) (tight-most u)
 
 -- after a sentence comes nothing
-ends : (u : List Sign) → flat u operator zero ≡ true → tight u < 1 → u ≡ []
+pub ends : (u : List Sign) → flat u operator zero ≡ true → tight u < 1 → u ≡ []
 unfolding flat
 ends [] e h = refl
 ends (truth ∷ u) e h = absurd (true≢false (sym e))
