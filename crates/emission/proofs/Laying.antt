@@ -1,11 +1,9 @@
 -- Laws of words laid one after another, and of the functions that lay them.
 use mathlib.Core.Path.{_≡_, refl, ap, sym, _∙_}
 use Prim.Native.Nat.{ℕ, zero, suc, _+_, _-_, _<_, _≤_}
-use mathlib.Core.List.{List, [], _∷_, _++_, append-assoc}
-use lib.ListN.{length, take, drop, set, take-append-drop, length-set, length-append}
-use lib.Seq.{set-split, take-at, drop-append-add, drop-drop, length-take-le}
+use mathlib.Core.List.{List, [], _∷_, _++_}
+use lib.ListN.{length, set, length-set}
 use native.Mathlib.Omega.{arith}
-use native.Mathlib.Numerals.{add-one}
 use lib.Dec.{eqb}
 use borrow.Author.Needs.{needs}
 use mathlib.Core.Bool.{Bool, true, false}
@@ -16,47 +14,25 @@ use Rattle.definitions.specs.Bounded.{pick}
 use Rattle.definitions.specs.Nodes as table
 use Rattle.definitions.specs.Nodes.{node, nodeWord}
 use Rattle.definitions.specs.OneLineSigns.{Prefix, Not, Next, Prev, Future, Always}
+use Rattle.lines.specs.Printing.{Printed}
+use Rattle.lines.proofs.PrintLaws as print
 use Rattle.emission.specs.Nodes.{words, prefixOf, untilKind, prefixFirst, prefixLast, prefixNode, dualWords}
-use Rattle.emission.specs.Laying.{laidAt, Laid, SpaceDual, SpaceFirst, SpaceLast}
-
-lay-one : (at w : ℕ) (o : List ℕ) → at < length o → set o at w ≡ laidAt at (w ∷ []) o
-unfolding laidAt
-lay-one at w o h = set-split o at w h ∙ rw add-one
-
-lay-none : (at : ℕ) (o : List ℕ) → laidAt at [] o ≡ o
-unfolding laidAt
-lay-none at o = let z : at + 0 ≡ at = omega arith in rw z (take-append-drop at o)
-
-lay-seq : (at : ℕ) (xs ys o : List ℕ) → at + length xs ≤ length o → laidAt (at + length xs) ys (laidAt at xs o) ≡ laidAt at (xs ++ ys) o
-unfolding laidAt
-lay-seq at xs ys o h =
-    let k = at + length xs in
-    let p = take at o ++ xs in
-    let front : length p ≡ k = length-append (take at o) xs ∙ ap (λ (m : ℕ). m + length xs) (length-take-le at o (omega arith)) in
-    let split : take at o ++ (xs ++ drop k o) ≡ p ++ drop k o = sym (append-assoc (take at o) xs (drop k o)) in
-    let dr : drop (k + length ys) (p ++ drop k o) ≡ drop (k + length ys) o
-    = ap (λ (m : ℕ). drop (m + length ys) (p ++ drop k o)) (sym front) ∙ (drop-append-add p (drop k o) (length ys) ∙ drop-drop (length ys) k o) in
-    let e : at + length (xs ++ ys) ≡ k + length ys = omega (arith, length-append xs ys) in
-    rw (split, take-at p (drop k o) k front, dr, e) (simp append-assoc)
+use Rattle.emission.specs.Laying.{Laid, SpaceDual, SpaceFirst, SpaceLast}
 
 -- one word
 pub laid-one : (w : ℕ) (o : List ℕ) (at : ℕ) → at < length o → Laid (w ∷ []) o at (at + 1) (set o at w)
-laid-one w o at h = record { next = refl; lies = lay-one at w o h; kept = length-set o at w; fit = omega arith }
+laid-one w o at h = record { next = refl; lies = print.laid-one at w o h; kept = length-set o at w; fit = omega arith }
 
 -- none
 pub laid-none : (o : List ℕ) (at : ℕ) → at ≤ length o → Laid [] o at at o
-laid-none o at h = record { next = omega arith; lies = sym (lay-none at o); kept = refl; fit = h }
+laid-none o at h = record { next = omega arith; lies = sym (print.laid-none at o); kept = refl; fit = h }
 
 -- some, and then more
 pub laid-seq : {xs ys o o′ o″ : List ℕ} {at r q : ℕ} → Laid xs o at r o′ → Laid ys o′ r q o″ → Laid (xs ++ ys) o at q o″
 laid-seq {xs} {ys} {o} {o′} {o″} {at} {r} {q} p s =
-    let h : at + length xs ≤ length o = omega arith in
-    record {
-      next = omega (arith, p .next, s .next, length-append xs ys);
-      lies = s .lies ∙ rw (p .next, p .lies) (lay-seq at xs ys o h);
-      kept = s .kept ∙ p .kept;
-      fit = omega (arith, s .fit, p .kept);
-    }
+    let first : Printed xs o at r o′ = record { next = p .next; lies = p .lies } in
+    let both = print.printed-seq xs ys o o′ o″ at r q (omega arith) first (record { next = s .next; lies = s .lies }) in
+    record { next = both .next; lies = both .lies; kept = s .kept ∙ p .kept; fit = omega (arith, s .fit, p .kept) }
 
 -- the same words
 pub relaid : {xs ys o o′ : List ℕ} {at r : ℕ} → xs ≡ ys → Laid xs o at r o′ → Laid ys o at r o′

@@ -1,14 +1,11 @@
 -- Words of nodes written one after another.
 use mathlib.Core.Path.{_≡_}
 use Prim.Native.Nat.{ℕ, _+_, _<_, _≤_}
-use mathlib.Core.List.{List, _++_}
-use lib.ListN.{length, take, drop}
+use mathlib.Core.List.{List}
+use lib.ListN.{length}
 use Rattle.definitions.specs.Limits.{maxRuleNodes}
+use Rattle.lines.specs.Printing.{laidAt}
 use Rattle.emission.specs.Nodes.{prefixOf, prefixFirst, prefixLast}
-
--- words laid over a list from a place on
-unfoldable pub laidAt : ℕ → List ℕ → List ℕ → List ℕ
-laidAt at ws out = take at out ++ (ws ++ drop (at + length ws) out)
 
 -- the words were laid from `at` on, nothing else changed, and r is the place after them
 pub record Laid (ws out : List ℕ) (at r : ℕ) (out′ : List ℕ) : Type 0 where
