@@ -7,20 +7,20 @@ use mathlib.Core.Bool.{Bool, true, false, _||_}
 use mathlib.Core.List.{List, [], _∷_, _++_, map}
 use lib.ListN.{length, take, drop, replicate, length-map}
 use lib.Seq.{take-at}
-use lib.Dec.{ltb, leb}
-use borrow.Author.Tests.{lt-ltb, le-ltb, ltb-true, ltb-false, le-leb, lt-leb, leb-true, leb-false}
+use lib.Dec.{eqb, ltb, leb}
+use borrow.Author.Tests.{eq-eqb, lt-ltb, le-ltb, ltb-true, ltb-false, le-leb, lt-leb, leb-true, leb-false}
 use Rattle.definitions.specs.Limits.{maxControllers, atomCount, maxRuleNodes, maxRuleBytes, maxLineBytes, maxOpenBrackets, ruleLimits, lineForm, bracketsDeep, accepted, lentShort}
 use Rattle.definitions.specs.Bounded.{pick}
 use Rattle.definitions.specs.Nodes.{Node, nodeWord}
 use Rattle.definitions.specs.Tables.{Rule, ruleRefusal}
 use Rattle.definitions.specs.Lines.{Parsed, formed, malformed, onParsed}
-use Rattle.definitions.specs.RuleText.{scanRule}
+use Rattle.definitions.specs.RuleText.{scanRule, ruleText}
 use Rattle.definitions.specs.Operations.{tooShort, left, textOf, writeRuleNumber}
 use Rattle.definitions.specs.OneLineSigns.{Sign, Spells}
 use Rattle.definitions.specs.OneLineGrammar.{Tree, Sentence, openAtOnce}
 use Rattle.definitions.specs.OneLineNodes.{nodesOf, largestAtom}
 use Rattle.definitions.specs.OneLineReading.{signsOf, treeOf}
-use Rattle.definitions.specs.OneLine.{sentenceRefusal, lineRefusal, lineNodes, readLineNumber, readLineNodes}
+use Rattle.definitions.specs.OneLine.{sentenceRefusal, lineRefusal, lineNodes, readLineNumber, readLineNodes, lineOutput}
 use Rattle.theorems.proofs.Choice.{by-test, both-false, pick-true, pick-false, pick-other}
 use Rattle.theorems.proofs.Inversions.{formed-same, never-formed}
 use Rattle.theorems.proofs.LentSpace.{left-accepted}
@@ -222,7 +222,7 @@ derivable-accepted controller line s t h r few l = refusal-only controller line 
 abbrev pub lineRule : ℕ → List ℕ → List ℕ → Rule
 lineRule controller line nodes = record { controller = controller; count = length (lineNodes line); nodes = readLineNodes controller line nodes }
 
-line-number : (controller : ℕ) (line nodes : List ℕ) → readLineNumber controller line nodes ≡ accepted → lineRefusal controller line ≡ accepted
+pub line-number : (controller : ℕ) (line nodes : List ℕ) → readLineNumber controller line nodes ≡ accepted → lineRefusal controller line ≡ accepted
 unfolding readLineNumber
 line-number controller line nodes e = (pick-other accepted (tooShort maxRuleNodes nodes) lentShort (lineRefusal controller line) e (λ q. omega arith)) .1
 
@@ -230,6 +230,11 @@ line-holds : (controller : ℕ) (line nodes : List ℕ) → readLineNumber contr
     → readLineNodes controller line nodes ≡ map nodeWord (lineNodes line) ++ (replicate (maxRuleNodes - length (map nodeWord (lineNodes line))) 0 ++ drop maxRuleNodes nodes)
 unfolding readLineNodes
 line-holds controller line nodes e = rw e (left-accepted maxRuleNodes (map nodeWord (lineNodes line)) nodes)
+
+line-words : (controller : ℕ) (line nodes : List ℕ) → readLineNumber controller line nodes ≡ accepted
+    → take (length (lineNodes line)) (readLineNodes controller line nodes) ≡ map nodeWord (lineNodes line)
+line-words controller line nodes e =
+    rw (line-holds controller line nodes e) (take-at (map nodeWord (lineNodes line)) _ (length (lineNodes line)) (length-map (lineNodes line) nodeWord))
 
 -- it is an accepted rule of that controller, so every operation takes it
 pub line-rule-accepted : (controller : ℕ) (line nodes : List ℕ) → readLineNumber controller line nodes ≡ accepted → ruleRefusal (lineRule controller line nodes) ≡ 0
@@ -243,6 +248,12 @@ pub line-rule-comes-back : (controller : ℕ) (line nodes : List ℕ) → readLi
     → scanRule (textOf (lineRule controller line nodes))
     ≡ record { number = 0; controller = controller; count = length (lineNodes line); words = map nodeWord (lineNodes line); rest = [] }
 line-rule-comes-back controller line nodes e =
-    let t : take (length (lineNodes line)) (readLineNodes controller line nodes) ≡ map nodeWord (lineNodes line) =
-    rw (line-holds controller line nodes e) (take-at (map nodeWord (lineNodes line)) _ (length (lineNodes line)) (length-map (lineNodes line) nodeWord)) in
+    let t = line-words controller line nodes e in
     written-then-read (lineRule controller line nodes) (line-rule-accepted controller line nodes e) ∙ rw t
+
+-- its text is what the program prints of the line
+pub line-rule-text : (controller : ℕ) (line nodes : List ℕ) → readLineNumber controller line nodes ≡ accepted → textOf (lineRule controller line nodes) ≡ lineOutput controller line
+unfolding lineOutput
+line-rule-text controller line nodes e =
+    let t : take (length (lineNodes line)) (readLineNodes controller line nodes) ≡ map nodeWord (lineNodes line) = line-words controller line nodes e in
+    ap (ruleText controller (length (lineNodes line))) t ∙ sym (pick-true (eqb (lineRefusal controller line) accepted) _ _ (eq-eqb (lineRefusal controller line) accepted (line-number controller line nodes e)))
