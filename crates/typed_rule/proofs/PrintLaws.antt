@@ -302,3 +302,9 @@ module _ (input : List ℕ) (few : length input ≤ maxInputBytes) (i : ℕ) (is
           (λ e. rw e)
 
 pub ruleset rule-laws = (needs, part-laws, rule-long, rule-line, rule-form)
+
+-- ---- what a caller uses: `&output[..r]` has as many bytes as it says
+pub printed-counts : (printed text : List ℕ) (r : ℕ) → Prints printed r text → r ≡ length (take r text)
+printed-counts printed text r p = sym (length-take-le r text (p .within))
+
+pub ruleset caller-laws = (needs, printed-counts)
