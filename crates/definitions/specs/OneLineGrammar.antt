@@ -40,15 +40,15 @@ pub data Phrase : Level → List Sign → List Sign → Tree → Type 0 where
   bracketed : {s u : List Sign} {p : Tree} → Phrase Arrows s (closing ∷ u) p → Phrase Primaries (opening ∷ s) u p
 
 -- a "sentence of the grammar", and its tree
-abbrev pub Sentence : List Sign → Tree → Type 0
+abbrev pub Sentence : (s : List Sign) (t : Tree) → Type 0
 Sentence s t = Phrase Arrows s [] t
 
 -- the larger of two numbers
-unfoldable pub larger : ℕ → ℕ → ℕ
+unfoldable pub larger : (m n : ℕ) → ℕ
 larger m n = pick (ltb m n) n m
 
 -- the most "brackets open at once", where `most` were so far and k are open now
-unfoldable pub mostOpen : ℕ → ℕ → List Sign → ℕ
+unfoldable pub mostOpen : (most k : ℕ) (s : List Sign) → ℕ
 mostOpen most k [] = most
 mostOpen most k (truth ∷ s) = mostOpen most k s
 mostOpen most k (atom n ∷ s) = mostOpen most k s

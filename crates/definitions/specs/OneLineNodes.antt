@@ -20,7 +20,7 @@ abbrev pub eventually : Formula → Formula
 eventually p = binary table.Until (leaf table.True 0) p
 
 -- "`! | X Y U S` are not, or, next, prev, until and since"; "`G p` is `!F!p`"
-abbrev pub prefixed : Prefix → Formula → Formula
+abbrev pub prefixed : Prefix → (p : Formula) → Formula
 prefixed Not p = negation p
 prefixed Next p = unary table.Next p
 prefixed Prev p = unary table.Prev p
@@ -28,7 +28,7 @@ prefixed Future p = eventually p
 prefixed Always p = negation (eventually (negation p))
 
 -- "`p & q` is `!(!p|!q)`; `p -> q` is `!p|q`"
-abbrev pub joined : Infix → Formula → Formula → Formula
+abbrev pub joined : Infix → (p q : Formula) → Formula
 joined Implies p q = binary table.Or (negation p) q
 joined Or p q = binary table.Or p q
 joined And p q = negation (binary table.Or (negation p) (negation q))
@@ -49,7 +49,7 @@ size (unary k p) = size p + 1
 size (binary k p q) = size p + (size q + 1)
 
 -- "Operands come out before their operator, left first": the first node is node b
-unfoldable pub nodesFrom : ℕ → Formula → List Node
+unfoldable pub nodesFrom : (b : ℕ) → Formula → List Node
 nodesFrom b (leaf k n) = node k n 0 ∷ []
 nodesFrom b (unary k p) = nodesFrom b p ++ (node k (b + size p - 1) 0 ∷ [])
 nodesFrom b (binary k p q) = nodesFrom b p ++ (nodesFrom (b + size p) q ++ (node k (b + size p - 1) (b + size p + size q - 1) ∷ []))

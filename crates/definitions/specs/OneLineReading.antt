@@ -1,6 +1,5 @@
 -- "Rules in one line": the signs of a line and the tree of its signs, computed. Theorems say that they are those of the spelling and of the grammar.
 use Prim.Native.Nat.{ℕ, zero, suc, _+_, _*_}
-use mathlib.Core.Bool.{Bool}
 use mathlib.Core.List.{List, [], _∷_}
 use lib.ListN.{length, take, drop}
 use lib.Dec.{eqb, leb}
@@ -10,7 +9,7 @@ use Rattle.definitions.specs.OneLineSigns.{Prefix, Not, Next, Prev, Futu
 use Rattle.definitions.specs.OneLineGrammar.{Tree, always, reading, one, two}
 
 -- what follows a word with which a text begins
-unfoldable pub past : List ℕ → List ℕ → Parsed (List ℕ)
+unfoldable pub past : (word text : List ℕ) → Parsed (List ℕ)
 past [] t = formed t
 past (x ∷ w) [] = malformed
 past (x ∷ w) (y ∷ t) = pick (eqb x y) (past w t) malformed
@@ -56,7 +55,7 @@ afterSpace [] = []
 afterSpace (x ∷ t) = pick (eqb x space) t (x ∷ t)
 
 -- at most so many signs
-unfoldable pub signsBy : ℕ → List ℕ → Parsed (List Sign)
+unfoldable pub signsBy : (more : ℕ) (t : List ℕ) → Parsed (List Sign)
 signsBy zero t = malformed
 signsBy (suc more) t =
     onParsed (signFirst t) malformed
@@ -103,7 +102,7 @@ closed p (closing ∷ u) = grown p u
 
 -- in at most so many steps: an operand; a rule whose signs outside its brackets bind with some strength at least; and that rule after its first operands p
 unfoldable mutual
-  pub operandBy : ℕ → List Sign → Parsed Grown
+  pub operandBy : (more : ℕ) (s : List Sign) → Parsed Grown
   operandBy zero s = malformed
   operandBy (suc more) [] = malformed
   operandBy (suc more) (truth ∷ s) = grown always s
@@ -113,11 +112,11 @@ unfoldable mutual
   operandBy (suc more) (opening ∷ s) = onParsed (ruleBy more 1 s) malformed (λ g. closed (g .tree) (g .rest))
   operandBy (suc more) (closing ∷ s) = malformed
 
-  pub ruleBy : ℕ → ℕ → List Sign → Parsed Grown
+  pub ruleBy : (more least : ℕ) (s : List Sign) → Parsed Grown
   ruleBy zero least s = malformed
   ruleBy (suc more) least s = onParsed (operandBy more s) malformed (λ g. ruleOn more least (g .tree) (g .rest))
 
-  pub ruleOn : ℕ → ℕ → Tree → List Sign → Parsed Grown
+  pub ruleOn : (more least : ℕ) (p : Tree) (u : List Sign) → Parsed Grown
   ruleOn zero least p u = malformed
   ruleOn (suc more) least p [] = grown p []
   ruleOn (suc more) least p (truth ∷ u) = grown p (truth ∷ u)

@@ -14,8 +14,8 @@ use Rattle.definitions.specs.Bounded.{pick}
 use Rattle.definitions.specs.Nodes as table
 use Rattle.definitions.specs.Nodes.{node, nodeWord}
 use Rattle.definitions.specs.OneLineSigns.{Prefix, Not, Next, Prev, Future, Always}
-use Rattle.lines.specs.Printing.{Printed}
-use Rattle.lines.proofs.PrintLaws as print
+use Rattle.printing.specs.Printing.{Printed}
+use Rattle.printing.proofs.PrintLaws as print
 use Rattle.emission.specs.Nodes.{words, prefixOf, untilKind, prefixFirst, prefixLast, prefixNode, dualWords}
 use Rattle.emission.specs.Laying.{Laid, SpaceDual, SpaceFirst, SpaceLast}
 

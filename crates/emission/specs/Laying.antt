@@ -4,7 +4,7 @@ use Prim.Native.Nat.{ℕ, _+_, _<_, _≤_}
 use mathlib.Core.List.{List}
 use lib.ListN.{length}
 use Rattle.definitions.specs.Limits.{maxRuleNodes}
-use Rattle.lines.specs.Printing.{laidAt}
+use Rattle.printing.specs.Printing.{laidAt}
 use Rattle.emission.specs.Nodes.{prefixOf, prefixFirst, prefixLast}
 
 -- the words were laid from `at` on, nothing else changed, and r is the place after them

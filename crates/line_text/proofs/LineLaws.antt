@@ -36,11 +36,11 @@ use Rattle.signs.specs.Scanning.{Spelt, Scanned}
 use Rattle.signs.specs.declared.scan.Signs.{Signs}
 use Rattle.signs.specs.declared.scan.Signs.the-variants as found
 use Rattle.signs.proofs.CodeLaws.{ahead-all, capped-flat, capped-most, capped-weight, capped-low, capped-same, codes-low}
-use Rattle.lines.specs.Printing.{laidAt}
+use Rattle.printing.specs.Printing.{laidAt}
 use Rattle.emission.specs.Laying.{Laid}
 use Rattle.phrases.specs.Reading.{Ready, Read}
-use Rattle.formula_text.specs.Reading.{readAnswer}
-use Rattle.formula_text.specs.declared.read.RuleRead.the-variants as rule
+use Rattle.formula_reader.specs.Reading.{readAnswer}
+use Rattle.formula_reader.specs.declared.RuleRead.the-variants as rule
 use Rattle.line_text.specs.Reading.{LineChecked, ReadLine}
 
 -- ---- `check`

@@ -6,8 +6,8 @@ use lib.ListN.{length}
 use Rattle.definitions.specs.Limits.{accepted, maxLineBytes}
 use Rattle.definitions.specs.OneLine.{lineRefusal, readLineAnswer, readLineNodes}
 use Rattle.signs.specs.Scanning.{Spelt}
-use Rattle.formula_text.specs.Reading.{readAnswer}
-use Rattle.formula_text.specs.declared.read.RuleRead.{RuleRead}
+use Rattle.formula_reader.specs.Reading.{readAnswer}
+use Rattle.formula_reader.specs.declared.RuleRead.{RuleRead}
 
 -- the refusal of a line, and where there is none its signs
 pub record LineChecked (controller : ℕ) (line : List ℕ) (number signs : ℕ) (codes : List ℕ) : Type 0 where

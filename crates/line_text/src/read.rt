@@ -3,7 +3,7 @@ ghost use mathlib.Core.Path.{_≡_};
 ghost use lib.ListN.{length};
 ghost use Rattle.definitions.specs.Limits.{maxLineBytes};
 ghost use Rattle.line_text.specs.Reading.{LineChecked, ReadLine};
-use formula_text::read::RuleRead;
+use formula_reader::RuleRead;
 use formulas::limits::Limits;
 use formulas::limits::Refusal;
 use phrases::read::arrows;

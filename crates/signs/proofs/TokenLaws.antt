@@ -18,10 +18,10 @@ use Rattle.definitions.specs.OneLineReading as reading
 use Rattle.definitions.specs.OneLineReading.{past, taken, wordSigns, signAmong, digitsAhead, atomFirst, signFirst, afterSpace}
 use Rattle.theorems.proofs.Choice.{by-test, pick-true, pick-false, both-true}
 use Rattle.theorems.proofs.SignSpelling.{past-begins}
-use Rattle.lines.specs.Fields.{largest, cap, capped as cappedField}
-use Rattle.lines.specs.declared.number.Field.{Field}
-use Rattle.lines.specs.declared.number.Field.the-variants.{Number, Malformed}
-use Rattle.lines.proofs.FieldLaws.{Read, capped-read, capped-malformed}
+use Rattle.fields.specs.Fields.{largest, cap, capped as cappedField}
+use Rattle.fields.specs.declared.number.Field.{Field}
+use Rattle.fields.specs.declared.number.Field.the-variants.{Number, Malformed}
+use Rattle.fields.proofs.FieldLaws.{Read, capped-read, capped-malformed}
 use Rattle.signs.specs.Codes.{signOf, capAtom, atomCode, capped}
 use Rattle.signs.specs.Tokens.{NoSingle, Single, Begun, DigitsEnd, Took, TakenAs, AtomAt, SignAt, AfterSpace}
 use Rattle.signs.specs.declared.token.Token.{Token}

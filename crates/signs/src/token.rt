@@ -7,9 +7,9 @@ ghost use Rattle.signs.specs.Codes.{atomCode};
 ghost use Rattle.signs.specs.Tokens.{Single, Begun, DigitsEnd, AtomAt, SignAt, AfterSpace};
 use super::sign::Sign;
 use formulas::limits::Limits;
-use lines::number;
-use lines::number::Field;
-use lines::scan;
+use fields::number;
+use fields::number::Field;
+use fields::scan;
 
 // The code of a sign and the place after it, where one stands there.
 pub enum Token {

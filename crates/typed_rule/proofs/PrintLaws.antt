@@ -13,7 +13,7 @@ use Rattle.definitions.specs.Limits.{accepted, maxControllers, maxRuleNodes, ma
 use Rattle.definitions.specs.Bounded.{pick}
 use Rattle.definitions.specs.Nodes.{nodeWord}
 use Rattle.definitions.specs.Tables.{ruleRefusal, ruleOf}
-use Rattle.definitions.specs.Lines.{tab, newline, before, isEmpty, isClosed, lineOf, restOf, hasTab, fieldOf, afterTab, digits, Parsed, formed, malformed, onParsed, decimal}
+use Rattle.definitions.specs.Lines.{tab, newline, before, isEmpty, has, upTo, after, digits, onParsed, decimal}
 use Rattle.definitions.specs.Operations.{Answer, answer, tooShort, left, textOf, writeRuleNumber, writeRuleAnswer, writeRuleText}
 use Rattle.definitions.specs.Program.{refusedWord}
 use Rattle.definitions.specs.OneLineGrammar.{Tree}
@@ -24,21 +24,21 @@ use Rattle.theorems.proofs.LentSpace.{left-accepted}
 use Rattle.theorems.proofs.RoundTrips.{text-fits}
 use Rattle.theorems.proofs.OneLineAnswers.{Limits, Outside, manyNodes, highAtom, highController, Refusal, tooLong, noSentence, tooDeep, outside, none, refusal-right, refusal-only, AcceptedLine, accepted-derivable, lineRule, line-rule-accepted, line-rule-text}
 use Rattle.lent.specs.Space.{cleared}
-use Rattle.lines.specs.Printing.{laidAt, Printed}
-use Rattle.lines.specs.Fields.{largest, cap, capped}
-use Rattle.lines.specs.declared.number.Field.{Field}
-use Rattle.lines.specs.declared.number.Field.the-variants.{Number, Malformed}
-use Rattle.lines.proofs.PrintLaws.{printed-seq}
-use Rattle.lines.proofs.PartLaws.{part-laws, tab-found, tab-missed, field-part, after-tab-after, line-part, line-closed, line-open}
-use Rattle.lines.proofs.FieldLaws.{cap-over, cap-within, cap-exact, Read, capped-read, capped-malformed}
-use Rattle.formula_text.specs.Reading.{readAnswer}
-use Rattle.formula_text.specs.Writing.{WroteRule, writeAnswer}
-use Rattle.formula_text.specs.declared.read.RuleRead.{RuleRead}
-use Rattle.formula_text.specs.declared.read.RuleRead.the-variants as rule
-use Rattle.formula_text.specs.declared.write.RuleWritten.{RuleWritten}
-use Rattle.formula_text.specs.declared.write.RuleWritten.the-variants as written
+use Rattle.printing.specs.Printing.{laidAt, Printed}
+use Rattle.fields.specs.Fields.{largest, cap, capped}
+use Rattle.fields.specs.declared.number.Field.{Field}
+use Rattle.fields.specs.declared.number.Field.the-variants.{Number, Malformed}
+use Rattle.printing.proofs.PrintLaws.{printed-seq}
+use Rattle.fields.proofs.PartLaws.{part-laws, has-yes, has-no, up-to-part, after-part}
+use Rattle.fields.proofs.FieldLaws.{cap-over, cap-within, cap-exact, Read, capped-read, capped-malformed}
+use Rattle.formula_reader.specs.Reading.{readAnswer}
+use Rattle.formula_writer.specs.Writing.{WroteRule, writeAnswer}
+use Rattle.formula_reader.specs.declared.RuleRead.{RuleRead}
+use Rattle.formula_reader.specs.declared.RuleRead.the-variants as rule
+use Rattle.formula_writer.specs.declared.RuleWritten.{RuleWritten}
+use Rattle.formula_writer.specs.declared.RuleWritten.the-variants as written
 use Rattle.line_text.specs.Reading.{ReadLine}
-use Rattle.typed_rule.specs.Printing.{Prints, Room, typedLine}
+use Rattle.typed_rule.specs.Printing.{Prints, Room}
 
 -- ---- `put_refusal`
 
@@ -244,28 +244,28 @@ cap-output n line =
     (λ e. pick-false _ _ _ e ∙ (ap refusalText (cap-refusal n line) ∙ sym (pick-false _ _ _ (rw (cap-refusal n line) at e))))
 
 module _ (line : List ℕ) (i : ℕ) (is : i ≡ before tab line) where
-  pub typed-missed : length line ≤ i → (k : ℕ) (o : List ℕ) → Prints (refusalText ruleForm) k o → Prints (typedLine line) k o
-  unfolding typedLine
-  typed-missed h k o p = rw (pick-false (hasTab line) _ (refusalText ruleForm) (tab-missed line i is h)) p
+  pub typed-missed : length line ≤ i → (k : ℕ) (o : List ℕ) → Prints (refusalText ruleForm) k o → Prints (typedOutput line) k o
+  unfolding typedOutput
+  typed-missed h k o p = rw (pick-false (has tab line) _ (refusalText ruleForm) (has-no tab line i is h)) p
 
   module _ (h : i < length line) (f : Field) (e : f ≡ capped (decimal (take i line))) where
-    field : f ≡ capped (decimal (fieldOf line))
-    field = rw (field-part line i is) at e
+    field : f ≡ capped (decimal (upTo tab line))
+    field = rw (up-to-part tab line i is) at e
 
-    there : typedLine line ≡ onParsed (decimal (fieldOf line)) (refusalText ruleForm) (λ c. lineOutput c (afterTab line))
-    unfolding typedLine
-    there = pick-true (hasTab line) _ (refusalText ruleForm) (tab-found line i is h)
+    there : typedOutput line ≡ onParsed (decimal (upTo tab line)) (refusalText ruleForm) (λ c. lineOutput c (after tab line))
+    unfolding typedOutput
+    there = pick-true (has tab line) _ (refusalText ruleForm) (has-yes tab line i is h)
 
-    pub typed-malformed : f ≡ Malformed → (k : ℕ) (o : List ℕ) → Prints (refusalText ruleForm) k o → Prints (typedLine line) k o
+    pub typed-malformed : f ≡ Malformed → (k : ℕ) (o : List ℕ) → Prints (refusalText ruleForm) k o → Prints (typedOutput line) k o
     unfolding onParsed
-    typed-malformed x k o p = rw (there, capped-malformed (decimal (fieldOf line)) f field x) p
+    typed-malformed x k o p = rw (there, capped-malformed (decimal (upTo tab line)) f field x) p
 
-    pub typed-printed : (c : ℕ) → f ≡ Number c → (t : List ℕ) → t ≡ drop (i + 1) line → (k : ℕ) (o : List ℕ) → Prints (lineOutput c t) k o → Prints (typedLine line) k o
+    pub typed-printed : (c : ℕ) → f ≡ Number c → (t : List ℕ) → t ≡ drop (i + 1) line → (k : ℕ) (o : List ℕ) → Prints (lineOutput c t) k o → Prints (typedOutput line) k o
     unfolding onParsed
     typed-printed c x t ts k o p =
-        let z = capped-read (decimal (fieldOf line)) f c field x in
-        let q : lineOutput c t ≡ lineOutput (z .number) (afterTab line) =
-        ap (λ (n : ℕ). lineOutput n t) (z .answered) ∙ (cap-output (z .number) t ∙ ap (lineOutput (z .number)) (after-tab-after line i is t ts)) in
+        let z = capped-read (decimal (upTo tab line)) f c field x in
+        let q : lineOutput c t ≡ lineOutput (z .number) (after tab line) =
+        ap (λ (n : ℕ). lineOutput n t) (z .answered) ∙ (cap-output (z .number) t ∙ ap (lineOutput (z .number)) (after-part tab line i is t ts)) in
         rw (there, z .is) (rw q at p)
 
 pub ruleset typed-laws = (needs, part-laws, typed-missed, typed-malformed, typed-printed)
@@ -273,33 +273,31 @@ pub ruleset typed-laws = (needs, part-laws, typed-missed, typed-malformed, typed
 -- ---- `print_rule`
 pub rule-long : (input : List ℕ) → maxInputBytes < length input → (k : ℕ) (o : List ℕ) → Prints (refusalText inputLong) k o → Prints (ruleOutput input) k o
 unfolding ruleOutput
-rule-long input h k o p = rw (pick-true (ltb maxInputBytes (length input)) (refusalText inputLong) (typedOutput input) (lt-ltb maxInputBytes (length input) h)) p
+rule-long input h k o p = rw (pick-true (ltb maxInputBytes (length input)) (refusalText inputLong) _ (lt-ltb maxInputBytes (length input) h)) p
 
 module _ (input : List ℕ) (few : length input ≤ maxInputBytes) (i : ℕ) (is : i ≡ before newline input) where
-  rule-short : ruleOutput input ≡ typedOutput input
+  rule-short : ruleOutput input ≡ pick (has newline input && isEmpty (after newline input)) (typedOutput (upTo newline input)) (refusalText ruleForm)
   unfolding ruleOutput
-  rule-short = pick-false (ltb maxInputBytes (length input)) (refusalText inputLong) (typedOutput input) (le-ltb maxInputBytes (length input) few)
+  rule-short = pick-false (ltb maxInputBytes (length input)) (refusalText inputLong) _ (le-ltb maxInputBytes (length input) few)
 
-  pub rule-line : i + 1 ≡ length input → (k : ℕ) (o : List ℕ) → Prints (typedLine (take i input)) k o → Prints (ruleOutput input) k o
-  unfolding typedOutput typedLine
+  pub rule-line : i + 1 ≡ length input → (k : ℕ) (o : List ℕ) → Prints (typedOutput (take i input)) k o → Prints (ruleOutput input) k o
+  unfolding pick
   rule-line h k o p =
-      let rest : restOf input ≡ [] = drop-of-length-le input {i = before newline input + 1} (omega arith) in
-      let closed : isClosed input ≡ true = line-closed input i is (omega arith) in
-      let none : isEmpty (restOf input) ≡ true = eq-eqb (length (restOf input)) 0 (ap length rest) in
-      rw (rule-short, closed, none) (rw (line-part input i is) at p)
+      let rest : after newline input ≡ [] = drop-of-length-le input {i = before newline input + 1} (omega arith) in
+      let closed : has newline input ≡ true = has-yes newline input i is (omega arith) in
+      let none : isEmpty (after newline input) ≡ true = eq-eqb (length (after newline input)) 0 (ap length rest) in
+      rw (rule-short, closed, none) (rw (up-to-part newline input i is) at p)
 
-  pub rule-form : (i + 1 ≡ length input → ⊥) → i ≤ length input → (k : ℕ) (o : List ℕ) → Prints (refusalText ruleForm) k o → Prints (ruleOutput input) k o
-  unfolding typedOutput
-  rule-form n le k o p = rw rule-short (rw (pick-false _ _ (refusalText ruleForm) no-line) p)
-    where
-      no-line : (isClosed input && isEmpty (restOf input) && hasTab (lineOf input)) ≡ false
-      no-line =
-          by-test (isClosed input)
-          (λ e.
-          let h = ltb-true (before newline input) (length input) e in
-          let some : isEmpty (restOf input) ≡ false = ne-eqb (length (restOf input)) 0 (λ z. n (omega (arith, length-drop (before newline input + 1) input))) in
-          rw (e, some))
-          (λ e. rw e)
+  not-one-line : (i + 1 ≡ length input → ⊥) → (has newline input && isEmpty (after newline input)) ≡ false
+  not-one-line n =
+      by-test (has newline input)
+      (λ e.
+      let h = ltb-true (before newline input) (length input) e in
+      rw (e, ne-eqb (length (after newline input)) 0 (λ z. n (omega (arith, length-drop (before newline input + 1) input)))))
+      (λ e. rw e)
+
+  pub rule-form : (i + 1 ≡ length input → ⊥) → (k : ℕ) (o : List ℕ) → Prints (refusalText ruleForm) k o → Prints (ruleOutput input) k o
+  rule-form n k o p = rw (rule-short, pick-false _ (typedOutput (upTo newline input)) (refusalText ruleForm) (not-one-line n)) p
 
 pub ruleset rule-laws = (needs, part-laws, rule-long, rule-line, rule-form)
 

@@ -3,10 +3,7 @@ use mathlib.Core.Path.{_≡_}
 use Prim.Native.Nat.{ℕ, _-_, _<_, _≤_}
 use mathlib.Core.List.{List, _++_}
 use lib.ListN.{length, replicate}
-use Rattle.definitions.specs.Limits.{maxRuleBytes, ruleForm}
-use Rattle.definitions.specs.Bounded.{pick}
-use Rattle.definitions.specs.Lines.{hasTab, fieldOf, afterTab, onParsed, decimal}
-use Rattle.definitions.specs.OneLine.{refusalText, lineOutput}
+use Rattle.definitions.specs.Limits.{maxRuleBytes}
 
 -- all of the output: the printed bytes from the first on, and zeros; r is their count
 pub record Prints (printed : List ℕ) (r : ℕ) (text : List ℕ) : Type 0 where
@@ -18,8 +15,3 @@ pub record Prints (printed : List ℕ) (r : ℕ) (text : List ℕ) : Type 0 wher
 pub record Room (number : ℕ) (text : List ℕ) : Type 0 where
   pub short : number < 100
   pub full : length text ≡ maxRuleBytes
-
--- what is printed of one line
-unfoldable pub typedLine : List ℕ → List ℕ
-typedLine line =
-    pick (hasTab line) (onParsed (decimal (fieldOf line)) (refusalText ruleForm) (λ c. lineOutput c (afterTab line))) (refusalText ruleForm)

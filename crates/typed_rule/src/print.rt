@@ -4,27 +4,26 @@ ghost use Prim.Native.Nat.{_<_};
 ghost use lib.ListN.{length};
 ghost use Rattle.definitions.specs.Limits.{maxRuleBytes};
 ghost use Rattle.definitions.specs.OneLine.{refusalText, lineOutput, typedOutput, ruleOutput};
-ghost use Rattle.lines.specs.Printing.{Printed};
-ghost use Rattle.typed_rule.specs.Printing.{Prints, Room, typedLine};
-use formula_text::read::RuleRead;
-use formula_text::write::RuleWritten;
-use formula_text::write::write_rule;
+ghost use Rattle.printing.specs.Printing.{Printed};
+ghost use Rattle.typed_rule.specs.Printing.{Prints, Room};
+use formula_reader::RuleRead;
+use formula_writer::RuleWritten;
+use formula_writer::write_rule;
 use formulas::limits::Limits;
 use formulas::limits::Refusal;
 use line_text::read::read_line;
-use lines::number;
-use lines::number::Field;
-use lines::print;
-use lines::scan;
+use fields::number;
+use fields::number::Field;
+use fields::scan;
 
 // The word `refused` and the number.
 fn put_refusal(number: u8, text: &mut [u8]) -> usize
     requires { ⌜ Room number (now text) ⌝ }
     ensures { λ r. ⌜ Printed (refusalText number) (now (text .entry)) 0 r (now (text .exit)) ⌝ }
 {
-    let after_word = print::put(b"refused", 0, text);
-    let after_number = print::put_field(number as u32, after_word, text);
-    print::put_byte(scan::NEWLINE, after_number, text)
+    let after_word = printing::put(b"refused", 0, text);
+    let after_number = printing::put_field(number as u32, after_word, text);
+    printing::put_byte(scan::NEWLINE, after_number, text)
 }
 
 // A refusal, and zeros after it.
@@ -55,7 +54,7 @@ fn print_line(controller: usize, line: &[u8], text: &mut [u8]) -> usize
 // A controller, a tab, and the rule.
 fn print_typed(line: &[u8], text: &mut [u8]) -> usize
     requires { ⌜ length (now text) ≡ maxRuleBytes ⌝ }
-    ensures { λ r. ⌜ Prints (typedLine (now (line .entry))) r (now (text .exit)) ⌝ }
+    ensures { λ r. ⌜ Prints (typedOutput (now (line .entry))) r (now (text .exit)) ⌝ }
 {
     let i = scan::until_byte(line, scan::TAB);
     if i < line.len() {

@@ -3,7 +3,7 @@ use Rattle.typed_rule.proofs.print.print_line.Statement.{statement}
 use Rattle.typed_rule.proofs.print.print_line.Tie as tie
 use Rattle.typed_rule.proofs.print.print_line.Reads as reads
 use Rattle.typed_rule.proofs.print.print_line.Lts as lts
-use Rattle.formula_text.proofs.write.write_rule.Reads as write-rule-reads
+use Rattle.formula_writer.proofs.write_rule.Reads as write-rule-reads
 use Rattle.line_text.proofs.read.read_line.Reads as read-line-reads
 use Rattle.typed_rule.proofs.print.print_refusal.Reads as print-refusal-reads
 

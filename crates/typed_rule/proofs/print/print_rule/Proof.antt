@@ -3,7 +3,7 @@ use Rattle.typed_rule.proofs.print.print_rule.Statement.{statement}
 use Rattle.typed_rule.proofs.print.print_rule.Tie as tie
 use Rattle.typed_rule.proofs.print.print_rule.Reads as reads
 use Rattle.typed_rule.proofs.print.print_rule.Lts as lts
-use Rattle.lines.proofs.scan.until_byte.Reads as until-byte-reads
+use Rattle.fields.proofs.scan.until_byte.Reads as until-byte-reads
 use Rattle.typed_rule.proofs.print.print_refusal.Reads as print-refusal-reads
 use Rattle.typed_rule.proofs.print.print_typed.Reads as print-typed-reads
 

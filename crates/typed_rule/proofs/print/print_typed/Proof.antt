@@ -3,9 +3,9 @@ use Rattle.typed_rule.proofs.print.print_typed.Statement.{statement}
 use Rattle.typed_rule.proofs.print.print_typed.Tie as tie
 use Rattle.typed_rule.proofs.print.print_typed.Reads as reads
 use Rattle.typed_rule.proofs.print.print_typed.Lts as lts
-use Rattle.lines.proofs.number.decimal.Reads as decimal-reads
-use Rattle.lines.proofs.scan.after.Reads as after-reads
-use Rattle.lines.proofs.scan.until_byte.Reads as until-byte-reads
+use Rattle.fields.proofs.number.decimal.Reads as decimal-reads
+use Rattle.fields.proofs.scan.after.Reads as after-reads
+use Rattle.fields.proofs.scan.until_byte.Reads as until-byte-reads
 use Rattle.typed_rule.proofs.print.print_line.Reads as print-line-reads
 use Rattle.typed_rule.proofs.print.print_refusal.Reads as print-refusal-reads
 

@@ -3,9 +3,9 @@ use Rattle.typed_rule.proofs.print.put_refusal.Statement.{statement}
 use Rattle.typed_rule.proofs.print.put_refusal.Tie as tie
 use Rattle.typed_rule.proofs.print.put_refusal.Reads as reads
 use Rattle.typed_rule.proofs.print.put_refusal.Lts as lts
-use Rattle.lines.proofs.print.put.Reads as put-reads
-use Rattle.lines.proofs.print.put_byte.Reads as put-byte-reads
-use Rattle.lines.proofs.print.put_field.Reads as put-field-reads
+use Rattle.printing.proofs.put.Reads as put-reads
+use Rattle.printing.proofs.put_byte.Reads as put-byte-reads
+use Rattle.printing.proofs.put_field.Reads as put-field-reads
 
 -- src/print.rt:25:33
 slice-aggregate-put : tie.Need-slice-aggregate-put
