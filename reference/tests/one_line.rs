@@ -1,7 +1,7 @@
 //! Rules in one line: the trials, and that every short list of signs has at
 //! most one reading.
 
-use reference::generate::lines::{alphabet, damaged, line, short_list, spelled};
+use reference::generate::lines::{alphabet, damaged, full, line, short_list, spelled};
 use reference::generate::random::Random;
 use reference::model::formula::{Node, ATOM, NEXT, NOT, OR, SINCE, TRUE, UNTIL};
 use reference::model::one_line::{derivations, read, spellings};
@@ -114,5 +114,17 @@ fn random_lines_have_one_reading_at_most() {
         let damaged = damaged(&mut random, &line);
         assert!(spellings(&damaged).len() <= 1);
         let _ = read(0, &damaged);
+    }
+}
+
+#[test]
+fn full_lines_are_accepted() {
+    let mut random = Random::new(1);
+    for bytes in [256, 512, 1024] {
+        for _ in 0..50 {
+            let line = full(&mut random, bytes);
+            assert_eq!(line.len(), bytes);
+            assert!(read(0, &line).is_ok(), "{}", line.escape_ascii());
+        }
     }
 }

@@ -83,6 +83,61 @@ pub fn line(random: &mut Random) -> Vec<u8> {
     spelled(&signs, spaces)
 }
 
+/// How many nodes a list of signs adds, at most.
+fn weight(signs: &[Sign]) -> usize {
+    let nodes = |sign: &Sign| match sign {
+        Sign::Open | Sign::Close => 0,
+        Sign::Prefix(b'G') | Sign::Infix(b'&') => 4,
+        Sign::Prefix(b'F') | Sign::Infix(b'>') => 2,
+        _ => 1,
+    };
+    signs.iter().map(nodes).sum()
+}
+
+/// How many brackets are open before the sign at `at`.
+fn open_before(signs: &[Sign], at: usize) -> usize {
+    let count = |sign| signs[..at].iter().filter(|other| **other == sign).count();
+    count(Sign::Open) - count(Sign::Close)
+}
+
+/// The sentence with brackets around the operand at `at`.
+fn bracketed(signs: &[Sign], at: usize) -> Vec<Sign> {
+    [&signs[..at], &[Sign::Open, signs[at], Sign::Close], &signs[at + 1..]].concat()
+}
+
+/// An accepted line of so many bytes, with a sixteenth as many nodes at most:
+/// brackets around operands, and spaces, make it as long.
+pub fn full(random: &mut Random, bytes: usize) -> Vec<u8> {
+    let mut signs = Vec::new();
+    while signs.is_empty() || weight(&signs) > bytes / 16 || weight(&signs) + 6 < bytes / 16 {
+        signs.clear();
+        sentence(random, 1 + bytes / 48, 2, &mut signs);
+        signs.iter_mut().for_each(|sign| {
+            if let Sign::Atom(number) = sign {
+                *number %= limits::ATOMS;
+            }
+        });
+    }
+    let room = |signs: &[Sign]| bytes.saturating_sub(spelled(signs, 0).len());
+    while room(&signs) >= signs.len() {
+        let has_room = |at: &usize| {
+            matches!(signs[*at], Sign::True | Sign::Atom(_))
+                && open_before(&signs, *at) < limits::OPEN_BRACKETS
+        };
+        let operands: Vec<usize> = (0..signs.len()).filter(has_room).collect();
+        signs = bracketed(&signs, random.pick(&operands));
+    }
+    let spaces = room(&signs);
+    let mut line = Vec::new();
+    for (number, sign) in signs.iter().enumerate() {
+        line.extend(sign.bytes());
+        if number < spaces {
+            line.push(b' ');
+        }
+    }
+    line
+}
+
 /// The bytes that damage puts into a line.
 const BYTES: &[u8] = b"()!XYFG|&US->truea0123456789 \t\n\r\0A";
 
