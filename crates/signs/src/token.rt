@@ -6,10 +6,10 @@ ghost use lib.ListN.{length, drop};
 ghost use Rattle.signs.specs.Codes.{atomCode};
 ghost use Rattle.signs.specs.Tokens.{Single, Begun, DigitsEnd, AtomAt, SignAt, AfterSpace};
 use super::sign::Sign;
-use formulas::limits::Limits;
 use fields::number;
 use fields::number::Field;
 use fields::scan;
+use formulas::limits::Limits;
 
 // The code of a sign and the place after it, where one stands there.
 pub enum Token {

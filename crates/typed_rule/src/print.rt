@@ -6,15 +6,15 @@ ghost use Rattle.definitions.specs.Limits.{maxRuleBytes};
 ghost use Rattle.definitions.specs.OneLine.{refusalText, lineOutput, typedOutput, ruleOutput};
 ghost use Rattle.printing.specs.Printing.{Printed};
 ghost use Rattle.typed_rule.specs.Printing.{Prints, Room};
+use fields::number;
+use fields::number::Field;
+use fields::scan;
 use formula_reader::RuleRead;
 use formula_writer::RuleWritten;
 use formula_writer::write_rule;
 use formulas::limits::Limits;
 use formulas::limits::Refusal;
 use line_text::read::read_line;
-use fields::number;
-use fields::number::Field;
-use fields::scan;
 
 // The word `refused` and the number.
 fn put_refusal(number: u8, text: &mut [u8]) -> usize
