@@ -161,12 +161,12 @@ pub fn damaged(random: &mut Random, line: &[u8]) -> Vec<u8> {
 /// A random line: a sentence, a damaged one, or one of the edges.
 pub fn any_line(random: &mut Random) -> Vec<u8> {
     let sentence = line(random);
-    match random.below(4) {
-        0 => damaged(random, &sentence),
-        1 => {
+    match random.below(40) {
+        0 => {
             let edges = edges();
             edges[random.below(edges.len())].clone()
         }
+        1..=10 => damaged(random, &sentence),
         _ => sentence,
     }
 }
