@@ -75,7 +75,9 @@ enum {
     RGV_NO_CONTROLLER = 11,    /* the controller is not below C */
     RGV_TOO_MANY_NODES = 12,   /* a rewritten table over 1,024 nodes */
     RGV_LENT_SHORT = 13,       /* lent space shorter than its full size */
-    RGV_INPUT_LONG = 14        /* the program's alone, which takes 16,384 bytes: no function here answers it */
+    RGV_INPUT_LONG = 14,       /* the program's alone, which takes 16,384 bytes: no function here answers it */
+    RGV_LINE_FORM = 15,        /* a rule in one line over 1,024 bytes, or no sentence of the grammar */
+    RGV_BRACKETS_DEEP = 16     /* a rule in one line with over 16 brackets open at once */
 };
 
 /* Node kinds; run and end stand only in rewritten tables: c runs, c runs no more from here on. */
@@ -101,6 +103,19 @@ enum {
  * values: controller, node count. Refusals: 13, 1, 2, 3, 4.
  */
 uint8_t rgv_read_rule(const uint8_t *text, size_t text_len,
+                      uint32_t *nodes, size_t nodes_len,
+                      size_t values[2]);
+
+/*
+ * Reads a rule in one line, as `G (a1 -> X a0)`, without the line's end. From
+ * the loosest sign to the tightest: `->` (to the right), `|` and `&` (to the
+ * left), `U` and `S` (to the right, alike), the prefixes `! X Y F G`, then
+ * `true`, `a` with an atom number, or a rule in brackets. A single space may
+ * stand between two signs. Full size: nodes RGV_RULE_NODES.
+ * values: controller, node count. Refusals: 13, 15, 16, 2.
+ */
+uint8_t rgv_read_line(size_t controller,
+                      const uint8_t *line, size_t line_len,
                       uint32_t *nodes, size_t nodes_len,
                       size_t values[2]);
 

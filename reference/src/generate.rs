@@ -1,9 +1,11 @@
 //! Inputs for the comparison: deterministic pseudo-random tables, texts and
-//! lent space, valid and damaged, and every small rule and recording.
+//! lent space, valid and damaged, every small rule and recording, and every
+//! short list of signs.
 
 pub mod exhaustive;
 pub mod formulas;
 pub mod lent;
+pub mod lines;
 pub mod random;
 pub mod texts;
 pub mod traces;

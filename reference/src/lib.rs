@@ -1,6 +1,7 @@
-//! A second program that reads the definitions of document 01 directly.
+//! A second program that reads the definitions of document 01, and of the
+//! requests that have landed, directly.
 //!
-//! [`model`] has the nine operations and the program, naive and quantifier by
+//! [`model`] has the operations and the programs, naive and quantifier by
 //! quantifier; [`generate`] makes the inputs on which it is compared.
 //!
 //! Public names are those of document 01. Inside, names are the field's:

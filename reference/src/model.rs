@@ -1,4 +1,5 @@
-//! The nine operations and the program of document 01, over lent slices.
+//! The operations and the programs of document 01 and of the requests that
+//! have landed, over lent slices.
 //!
 //! Every operation says first what it answers as a pure function of what it
 //! reads, then leaves that in lent space: untouched after 13, the full size
@@ -7,6 +8,7 @@
 
 pub mod formula;
 pub mod limits;
+pub mod one_line;
 pub mod refusal;
 pub mod rewriting;
 pub mod semantics;
@@ -119,6 +121,17 @@ pub fn read_rule(text: &[u8], nodes: &mut [u32]) -> Result<RuleHeading, u8> {
     leave_rule(nodes, answer.as_ref().ok());
     let formula = answer.map_err(|refused| refused.number)?;
     Ok(RuleHeading { controller: formula.component, count: formula.nodes.len() })
+}
+
+/// "Rules in one line": "the controller is given beside the line".
+pub fn read_line(controller: usize, line: &[u8], nodes: &mut [u32]) -> Result<RuleHeading, u8> {
+    if too_short(nodes, limits::RULE_NODES) {
+        return Err(refusal::LENT_SPACE);
+    }
+    let answer = one_line::read(controller, line);
+    let content = answer.as_ref().map_or(Vec::new(), |read| node_words(read));
+    leave(nodes, limits::RULE_NODES, &content);
+    answer.map(|read| RuleHeading { controller, count: read.len() })
 }
 
 /// "write one (length, text)".
@@ -466,4 +479,29 @@ pub fn program_says(input: &[u8]) -> Vec<u8> {
     };
     let closed = text[..part.start].iter().filter(|byte| **byte == 10).count();
     text::printed(&[b"line", word, (closed + 1).to_string().as_bytes()])
+}
+
+/// The controller and the rule of the input of the program `rule`: one line
+/// and its end, parted by a tab.
+fn typed(input: &[u8]) -> Option<(usize, &[u8])> {
+    let line = input.strip_suffix(b"\n")?;
+    let at = line.iter().position(|byte| *byte == b'\t')?;
+    if line.contains(&b'\n') {
+        return None;
+    }
+    Some((text::decimal(&line[..at])?, &line[at + 1..]))
+}
+
+/// The program `rule`: from its input to its output.
+pub fn rule_program(input: &[u8]) -> Vec<u8> {
+    let answer = if input.len() > limits::PROGRAM_INPUT {
+        Err(refusal::PROGRAM_INPUT)
+    } else {
+        typed(input).ok_or(refusal::RULE_FORM).and_then(|(controller, line)| {
+            let nodes = one_line::read(controller, line)?;
+            Ok(text::write_rule(&Formula { component: controller, nodes }))
+        })
+    };
+    let refused = |number: u8| text::printed(&[b"refused", number.to_string().as_bytes()]);
+    answer.unwrap_or_else(refused)
 }

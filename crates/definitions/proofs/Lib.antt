@@ -1,3 +1,4 @@
 pub mod Samples
 pub mod Trials
 pub mod RefusalTrials
+pub mod OneLineTrials

@@ -11,3 +11,8 @@ pub mod RuleText
 pub mod RecordingText
 pub mod Operations
 pub mod Program
+pub mod OneLineSigns
+pub mod OneLineGrammar
+pub mod OneLineNodes
+pub mod OneLineReading
+pub mod OneLine

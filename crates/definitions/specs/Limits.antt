@@ -100,3 +100,19 @@ lentShort = 13
 -- "14 over 16,384 bytes"
 abbrev pub inputLong : ℕ
 inputLong = 14
+
+-- "Refused: 15, over 1,024 bytes": a rule in one line
+abbrev pub maxLineBytes : ℕ
+maxLineBytes = 1024
+
+-- "at most 16 deep"
+abbrev pub maxOpenBrackets : ℕ
+maxOpenBrackets = 16
+
+-- "15, over 1,024 bytes or no sentence of the grammar"
+abbrev pub lineForm : ℕ
+lineForm = 15
+
+-- "16, a sentence with over 16 brackets open at once"
+abbrev pub bracketsDeep : ℕ
+bracketsDeep = 16

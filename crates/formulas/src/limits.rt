@@ -20,6 +20,10 @@ impl Limits {
     pub const RULE_BYTES: usize = 1024;
 
     pub const INPUT_BYTES: usize = 16384;
+
+    pub const LINE_BYTES: usize = 1024;
+
+    pub const OPEN_BRACKETS: usize = 16;
 }
 
 pub struct Refusal {}
@@ -52,4 +56,8 @@ impl Refusal {
     pub const LENT_SHORT: u8 = 13;
 
     pub const INPUT_LONG: u8 = 14;
+
+    pub const LINE_FORM: u8 = 15;
+
+    pub const BRACKETS_DEEP: u8 = 16;
 }

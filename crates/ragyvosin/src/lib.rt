@@ -1,4 +1,4 @@
-// The nine operations of document 01: each answer and each lent slice is what the definition of its operation says, on every input.
+// The operations of document 01, and reading a rule in one line: each answer and each lent slice is what the definition of its operation says, on every input.
 // `ruleRead` to `rewritten` list document 01's number and values for each case of an answer.
 // `same-verdicts-all-four-times` (proofs/SameVerdicts) says what these contracts give together: schedule independence.
 ghost use mathlib.Core.Path.{_≡_};
@@ -8,6 +8,7 @@ ghost use Rattle.definitions.specs.Recordings.{recordingOf};
 ghost use Rattle.definitions.specs.Operations.{readRuleAnswer, readRuleNodes, writeRuleAnswer, writeRuleText, readRecordingAnswer, readRecordingMasks, readRecordingStates};
 ghost use Rattle.definitions.specs.Operations.{readJointHeading, readJointNodes, readJointMasks, readJointStates, readJointPart, projectAnswer, projectPlaces, judgeLocalAnswer};
 ghost use Rattle.definitions.specs.Operations.{rewriteAnswer, rewriteTable, judgeRecordingAnswer, judgeRecordingRows};
+ghost use Rattle.definitions.specs.OneLine.{readLineAnswer, readLineNodes};
 ghost use Rattle.formula_reader.specs.Reading.{readAnswer as ruleRead};
 ghost use Rattle.formula_writer.specs.Writing.{writeAnswer as ruleWritten};
 ghost use Rattle.trace_reader.specs.Reading.{readAnswer as recordingRead};
@@ -29,6 +30,14 @@ pub fn read_rule(text: &[u8], nodes: &mut [u32]) -> RuleRead
     ensures { λ _. ⌜ now (nodes .exit) ≡ readRuleNodes (now (text .entry)) (now (nodes .entry)) ⌝ }
 {
     formula_reader::read_rule(text, nodes)
+}
+
+// "Rules in one line": "the controller is given beside the line"; answers as reading a rule does
+pub fn read_line(controller: usize, line: &[u8], nodes: &mut [u32]) -> RuleRead
+    ensures { λ r. ⌜ ruleRead r ≡ readLineAnswer controller (now (line .entry)) (now (nodes .entry)) ⌝ }
+    ensures { λ _. ⌜ now (nodes .exit) ≡ readLineNodes controller (now (line .entry)) (now (nodes .entry)) ⌝ }
+{
+    line_text::read::read_line(controller, line, nodes)
 }
 
 // "write one (length, text)"

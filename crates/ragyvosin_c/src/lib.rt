@@ -1,4 +1,4 @@
-// The nine operations for C: each returns its number, and its values lie in `values`, zeros on a refusal.
+// The operations for C: each returns its number, and its values lie in `values`, zeros on a refusal.
 ghost use mathlib.Core.Path.{_≡_};
 ghost use mathlib.Core.Bool.{true, false};
 ghost use mathlib.Core.List.{_∷_, _++_};
@@ -7,6 +7,7 @@ ghost use Rattle.definitions.specs.Recordings.{recordingOf};
 ghost use Rattle.definitions.specs.Operations.{readRuleAnswer, readRuleNodes, writeRuleAnswer, writeRuleText, readRecordingAnswer, readRecordingMasks, readRecordingStates};
 ghost use Rattle.definitions.specs.Operations.{readJointHeading, readJointNodes, readJointMasks, readJointStates, readJointPart, projectAnswer, projectPlaces, judgeLocalAnswer};
 ghost use Rattle.definitions.specs.Operations.{rewriteAnswer, rewriteTable, judgeRecordingAnswer, judgeRecordingRows};
+ghost use Rattle.definitions.specs.OneLine.{readLineAnswer, readLineNodes};
 ghost use Rattle.ragyvosin_c.specs.Values.{heading, partValues};
 use formulas::choice::pick_index;
 use joint_text::joint::join;
@@ -31,6 +32,24 @@ pub extern "C" fn rgv_read_rule(text: &[u8], nodes: &mut [u32], values: &mut [us
     ensures { λ _. ⌜ now (nodes .exit) ≡ readRuleNodes (now (text .entry)) (now (nodes .entry)) ⌝ }
 {
     let answer = ragyvosin::read_rule(text, nodes);
+    let laid = of_rule_read(answer);
+    let laid_values = laid.values;
+    *values = laid_values;
+    laid.number
+}
+
+// Values: controller, node count.
+#[no_mangle]
+pub extern "C" fn rgv_read_line(
+    controller: usize,
+    line: &[u8],
+    nodes: &mut [u32],
+    values: &mut [usize; 2],
+) -> u8
+    ensures { λ r. ⌜ r ∷ now (values .exit) ≡ heading 2 (readLineAnswer controller (now (line .entry)) (now (nodes .entry))) ⌝ }
+    ensures { λ _. ⌜ now (nodes .exit) ≡ readLineNodes controller (now (line .entry)) (now (nodes .entry)) ⌝ }
+{
+    let answer = ragyvosin::read_line(controller, line, nodes);
     let laid = of_rule_read(answer);
     let laid_values = laid.values;
     *values = laid_values;

@@ -28,3 +28,11 @@ pub mod RuleTextSteps
 pub mod RuleTextBack
 pub mod RuleTextForth
 pub mod RoundTrips
+pub mod Phrases
+pub mod PhraseUnique
+pub mod SentenceTrees
+pub mod SignSpelling
+pub mod OneLineMeaning
+pub mod OneLineTables
+pub mod OneLineAnswers
+pub mod FlatRefusal

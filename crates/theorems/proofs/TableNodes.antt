@@ -44,7 +44,7 @@ nodes-append i (n ∷ T) U t u =
 pub emit-nodes : (T : List Node) (es : List Emit) → TableNodes 0 T → TableNodes (length T) (emitted (length T - 1) (length T) es) → TableNodes 0 (emit T es)
 emit-nodes T es t u = nodes-append 0 T (emitted (length T - 1) (length T) es) t (rw zero-add u)
 
-node-accepted : (i : ℕ) (k : Kind) (a b : ℕ) → TableNode i k a b → nodeRefusal true i (node k a b) ≡ 0
+pub node-accepted : (i : ℕ) (k : Kind) (a b : ℕ) → TableNode i k a b → nodeRefusal true i (node k a b) ≡ 0
 unfolding nodeRefusal pick
 node-accepted i True a b t = rw (eq-eqb a 0 (t .0), eq-eqb b 0 (t .1))
 node-accepted i Atom a b t = rw (lt-leb atomCount a (t .0), eq-eqb b 0 (t .1))

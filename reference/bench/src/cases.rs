@@ -1,8 +1,8 @@
 //! The operations, each with its sides and its inputs.
 
 use crate::case::{Case, Side, Sides, Timed};
-use crate::hand::{plain, read, rewrite, tuned, write};
-use crate::inputs::{RuleInput, TableInput};
+use crate::hand::{line, plain, read, rewrite, tuned, write};
+use crate::inputs::{LineInput, RuleInput, TableInput};
 use ragyvosin::{full, Joint};
 use reference::generate::random::Random;
 use std::fmt::Debug;
@@ -13,6 +13,9 @@ const INPUTS: usize = 256;
 
 /// Inputs, refused ones among them, on which the sides are compared.
 const COMPARED: usize = 2000;
+
+/// Bytes of a rule in one line for each node of the largest rule.
+const LINE_BYTES: usize = 1024 / full::RULE_NODES;
 
 /// Lent space is longer than its full size, and not zero at first.
 fn lent<T: Copy>(full: usize, garbage: T) -> Vec<T> {
@@ -66,6 +69,18 @@ impl Source {
                 RuleInput::exact(&mut random, nodes, states)
             }
             Source::Any => RuleInput::any(&mut random),
+        };
+        (0..self.count()).map(|_| draw()).collect()
+    }
+
+    /// Lines of sixteen bytes for each node that a rule may have.
+    fn lines(self) -> Vec<LineInput> {
+        let mut random = Random::new(7);
+        let mut draw = || match self {
+            Source::Exact { nodes, .. } | Source::Rewritten { nodes, .. } => {
+                LineInput::exact(&mut random, nodes * LINE_BYTES)
+            }
+            Source::Any => LineInput::any(&mut random),
         };
         (0..self.count()).map(|_| draw()).collect()
     }
@@ -144,6 +159,14 @@ fn read_rule(plan: Plan) -> Box<dyn Timed> {
     boxed(plan, plan.source.rules(), lent(full::RULE_NODES, 0xa5a5_a5a5), sides)
 }
 
+fn read_line(plan: Plan) -> Box<dyn Timed> {
+    let sides: Sides<LineInput, Vec<u32>, _> = vec![
+        (Side::Proved, |i, l| ragyvosin::read_line(i.controller, &i.line, l)),
+        (Side::Plain, |i, l| line::read_line(i.controller, &i.line, l)),
+    ];
+    boxed(plan, plan.source.lines(), lent(full::RULE_NODES, 0xa5a5_a5a5), sides)
+}
+
 fn write_rule(plan: Plan) -> Box<dyn Timed> {
     let sides: Sides<RuleInput, Vec<u8>, _> = vec![
         (Side::Proved, |i, l| ragyvosin::write_rule(i.rule(), l)),
@@ -194,6 +217,7 @@ impl Plan {
         };
         match self.operation {
             "project" | "read_recording" => format!("{states}"),
+            "read_line" => format!("{}", nodes * LINE_BYTES),
             "rewrite_plain" | "rewrite_short" | "read_rule" | "write_rule" => format!("{nodes}"),
             _ => format!("{nodes}x{states}"),
         }
@@ -206,6 +230,7 @@ impl Plan {
             "rewrite_plain" => rewrite_plain(self),
             "rewrite_short" => rewrite_short(self),
             "read_rule" => read_rule(self),
+            "read_line" => read_line(self),
             "write_rule" => write_rule(self),
             "read_recording" => read_recording(self),
             "read_joint" => read_joint(self),
@@ -215,12 +240,13 @@ impl Plan {
 }
 
 /// The operations that take a rule, a recording or both.
-const OF_RULES: [&str; 8] = [
+const OF_RULES: [&str; 9] = [
     "judge_local",
     "project",
     "rewrite_plain",
     "rewrite_short",
     "read_rule",
+    "read_line",
     "write_rule",
     "read_recording",
     "read_joint",

@@ -2,6 +2,7 @@
 
 use ragyvosin::{Recording, Rule, Table};
 use reference::generate::formulas::{self, JudgeTable, RuleTable};
+use reference::generate::lines;
 use reference::generate::random::Random;
 use reference::generate::texts;
 use reference::generate::traces::{self, RecordingTable};
@@ -45,6 +46,28 @@ fn busiest(recording: &RecordingTable) -> usize {
     let runs =
         |c: &usize| recording.states.iter().filter(|word| *word >> (32 + c) & 1 == 1).count();
     (0..recording.controllers).max_by_key(runs).expect("there are controllers")
+}
+
+/// A controller and a rule in one line.
+pub struct LineInput {
+    pub controller: usize,
+    pub line: Vec<u8>,
+}
+
+impl LineInput {
+    /// An accepted line of so many bytes.
+    pub fn exact(random: &mut Random, bytes: usize) -> LineInput {
+        LineInput {
+            controller: random.below(limits::CONTROLLERS),
+            line: lines::full(random, bytes),
+        }
+    }
+
+    /// Any line, accepted or refused.
+    pub fn any(random: &mut Random) -> LineInput {
+        let controller = random.below(limits::CONTROLLERS + 1);
+        LineInput { controller, line: lines::any_line(random) }
+    }
 }
 
 /// A rule and a recording that has its controller, as tables and as texts.

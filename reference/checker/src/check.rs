@@ -2,7 +2,7 @@
 
 use std::panic::{catch_unwind, AssertUnwindSafe};
 
-use reference::model::refusal::LENT_SPACE;
+use reference::model::refusal::{BRACKETS_DEEP, LENT_SPACE};
 
 use crate::difference::Difference;
 use crate::expected;
@@ -57,7 +57,7 @@ impl<'a> Check<'a> {
         let operation = input.operation();
         let refused = expected.number != 0;
         if refused && self.wrong(operation, Place::Number) {
-            expected.number = expected.number % LENT_SPACE + 1;
+            expected.number = expected.number % BRACKETS_DEEP + 1;
         }
         if !refused && self.wrong(operation, Place::Value) {
             expected.values[0] ^= 1;

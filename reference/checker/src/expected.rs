@@ -25,6 +25,13 @@ fn read_rule(text: &[u8], nodes: Lent) -> Outcome {
     outcome(answer.map(|heading| [heading.controller, heading.count]), vec![nodes.words()])
 }
 
+/// The outcome of reading a rule in one line.
+fn read_line(controller: usize, line: &[u8], nodes: Lent) -> Outcome {
+    let mut nodes = Space::new(nodes);
+    let answer = model::read_line(controller, line, nodes.lend());
+    outcome(answer.map(|heading| [heading.controller, heading.count]), vec![nodes.words()])
+}
+
 /// The outcome of writing a rule text.
 fn write_rule(rule: &RuleTable, text: Lent) -> Outcome {
     let mut text = Space::new(text);
@@ -104,6 +111,7 @@ pub fn judge_recording(
 pub fn of(input: &Input) -> Outcome {
     match input {
         Input::ReadRule { text, nodes } => read_rule(text, *nodes),
+        Input::ReadLine { controller, line, nodes } => read_line(*controller, line, *nodes),
         Input::WriteRule { rule, text } => write_rule(rule, *text),
         Input::ReadRecording { text, masks, states } => read_recording(text, *masks, *states),
         Input::ReadJoint { rule, recording, nodes, masks, states } => {

@@ -1,4 +1,4 @@
-//! Inputs of the nine operations, with the lent space as it is beforehand.
+//! Inputs of the operations, with the lent space as it is beforehand.
 
 use std::fmt;
 
@@ -117,6 +117,8 @@ impl<T: Entry> Space<T> {
 pub enum Input {
     /// Reading a rule text.
     ReadRule { text: Vec<u8>, nodes: Lent },
+    /// Reading a rule in one line.
+    ReadLine { controller: usize, line: Vec<u8>, nodes: Lent },
     /// Writing a rule text.
     WriteRule { rule: RuleTable, text: Lent },
     /// Reading a recording text.
@@ -149,6 +151,11 @@ impl Input {
     /// Reading a rule text.
     pub fn read_rule(text: Vec<u8>) -> Input {
         Input::ReadRule { text, nodes: Lent::ample(limits::RULE_NODES) }
+    }
+
+    /// Reading a rule in one line.
+    pub fn read_line(controller: usize, line: Vec<u8>) -> Input {
+        Input::ReadLine { controller, line, nodes: Lent::ample(limits::RULE_NODES) }
     }
 
     /// Writing a rule text.
@@ -195,6 +202,7 @@ impl Input {
     pub fn operation(&self) -> Operation {
         match self {
             Input::ReadRule { .. } => Operation::ReadRule,
+            Input::ReadLine { .. } => Operation::ReadLine,
             Input::WriteRule { .. } => Operation::WriteRule,
             Input::ReadRecording { .. } => Operation::ReadRecording,
             Input::ReadJoint { .. } => Operation::ReadJoint,
@@ -213,7 +221,7 @@ impl Input {
         let masks = |lent| slice("masks", limits::CONTROLLERS, lent);
         let states = |lent| slice("states", limits::STATES, lent);
         match self {
-            Input::ReadRule { nodes: n, .. } => vec![nodes(n)],
+            Input::ReadRule { nodes: n, .. } | Input::ReadLine { nodes: n, .. } => vec![nodes(n)],
             Input::WriteRule { text, .. } => vec![slice("text", limits::RULE_TEXT, text)],
             Input::ReadRecording { masks: m, states: s, .. } => vec![masks(m), states(s)],
             Input::ReadJoint { nodes: n, masks: m, states: s, .. } => {
@@ -229,7 +237,7 @@ impl Input {
     /// The same slices, to be lent otherwise.
     pub fn lent_mut(&mut self) -> Vec<&mut Lent> {
         match self {
-            Input::ReadRule { nodes, .. } => vec![nodes],
+            Input::ReadRule { nodes, .. } | Input::ReadLine { nodes, .. } => vec![nodes],
             Input::WriteRule { text, .. } => vec![text],
             Input::ReadRecording { masks, states, .. } => vec![masks, states],
             Input::ReadJoint { nodes, masks, states, .. } => vec![nodes, masks, states],
@@ -261,6 +269,9 @@ impl fmt::Display for Input {
         write!(out, "{} ", self.operation().name())?;
         match self {
             Input::ReadRule { text, nodes } => write!(out, "{}, nodes {nodes:?}", quoted(text)),
+            Input::ReadLine { controller, line, nodes } => {
+                write!(out, "controller {controller}, {}, nodes {nodes:?}", quoted(line))
+            }
             Input::WriteRule { rule, text } => write!(out, "{rule:?}, text {text:?}"),
             Input::ReadRecording { text, masks, states } => {
                 write!(out, "{}, masks {masks:?}, states {states:?}", quoted(text))

@@ -22,6 +22,7 @@ fn small_inputs() -> Vec<Input> {
     let table = formulas::table(&mut Random::new(1), 40);
     vec![
         Input::read_rule(rule_bytes.clone()),
+        Input::read_line(0, b"G (a1 -> X a0)".to_vec()),
         Input::write_rule(rule.clone()),
         Input::read_recording(recording_bytes.clone()),
         Input::read_joint(rule_bytes, recording_bytes),
@@ -41,6 +42,7 @@ fn refused_inputs() -> Vec<Input> {
     let table = formulas::table(&mut Random::new(1), 40);
     vec![
         Input::read_rule(cut(&rule_bytes)),
+        Input::read_line(0, b"G (a1 -> X a0".to_vec()),
         Input::write_rule(wrong.clone()),
         Input::read_recording(cut(&recording_bytes)),
         Input::read_joint(rule_bytes.clone(), cut(&recording_bytes)),
@@ -69,6 +71,7 @@ fn large_inputs() -> Vec<Input> {
     }
     vec![
         Input::read_rule(rule_text(&rule)),
+        Input::read_line(7, [&[b'!'; 63][..], b"a31"].concat()),
         Input::write_rule(rule.clone()),
         Input::read_recording(recording_text(&recording)),
         Input::read_joint(rule_text(&rule), recording_text(&recording)),

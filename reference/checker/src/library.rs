@@ -55,6 +55,11 @@ pub fn of(input: &Input) -> Outcome {
             let mut nodes = Space::new(*nodes);
             outcome(ragyvosin::read_rule(text, nodes.lend()), vec![nodes.words()])
         }
+        Input::ReadLine { controller, line, nodes } => {
+            let mut nodes = Space::new(*nodes);
+            let answer = ragyvosin::read_line(*controller, line, nodes.lend());
+            outcome(answer, vec![nodes.words()])
+        }
         Input::WriteRule { rule: table, text } => {
             let mut text = Space::new(*text);
             outcome(ragyvosin::write_rule(rule(table), text.lend()), vec![text.words()])

@@ -13,6 +13,7 @@ mod expected;
 mod input;
 mod lent;
 mod library;
+mod lines;
 mod options;
 mod outcome;
 mod plan;

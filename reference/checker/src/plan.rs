@@ -13,6 +13,10 @@ pub struct Plan {
     pub random_batches: usize,
     /// Texts for each kind of damage.
     pub damaged_texts: usize,
+    /// All lists of signs of a rule in one line up to this length.
+    pub list_length: usize,
+    /// Batches of random rules in one line.
+    pub line_batches: usize,
     /// From one lent length to the next.
     pub lent_step: usize,
     /// Runs of the program on random inputs.
@@ -47,6 +51,8 @@ impl Plan {
             seed,
             random_batches: 800,
             damaged_texts: 1000,
+            list_length: 6,
+            line_batches: 400,
             lent_step: 1,
             program_runs: 3000,
             small: SmallPlan {
@@ -67,6 +73,7 @@ impl Plan {
         Plan {
             random_batches: 8000,
             damaged_texts: 10_000,
+            line_batches: 4000,
             program_runs: 30_000,
             small: SmallPlan {
                 every_recording_nodes: 3,
@@ -86,6 +93,8 @@ impl Plan {
             seed,
             random_batches: 2,
             damaged_texts: 1,
+            list_length: 2,
+            line_batches: 2,
             lent_step: 61,
             program_runs: 2,
             small: SmallPlan {

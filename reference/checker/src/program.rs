@@ -1,4 +1,4 @@
-//! The program itself, through its standard input.
+//! The programs themselves, through their standard input.
 
 use std::env;
 use std::io::{self, Write};
@@ -7,11 +7,12 @@ use std::process::{Child, Command, Output, Stdio};
 use std::thread;
 use std::time::{Duration, Instant};
 
+use reference::generate::lines;
 use reference::generate::random::Random;
 use reference::generate::texts::{self, program_input, recording_text, rule_text};
 use reference::generate::{formulas, traces};
 use reference::model::limits::{CONTROLLERS, PROGRAM_INPUT, RULE_NODES, STATES};
-use reference::model::{program, program_says};
+use reference::model::{program, program_says, rule_program};
 
 use crate::check::Check;
 use crate::difference::Difference;
@@ -22,8 +23,34 @@ use crate::trials::{example_rule, recording_r};
 use crate::work::Job;
 use crate::wrong::Place;
 
-/// The variable that names the program's binary.
-const VARIABLE: &str = "RAGYVOSIN_JUDGE";
+/// A program: what it is counted as, its binary's name, the variable that
+/// names another binary, and the model's output.
+#[derive(Clone, Copy)]
+struct Program {
+    operation: Operation,
+    name: &'static str,
+    variable: &'static str,
+    model: fn(&[u8]) -> Vec<u8>,
+    says: fn(&[u8]) -> Vec<u8>,
+}
+
+/// The program of document 01.
+const JUDGE: Program = Program {
+    operation: Operation::Program,
+    name: "judge",
+    variable: "RAGYVOSIN_JUDGE",
+    model: program,
+    says: program_says,
+};
+
+/// The program that makes a rule text of a rule in one line.
+const RULE: Program = Program {
+    operation: Operation::RuleProgram,
+    name: "rule",
+    variable: "RAGYVOSIN_RULE",
+    model: rule_program,
+    says: |_| Vec::new(),
+};
 
 /// Runs of one job.
 const RUNS: usize = 25;
@@ -31,18 +58,25 @@ const RUNS: usize = 25;
 /// How long a run may take.
 const LIMIT: Duration = Duration::from_secs(60);
 
-/// Where the program's binary is to be.
-pub fn binary() -> PathBuf {
-    let built = Path::new(env!("CARGO_MANIFEST_DIR")).join("../../target/bin/judge");
-    env::var_os(VARIABLE).map_or(built, PathBuf::from)
+impl Program {
+    /// Where the program's binary is to be.
+    fn binary(self) -> PathBuf {
+        let built = Path::new(env!("CARGO_MANIFEST_DIR")).join("../../target/bin").join(self.name);
+        env::var_os(self.variable).map_or(built, PathBuf::from)
+    }
+
+    /// Why the program can't be run, if it can't.
+    fn missing(self) -> Option<String> {
+        let (binary, variable) = (self.binary(), self.variable);
+        let path = binary.display();
+        let why = format!("the program {path} is missing: build it, or name it in {variable}");
+        (!binary.is_file()).then_some(why)
+    }
 }
 
-/// Why the program can't be run, if it can't.
+/// Why the programs can't be run, if one can't.
 pub fn missing() -> Option<String> {
-    let binary = binary();
-    let path = binary.display();
-    let why = format!("the program {path} is missing: build it, or name it in {VARIABLE}");
-    (!binary.is_file()).then_some(why)
+    JUDGE.missing().or_else(|| RULE.missing())
 }
 
 /// Writes the input in pieces of these sizes, the last of all that is left;
@@ -75,8 +109,8 @@ fn wait(mut child: Child) -> io::Result<Output> {
 }
 
 /// Runs the program on an input.
-fn run(input: &[u8], pieces: &[usize]) -> io::Result<Output> {
-    let mut command = Command::new(binary());
+fn run(program: Program, input: &[u8], pieces: &[usize]) -> io::Result<Output> {
+    let mut command = Command::new(program.binary());
     command.stdin(Stdio::piped()).stdout(Stdio::piped()).stderr(Stdio::piped());
     let mut child = command.spawn()?;
     match feed(&mut child, input, pieces) {
@@ -112,17 +146,19 @@ fn run_difference(expected: &Expected, output: &Output) -> Option<String> {
 /// Compares all that the program writes with what is expected.
 fn require(
     check: &mut Check,
+    program: Program,
     input: &[u8],
     expected: &Expected,
     pieces: &[usize],
 ) -> Result<(), Difference> {
     let failed = |place| {
-        let input = format!("program b\"{}\", in pieces {pieces:?}", input.escape_ascii());
+        let input = format!("{} b\"{}\", in pieces {pieces:?}", program.name, input.escape_ascii());
         Difference::new(place, input)
     };
-    let output = run(input, pieces).map_err(|error| failed(format!("running: {error}")))?;
-    check.count(Operation::Program, 1, output.stdout.len() as u64);
-    check.tally.met(Operation::Program, refusal(&expected.output));
+    let output =
+        run(program, input, pieces).map_err(|error| failed(format!("running: {error}")))?;
+    check.count(program.operation, 1, output.stdout.len() as u64);
+    check.tally.met(program.operation, refusal(&expected.output));
     run_difference(expected, &output).map_or(Ok(()), |place| Err(failed(place)))
 }
 
@@ -134,18 +170,23 @@ fn refusal(output: &[u8]) -> u8 {
 }
 
 /// Compares the program with the model on an input.
-fn compare(check: &mut Check, input: &[u8], pieces: &[usize]) -> Result<(), Difference> {
-    let mut expected = Expected { output: program(input), errors: program_says(input) };
-    if check.wrong(Operation::Program, Place::Content) {
+fn compare(
+    check: &mut Check,
+    program: Program,
+    input: &[u8],
+    pieces: &[usize],
+) -> Result<(), Difference> {
+    let mut expected = Expected { output: (program.model)(input), errors: (program.says)(input) };
+    if check.wrong(program.operation, Place::Content) {
         expected.output[0] ^= 1;
     }
-    if check.wrong(Operation::Program, Place::Length) {
+    if check.wrong(program.operation, Place::Length) {
         expected.output.pop();
     }
-    if check.wrong(Operation::Program, Place::Line) {
+    if check.wrong(program.operation, Place::Line) {
         expected.errors.push(10);
     }
-    require(check, input, &expected, pieces)
+    require(check, program, input, &expected, pieces)
 }
 
 /// The example of document 01, against the output that it names.
@@ -156,9 +197,9 @@ fn example(check: &mut Check) -> Result<(), Difference> {
     if check.wrong(Operation::Program, Place::Named) {
         expected.output[6] ^= 1;
     }
-    require(check, &input, &expected, &[])?;
+    require(check, JUDGE, &input, &expected, &[])?;
     let bytewise = vec![1; input.len()];
-    require(check, &input, &expected, &bytewise)
+    require(check, JUDGE, &input, &expected, &bytewise)
 }
 
 /// Inputs at the edges: without parting line, with an unclosed one, at the
@@ -221,22 +262,67 @@ fn random_runs(check: &mut Check, plan: &Plan, number: usize) -> Result<(), Diff
             0 => (0..random.between(1, 4)).map(|_| random.below(input.len() + 1)).collect(),
             _ => Vec::new(),
         };
-        compare(check, &input, &pieces)?;
+        compare(check, JUDGE, &input, &pieces)?;
     }
     Ok(())
 }
 
-/// All runs of the program.
+/// The request's line, against the nodes that it names; other inputs that are
+/// or aren't one line of a controller and a rule; inputs of any length.
+fn typed_edges(check: &mut Check) -> Result<(), Difference> {
+    let text = "rule 0 9\ntrue\natom 1\nnot 1\natom 0\nnext 3\nor 2 4\nnot 5\nuntil 0 6\nnot 7\n";
+    let text = text.replace(' ', "\t").into_bytes();
+    let mut expected = Expected { output: text, errors: Vec::new() };
+    if check.wrong(Operation::RuleProgram, Place::Named) {
+        expected.output[5] ^= 1;
+    }
+    require(check, RULE, b"0\tG (a1 -> X a0)\n", &expected, &[])?;
+    let odd = ["", "\n", "0", "0\n", "0\ta0", "a0\n", "0 a0\n", "00\ta0\n", "\ta0\n", "0\ta0\n\n"];
+    let more =
+        ["0\ta0\na", "0\t\n", "8\ta0\n", "65536\ta0\n", "99999999999999999999\ta0\n", "8\t(\n"];
+    for input in odd.iter().chain(&more) {
+        compare(check, RULE, input.as_bytes(), &[])?;
+    }
+    for length in [PROGRAM_INPUT - 1, PROGRAM_INPUT, PROGRAM_INPUT + 1, 70_000] {
+        for byte in [b'(', b'\n', b'9'] {
+            compare(check, RULE, &vec![byte; length], &[])?;
+        }
+    }
+    lines::edges().iter().try_for_each(|line| compare(check, RULE, &typed(7, line), &[]))
+}
+
+/// The input of the program `rule`.
+fn typed(controller: usize, line: &[u8]) -> Vec<u8> {
+    [format!("{controller}\t").as_bytes(), line, b"\n"].concat()
+}
+
+/// Random runs of the program `rule`; some in pieces.
+fn random_typed(check: &mut Check, plan: &Plan, number: usize) -> Result<(), Difference> {
+    let mut random = plan.random(Section::Program, number + (1 << 20));
+    for _ in 0..RUNS.min(plan.program_runs) {
+        let line = lines::any_line(&mut random);
+        let mut input = typed(random.below(CONTROLLERS + 1), &line);
+        if random.once_in(8) {
+            input = lines::damaged(&mut random, &input);
+        }
+        let pieces = if random.once_in(4) { vec![random.below(input.len() + 1)] } else { vec![] };
+        compare(check, RULE, &input, &pieces)?;
+    }
+    Ok(())
+}
+
+/// All runs of the programs.
 pub fn jobs(plan: &Plan) -> Vec<Job<'_>> {
-    let mut jobs: Vec<Job> = vec![Box::new(example)];
+    let mut jobs: Vec<Job> = vec![Box::new(example), Box::new(typed_edges)];
     for inputs in edges().chunks(RUNS) {
         let inputs = inputs.to_vec();
         jobs.push(Box::new(move |check| {
-            inputs.iter().try_for_each(|input| compare(check, input, &[]))
+            inputs.iter().try_for_each(|input| compare(check, JUDGE, input, &[]))
         }));
     }
     for number in 0..plan.program_runs.div_ceil(RUNS) {
         jobs.push(Box::new(move |check| random_runs(check, plan, number)));
+        jobs.push(Box::new(move |check| random_typed(check, plan, number)));
     }
     jobs
 }

@@ -3,6 +3,7 @@
 //! valid and damaged, and other schedules of the same local trace.
 
 use reference::generate::formulas::{self, RuleTable};
+use reference::generate::lines;
 use reference::generate::random::Random;
 use reference::generate::texts;
 use reference::generate::traces::{self, RecordingTable};
@@ -53,6 +54,10 @@ fn rule_and_recording(random: &mut Random) -> (RuleTable, RecordingTable) {
 fn input(random: &mut Random, operation: Operation) -> Input {
     match operation {
         Operation::ReadRule => Input::read_rule(texts::any_rule_text(random, RULE_NODES)),
+        Operation::ReadLine => {
+            let controller = if random.once_in(8) { random.beyond(CONTROLLERS) } else { 0 };
+            Input::read_line(controller, lines::any_line(random))
+        }
         Operation::WriteRule => Input::write_rule(formulas::any_rule(random, RULE_NODES)),
         Operation::ReadRecording => {
             Input::read_recording(texts::any_recording_text(random, CONTROLLERS, STATES))
@@ -136,7 +141,7 @@ fn schedules(check: &mut Check, random: &mut Random) -> Result<(), Difference> {
 /// One batch of inputs of all operations.
 fn batch(check: &mut Check, plan: &Plan, number: usize) -> Result<(), Difference> {
     let mut random = plan.random(Section::Random, number);
-    for operation in Operation::NINE {
+    for operation in Operation::ALL {
         let inputs = if operation == Operation::JudgeRecording { 12 } else { 50 };
         for _ in 0..inputs {
             let input = input(&mut random, operation).lent_anew(&mut random);

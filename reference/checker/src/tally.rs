@@ -10,6 +10,8 @@ pub enum Section {
     Trials,
     /// Texts: round trips and every kind of damage.
     Texts,
+    /// Rules in one line: every short list of signs, and every kind of damage.
+    Lines,
     /// Lent space of every length.
     Lent,
     /// Random inputs up to every limit.
@@ -22,9 +24,10 @@ pub enum Section {
 
 impl Section {
     /// Every section, in order.
-    pub const ALL: [Section; 6] = [
+    pub const ALL: [Section; 7] = [
         Section::Trials,
         Section::Texts,
+        Section::Lines,
         Section::Lent,
         Section::Random,
         Section::Program,
@@ -36,6 +39,7 @@ impl Section {
         match self {
             Section::Trials => "trials",
             Section::Texts => "texts",
+            Section::Lines => "lines",
             Section::Lent => "lent",
             Section::Random => "random",
             Section::Program => "program",
@@ -44,11 +48,13 @@ impl Section {
     }
 }
 
-/// What is compared: the nine operations, two laws and the program.
+/// What is compared: the operations, two laws and the programs.
 #[derive(Clone, Copy, PartialEq, Eq, PartialOrd, Ord, Debug)]
 pub enum Operation {
     /// Reading a rule text.
     ReadRule,
+    /// Reading a rule in one line.
+    ReadLine,
     /// Writing a rule text.
     WriteRule,
     /// Reading a recording text.
@@ -71,12 +77,15 @@ pub enum Operation {
     Schedules,
     /// The program.
     Program,
+    /// The program `rule`.
+    RuleProgram,
 }
 
 impl Operation {
-    /// The nine operations.
-    pub const NINE: [Operation; 9] = [
+    /// The operations.
+    pub const ALL: [Operation; 10] = [
         Operation::ReadRule,
+        Operation::ReadLine,
         Operation::WriteRule,
         Operation::ReadRecording,
         Operation::ReadJoint,
@@ -91,6 +100,7 @@ impl Operation {
     pub fn name(self) -> &'static str {
         match self {
             Operation::ReadRule => "read_rule",
+            Operation::ReadLine => "read_line",
             Operation::WriteRule => "write_rule",
             Operation::ReadRecording => "read_recording",
             Operation::ReadJoint => "read_joint",
@@ -102,6 +112,7 @@ impl Operation {
             Operation::RoundTrip => "round_trip",
             Operation::Schedules => "schedules",
             Operation::Program => "judge",
+            Operation::RuleProgram => "rule",
         }
     }
 }
@@ -117,7 +128,7 @@ pub struct Counts {
 }
 
 /// How many refusal numbers there are, with 0 for accepted.
-const NUMBERS: usize = 15;
+const NUMBERS: usize = 17;
 
 /// What was compared of all kinds, and how often each number was answered.
 #[derive(Default, Debug)]
@@ -130,6 +141,7 @@ pub struct Tally {
 /// accepted rule's table has at most 723 nodes.
 const ANSWERABLE: &[(Operation, &[usize])] = &[
     (Operation::ReadRule, &[0, 1, 2, 3, 4, 13]),
+    (Operation::ReadLine, &[0, 2, 13, 15, 16]),
     (Operation::WriteRule, &[0, 2, 3, 4, 13]),
     (Operation::ReadRecording, &[0, 5, 6, 7, 8, 9, 10, 13]),
     (Operation::ReadJoint, &[0, 1, 2, 3, 4, 5, 6, 7, 8, 9, 10, 11, 13]),
@@ -139,6 +151,7 @@ const ANSWERABLE: &[(Operation, &[usize])] = &[
     (Operation::RewriteShort, &[0, 2, 3, 4, 13]),
     (Operation::JudgeRecording, &[0, 2, 3, 4, 6, 7, 8, 9, 10, 11, 13]),
     (Operation::Program, &[0, 1, 2, 3, 4, 5, 6, 7, 8, 9, 10, 11, 14]),
+    (Operation::RuleProgram, &[0, 1, 2, 14, 15, 16]),
 ];
 
 impl Tally {

@@ -4,7 +4,7 @@
 use reference::generate::formulas::{JudgeTable, RuleTable};
 use reference::generate::texts::{recording_text, rule_text};
 use reference::generate::traces::RecordingTable;
-use reference::model::formula::{Node, ATOM, NEXT, NOT, OR, PREV, TRUE, UNTIL};
+use reference::model::formula::{Node, ATOM, NEXT, NOT, OR, PREV, SINCE, TRUE, UNTIL};
 
 use crate::check::Check;
 use crate::difference::Difference;
@@ -180,6 +180,55 @@ fn joint_readings(check: &mut Check) -> Result<(), Difference> {
     named(check, Input::read_joint(rule_text(&example_rule()), recording), 0, &accepted)
 }
 
+/// Reads a line that is accepted with these nodes.
+fn typed(check: &mut Check, line: &str, nodes: &[Listed]) -> Result<(), Difference> {
+    let input = Input::read_line(0, line.as_bytes().to_vec());
+    let found = check.compare(&input)?;
+    named(check, input.clone(), 0, &[0, nodes.len()])?;
+    let words: Vec<u64> = rule(nodes).nodes.iter().map(|word| u64::from(*word)).collect();
+    if found.slice(0)[..nodes.len()] != words {
+        let place = format!("the trial: named nodes {nodes:?}");
+        return Err(Difference::new(place, input.to_string()));
+    }
+    Ok(())
+}
+
+/// Rules in one line: nodes, associativity, strength, and the limits.
+fn one_line(check: &mut Check) -> Result<(), Difference> {
+    let atoms = [(ATOM, 0, 0), (ATOM, 1, 0), (ATOM, 2, 0)];
+    let [p, q, r] = atoms;
+    let always = [(TRUE, 0, 0), q, (NOT, 1, 0), p, (NEXT, 3, 0), (OR, 2, 4), (NOT, 5, 0)];
+    typed(check, "G (a1 -> X a0)", &[&always[..], &[(UNTIL, 0, 6), (NOT, 7, 0)]].concat())?;
+    typed(check, "a0 U a1 S a2", &[p, q, r, (SINCE, 1, 2), (UNTIL, 0, 3)])?;
+    typed(check, "a0 S a1 U a2", &[p, q, r, (UNTIL, 1, 2), (SINCE, 0, 3)])?;
+    let arrows = [p, (NOT, 0, 0), q, (NOT, 2, 0), r, (OR, 3, 4), (OR, 1, 5)];
+    typed(check, "a0 -> a1 -> a2", &arrows)?;
+    typed(check, "a0 | a1 | a2", &[p, q, (OR, 0, 1), r, (OR, 2, 3)])?;
+    typed(check, "!a0 U a1", &[p, (NOT, 0, 0), q, (UNTIL, 1, 2)])?;
+    typed(check, "a0&a1", &[p, (NOT, 0, 0), q, (NOT, 2, 0), (OR, 1, 3), (NOT, 4, 0)])?;
+    typed(check, "F Y true", &[(TRUE, 0, 0), (TRUE, 0, 0), (PREV, 1, 0), (UNTIL, 0, 2)])?;
+    let nested = |depth| "(".repeat(depth) + "true" + &")".repeat(depth);
+    let long = |joint: &str, count: usize| (nested(16) + joint).repeat(count);
+    let bytes = |joint: &str| long(" | ", 13) + &nested(16) + joint + &long("|", 12) + &nested(16);
+    let trials = [
+        (nested(16), 0, 1),
+        (nested(17), 16, 0),
+        (nested(17) + ")", 15, 0),
+        ("!".repeat(63) + "a0", 0, 64),
+        ("!".repeat(64) + "a0", 2, 0),
+        ("a31".to_string(), 0, 1),
+        ("a32".to_string(), 2, 0),
+        (String::new(), 15, 0),
+        (bytes("|"), 0, 53),
+        (bytes(" |"), 15, 0),
+    ];
+    for (line, number, count) in trials {
+        named(check, Input::read_line(0, line.into_bytes()), number, &[0, count])?;
+    }
+    named(check, Input::read_line(8, b"a0".to_vec()), 2, &[])?;
+    named(check, Input::read_line(8, b"(".to_vec()), 15, &[])
+}
+
 /// The traps, each by a rule and a recording on which its victim answers
 /// another verdict.
 fn traps(check: &mut Check) -> Result<(), Difference> {
@@ -210,6 +259,7 @@ pub fn jobs<'a>() -> Vec<Job<'a>> {
         Box::new(state_limit),
         Box::new(atom_limit),
         Box::new(joint_readings),
+        Box::new(one_line),
         Box::new(traps),
     ]
 }

@@ -85,7 +85,7 @@ impl Wrong {
 fn lists() -> Vec<(Section, Operation, &'static [Place])> {
     use Place::{Beyond, Content, Length, Line, Named, Number, Untouched, Unused, Value, Zero};
     let mut lists: Vec<(Section, Operation, &[Place])> = Vec::new();
-    for operation in Operation::NINE {
+    for operation in Operation::ALL {
         lists.push((Section::Trials, operation, &[Named]));
         lists.push((Section::Random, operation, &[Number, Value]));
         if operation != Operation::JudgeLocal {
@@ -100,7 +100,10 @@ fn lists() -> Vec<(Section, Operation, &'static [Place])> {
         (Section::Texts, Operation::ReadRecording, &[Number, Value, Content]),
         (Section::Texts, Operation::ReadJoint, &[Number, Value, Line]),
         (Section::Texts, Operation::RoundTrip, &[Content]),
+        (Section::Lines, Operation::ReadLine, &[Number, Value, Content, Unused, Zero]),
+        (Section::Lines, Operation::RoundTrip, &[Content]),
         (Section::Program, Operation::Program, &[Named, Content, Length, Line]),
+        (Section::Program, Operation::RuleProgram, &[Named, Content, Length]),
         (Section::Small, Operation::Project, &[Number, Value, Content]),
         (Section::Small, Operation::RewritePlain, &[Value, Content]),
         (Section::Small, Operation::RewriteShort, &[Value, Content]),

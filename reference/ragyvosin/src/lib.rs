@@ -78,6 +78,23 @@ pub fn read_rule(text: &[u8], nodes: &mut [u32]) -> (u8, [usize; 2]) {
     (number, values)
 }
 
+/// Reads a rule in one line: its controller and node count.
+pub fn read_line(controller: usize, line: &[u8], nodes: &mut [u32]) -> (u8, [usize; 2]) {
+    let mut values = [usize::MAX; 2];
+    // SAFETY: as in `read_rule`.
+    let number = unsafe {
+        sys::rgv_read_line(
+            controller,
+            line.as_ptr(),
+            line.len(),
+            nodes.as_mut_ptr(),
+            nodes.len(),
+            &mut values,
+        )
+    };
+    (number, values)
+}
+
 /// Writes the text of a rule: its length.
 pub fn write_rule(rule: Rule, text: &mut [u8]) -> (u8, [usize; 1]) {
     let mut values = [usize::MAX; 1];

@@ -10,6 +10,15 @@ extern "C" {
         values: *mut [usize; 2],
     ) -> u8;
 
+    pub fn rgv_read_line(
+        controller: usize,
+        line: *const u8,
+        line_len: usize,
+        nodes: *mut u32,
+        nodes_len: usize,
+        values: *mut [usize; 2],
+    ) -> u8;
+
     pub fn rgv_write_rule(
         controller: usize,
         count: usize,

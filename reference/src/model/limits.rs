@@ -20,3 +20,7 @@ pub const PAIR_WORDS: usize = 6;
 pub const ROW_WORDS: usize = TABLE_NODES * PAIR_WORDS;
 /// "14 over 16,384 bytes".
 pub const PROGRAM_INPUT: usize = 16384;
+/// "15, over 1,024 bytes": a rule in one line.
+pub const LINE_BYTES: usize = 1024;
+/// "at most 16 deep".
+pub const OPEN_BRACKETS: usize = 16;

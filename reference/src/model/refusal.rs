@@ -28,3 +28,7 @@ pub const TABLE_SIZE: u8 = 12;
 pub const LENT_SPACE: u8 = 13;
 /// The program's input is over its limit.
 pub const PROGRAM_INPUT: u8 = 14;
+/// A rule in one line is over its limit, or no sentence of the grammar.
+pub const LINE_FORM: u8 = 15;
+/// A rule in one line has over 16 brackets open at once.
+pub const BRACKETS_DEEP: u8 = 16;

@@ -73,7 +73,7 @@ fn fields(line: &[u8]) -> Vec<&[u8]> {
 
 /// The value of a decimal field: digits without leading zeros. A value too
 /// large for a number here is outside every limit, as is the largest number.
-fn decimal(field: &[u8]) -> Option<usize> {
+pub fn decimal(field: &[u8]) -> Option<usize> {
     if field.is_empty() || !field.iter().all(u8::is_ascii_digit) {
         return None;
     }

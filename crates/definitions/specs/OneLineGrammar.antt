@@ -1,0 +1,62 @@
+-- "Rules in one line": the grammar, as which lists of signs are phrases of which level, and their trees.
+use Prim.Native.Nat.{ℕ, _+_, _-_}
+use mathlib.Core.List.{List, [], _∷_}
+use lib.Dec.{ltb}
+use Rattle.definitions.specs.Bounded.{pick}
+use Rattle.definitions.specs.OneLineSigns.{Sign, truth, atom, before, between, opening, closing, Prefix, Infix, Implies, Or, And, Until, Since}
+
+-- a rule as it is typed; its brackets leave no trace
+pub data Tree : Type 0 where
+  always : Tree
+  reading : ℕ → Tree
+  one : Prefix → Tree → Tree
+  two : Infix → Tree → Tree → Tree
+
+-- "Loosest first: `->`, .. `|`, .. `&`, .. then `U` and `S`, .. then prefixes, .. then `true`, `a` with an atom number, or a bracketed rule"
+pub data Level : Type 0 where
+  Arrows Ors Ands Untils Prefixes Primaries : Level
+
+-- `Phrase level s u t`: the signs s begin with a phrase of the level, whose tree is t, and the signs u come after it
+pub data Phrase : Level → List Sign → List Sign → Tree → Type 0 where
+  -- "`->` (to the right)"
+  arrow : {s v u : List Sign} {p q : Tree} → Phrase Ors s (between Implies ∷ v) p → Phrase Arrows v u q → Phrase Arrows s u (two Implies p q)
+  noArrow : {s u : List Sign} {p : Tree} → Phrase Ors s u p → Phrase Arrows s u p
+  -- "`|` (to the left)"
+  or : {s v u : List Sign} {p q : Tree} → Phrase Ors s (between Or ∷ v) p → Phrase Ands v u q → Phrase Ors s u (two Or p q)
+  noOr : {s u : List Sign} {p : Tree} → Phrase Ands s u p → Phrase Ors s u p
+  -- "`&` (to the left)"
+  and : {s v u : List Sign} {p q : Tree} → Phrase Ands s (between And ∷ v) p → Phrase Untils v u q → Phrase Ands s u (two And p q)
+  noAnd : {s u : List Sign} {p : Tree} → Phrase Untils s u p → Phrase Ands s u p
+  -- "`U` and `S` (to the right, alike in strength)"
+  until : {s v u : List Sign} {p q : Tree} → Phrase Prefixes s (between Until ∷ v) p → Phrase Untils v u q → Phrase Untils s u (two Until p q)
+  since : {s v u : List Sign} {p q : Tree} → Phrase Prefixes s (between Since ∷ v) p → Phrase Untils v u q → Phrase Untils s u (two Since p q)
+  noUntil : {s u : List Sign} {p : Tree} → Phrase Prefixes s u p → Phrase Untils s u p
+  -- "prefixes `! X Y F G`"
+  prefix : {s u : List Sign} {p : Tree} (x : Prefix) → Phrase Prefixes s u p → Phrase Prefixes (before x ∷ s) u (one x p)
+  noPrefix : {s u : List Sign} {p : Tree} → Phrase Primaries s u p → Phrase Prefixes s u p
+  -- "`true`, `a` with an atom number, or a bracketed rule"
+  isTrue : {u : List Sign} → Phrase Primaries (truth ∷ u) u always
+  isAtom : {u : List Sign} (n : ℕ) → Phrase Primaries (atom n ∷ u) u (reading n)
+  bracketed : {s u : List Sign} {p : Tree} → Phrase Arrows s (closing ∷ u) p → Phrase Primaries (opening ∷ s) u p
+
+-- a "sentence of the grammar", and its tree
+abbrev pub Sentence : (s : List Sign) (t : Tree) → Type 0
+Sentence s t = Phrase Arrows s [] t
+
+-- the larger of two numbers
+unfoldable pub larger : (m n : ℕ) → ℕ
+larger m n = pick (ltb m n) n m
+
+-- the most "brackets open at once", where `most` were so far and k are open now
+unfoldable pub mostOpen : (most k : ℕ) (s : List Sign) → ℕ
+mostOpen most k [] = most
+mostOpen most k (truth ∷ s) = mostOpen most k s
+mostOpen most k (atom n ∷ s) = mostOpen most k s
+mostOpen most k (before x ∷ s) = mostOpen most k s
+mostOpen most k (between x ∷ s) = mostOpen most k s
+mostOpen most k (opening ∷ s) = mostOpen (larger most (k + 1)) (k + 1) s
+mostOpen most k (closing ∷ s) = mostOpen most (k - 1) s
+
+-- "brackets open at once" in a line's signs
+abbrev pub openAtOnce : List Sign → ℕ
+openAtOnce s = mostOpen 0 0 s

@@ -1,0 +1,128 @@
+-- Laws of words laid one after another, and of the functions that lay them.
+use mathlib.Core.Path.{_≡_, refl, ap, sym, _∙_}
+use Prim.Native.Nat.{ℕ, zero, suc, _+_, _-_, _<_, _≤_}
+use mathlib.Core.List.{List, [], _∷_, _++_}
+use lib.ListN.{length, set, length-set}
+use native.Mathlib.Omega.{arith}
+use lib.Dec.{eqb}
+use borrow.Author.Needs.{needs}
+use mathlib.Core.Bool.{Bool, true, false}
+use borrow.Author.Tests.{eqb-false}
+use Rattle.theorems.proofs.Choice.{by-test}
+use Rattle.definitions.specs.Limits.{maxRuleNodes}
+use Rattle.definitions.specs.Bounded.{pick}
+use Rattle.definitions.specs.Nodes as table
+use Rattle.definitions.specs.Nodes.{node, nodeWord}
+use Rattle.definitions.specs.OneLineSigns.{Prefix, Not, Next, Prev, Future, Always}
+use Rattle.printing.specs.Printing.{Printed}
+use Rattle.printing.proofs.PrintLaws as print
+use Rattle.emission.specs.Nodes.{words, prefixOf, untilKind, prefixFirst, prefixLast, prefixNode, dualWords}
+use Rattle.emission.specs.Laying.{Laid, SpaceDual, SpaceFirst, SpaceLast}
+
+-- one word
+pub laid-one : (w : ℕ) (o : List ℕ) (at : ℕ) → at < length o → Laid (w ∷ []) o at (at + 1) (set o at w)
+laid-one w o at h = record { next = refl; lies = print.laid-one at w o h; kept = length-set o at w; fit = omega arith }
+
+-- none
+pub laid-none : (o : List ℕ) (at : ℕ) → at ≤ length o → Laid [] o at at o
+laid-none o at h = record { next = omega arith; lies = sym (print.laid-none at o); kept = refl; fit = h }
+
+-- some, and then more
+pub laid-seq : {xs ys o o′ o″ : List ℕ} {at r q : ℕ} → Laid xs o at r o′ → Laid ys o′ r q o″ → Laid (xs ++ ys) o at q o″
+laid-seq {xs} {ys} {o} {o′} {o″} {at} {r} {q} p s =
+    let first : Printed xs o at r o′ = record { next = p .next; lies = p .lies } in
+    let both = print.printed-seq xs ys o o′ o″ at r q (omega arith) first (record { next = s .next; lies = s .lies }) in
+    record { next = both .next; lies = both .lies; kept = s .kept ∙ p .kept; fit = omega (arith, s .fit, p .kept) }
+
+-- the same words
+pub relaid : {xs ys o o′ : List ℕ} {at r : ℕ} → xs ≡ ys → Laid xs o at r o′ → Laid ys o at r o′
+relaid e l = rw e at l
+
+-- ---- `dual`
+module _ (w e : ℕ) (o : List ℕ) (s : SpaceDual e o) where
+  pub dual-third : (v : ℕ) → e + 2 < length (set (set o e v) (e + 1) w)
+  dual-third v = omega (arith, s .room, s .held, length-set (set o e v) (e + 1) w, length-set o e v)
+
+  pub dual-second : (v : ℕ) → e + 1 < length (set o e v)
+  dual-second v = omega (arith, s .room, s .held, length-set o e v)
+
+  pub dual-laid : (v u : ℕ) → v ≡ nodeWord (node table.Not (e - 1) 0) → u ≡ nodeWord (node table.Not (e + 1) 0)
+      → Laid (dualWords w e) o e (e + 3) (set (set (set o e v) (e + 1) w) (e + 2) u)
+  dual-laid v u p q =
+      let one : e + 1 + 1 ≡ e + 2 = omega arith in
+      let two : e + 2 + 1 ≡ e + 3 = omega arith in
+      let a : Laid (v ∷ []) o e (e + 1) (set o e v) = laid-one v o e (omega (arith, s .room, s .held)) in
+      let b : Laid (w ∷ []) (set o e v) (e + 1) (e + 2) (set (set o e v) (e + 1) w) = rw one at (laid-one w (set o e v) (e + 1) (dual-second v)) in
+      let c : Laid (u ∷ []) (set (set o e v) (e + 1) w) (e + 2) (e + 3) (set (set (set o e v) (e + 1) w) (e + 2) u)
+      = rw two at (laid-one u (set (set o e v) (e + 1) w) (e + 2) (dual-third v)) in
+      let same : (v ∷ w ∷ u ∷ []) ≡ dualWords w e = rw (p, q) in
+      relaid same (laid-seq a (laid-seq b c))
+
+pub ruleset dual-laws = (needs, dual-second, dual-third, dual-laid)
+
+-- ---- the prefix of a code
+module _ (c : ℕ) where
+  future-first : c ≡ 6 → prefixFirst (prefixOf c) ≡ node table.True 0 0 ∷ []
+  unfolding prefixFirst prefixOf pick
+  future-first e = rw e
+
+  always-first : c ≡ 7 → prefixFirst (prefixOf c) ≡ node table.True 0 0 ∷ []
+  unfolding prefixFirst prefixOf pick
+  always-first e = rw e
+
+  always-last : (b e : ℕ) → c ≡ 7 → prefixLast (prefixOf c) b e ≡ node table.Not (e - 1) 0 ∷ node table.Until b e ∷ node table.Not (e + 1) 0 ∷ []
+  unfolding prefixLast prefixOf pick
+  always-last b e q = rw q
+
+  other-first : 3 ≤ c → c ≤ 7 → (c ≡ 6 → ⊥) → (c ≡ 7 → ⊥) → prefixFirst (prefixOf c) ≡ []
+  unfolding prefixFirst prefixOf pick
+  other-first l h n m =
+      by-test (eqb c 3) (λ e. rw e)
+      (λ e. by-test (eqb c 4) (λ f. rw (e, f))
+      (λ f. by-test (eqb c 5) (λ g. rw (e, f, g))
+      (λ g. absurd (omega (arith, eqb-false c 3 e, eqb-false c 4 f, eqb-false c 5 g)))))
+
+  other-last : (b e : ℕ) → 3 ≤ c → c ≤ 7 → (c ≡ 7 → ⊥) → prefixLast (prefixOf c) b e ≡ prefixNode c b e ∷ []
+  unfolding prefixLast prefixNode prefixOf pick
+  other-last b e l h m =
+      by-test (eqb c 3) (λ z. rw z)
+      (λ z. by-test (eqb c 4) (λ f. rw (z, f))
+      (λ f. by-test (eqb c 5) (λ g. rw (z, f, g))
+      (λ g. by-test (eqb c 6) (λ k. rw (z, f, g, k))
+      (λ k. absurd (omega (arith, eqb-false c 3 z, eqb-false c 4 f, eqb-false c 5 g, eqb-false c 6 k))))))
+
+-- ---- `open_prefix`
+module _ (c b : ℕ) (o : List ℕ) (s : SpaceFirst c b o) where
+  pub open-future-room : c ≡ 6 → b < length o
+  open-future-room q = omega (arith, s .room, s .held, ap length (future-first c q))
+
+  pub open-always-room : c ≡ 7 → b < length o
+  open-always-room q = omega (arith, s .room, s .held, ap length (always-first c q))
+
+  pub open-future : (w : ℕ) → c ≡ 6 → w ≡ nodeWord (node table.True 0 0) → Laid (words (prefixFirst (prefixOf c))) o b (b + 1) (set o b w)
+  open-future w q e = relaid (rw (future-first c q, e)) (laid-one w o b (open-future-room q))
+
+  pub open-always : (w : ℕ) → c ≡ 7 → w ≡ nodeWord (node table.True 0 0) → Laid (words (prefixFirst (prefixOf c))) o b (b + 1) (set o b w)
+  open-always w q e = relaid (rw (always-first c q, e)) (laid-one w o b (open-always-room q))
+
+  pub open-none : (c ≡ 6 → ⊥) → (c ≡ 7 → ⊥) → Laid (words (prefixFirst (prefixOf c))) o b b o
+  open-none n m = relaid (rw (other-first c (s .low) (s .high) n m)) (laid-none o b (omega (arith, s .room, s .held)))
+
+pub ruleset open-laws = (needs, open-future-room, open-always-room, open-future, open-always, open-none)
+
+-- ---- `close_prefix`
+module _ (c b e : ℕ) (o : List ℕ) (s : SpaceLast c b e o) where
+  pub close-dual : c ≡ 7 → SpaceDual e o
+  close-dual q = record { behind = omega (arith, s .order); room = omega (arith, s .room, ap length (always-last c b e q)); held = s .held }
+
+  pub close-always : (w r : ℕ) (o′ : List ℕ) → c ≡ 7 → w ≡ nodeWord (node (untilKind 11) b e) → Laid (dualWords w e) o e r o′ → Laid (words (prefixLast (prefixOf c) b e)) o e r o′
+  unfolding untilKind pick
+  close-always w r o′ q t l = relaid (rw (always-last c b e q, t)) l
+
+  pub close-room : (c ≡ 7 → ⊥) → e < length o
+  close-room n = omega (arith, s .room, s .held, ap length (other-last c b e (s .low) (s .high) n))
+
+  pub close-one : (w : ℕ) → (c ≡ 7 → ⊥) → w ≡ nodeWord (prefixNode c b e) → Laid (words (prefixLast (prefixOf c) b e)) o e (e + 1) (set o e w)
+  close-one w n t = relaid (rw (other-last c b e (s .low) (s .high) n, t)) (laid-one w o e (close-room n))
+
+pub ruleset close-laws = (needs, close-dual, close-always, close-room, close-one)

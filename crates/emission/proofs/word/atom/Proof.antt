@@ -1,0 +1,26 @@
+use Rattle.emission.proofs.WordLaws.{word-laws}
+use Rattle.emission.proofs.word.atom.Statement.{statement}
+use Rattle.emission.proofs.word.atom.Tie as tie
+use Rattle.emission.proofs.word.atom.Reads as reads
+use Rattle.emission.proofs.word.atom.Lts as lts
+use Rattle.formulas.proofs.node.Node.atom.Reads as atom-reads
+use Rattle.formulas.proofs.node.Node.word.Reads as word-reads
+
+-- src/word.rt:19:16
+cast-atom : tie.Need-cast-atom
+cast-atom c = search word-laws
+
+-- src/word.rt:19:5
+atom-requires : tie.Need-atom-requires
+atom-requires c κs = search word-laws
+
+-- src/word.rt:19:5
+word-requires : tie.Need-word-requires
+word-requires c κs = search word-laws
+
+-- src/word.rt:15:1
+returns : tie.Need-returns
+returns c = search word-laws
+
+pub atom-spec : {M : Type 1} → statement M
+atom-spec = tie.close (tie.spec cast-atom atom-requires word-requires returns)

@@ -1,0 +1,26 @@
+use Rattle.emission.proofs.WordLaws.{word-laws}
+use Rattle.emission.proofs.word.not.Statement.{statement}
+use Rattle.emission.proofs.word.not.Tie as tie
+use Rattle.emission.proofs.word.not.Reads as reads
+use Rattle.emission.proofs.word.not.Lts as lts
+use Rattle.formulas.proofs.node.Node.not.Reads as not-reads
+use Rattle.formulas.proofs.node.Node.word.Reads as word-reads
+
+-- src/word.rt:26:15
+cast-not : tie.Need-cast-not
+cast-not c = search word-laws
+
+-- src/word.rt:26:5
+not-requires : tie.Need-not-requires
+not-requires c κs = search word-laws
+
+-- src/word.rt:26:5
+word-requires : tie.Need-word-requires
+word-requires c κs = search word-laws
+
+-- src/word.rt:22:1
+returns : tie.Need-returns
+returns c = search word-laws
+
+pub not-spec : {M : Type 1} → statement M
+not-spec = tie.close (tie.spec cast-not not-requires word-requires returns)

@@ -1,0 +1,45 @@
+// Several nodes written one after another.
+ghost use mathlib.Core.Path.{_≡_};
+ghost use Rattle.emission.specs.Nodes.{prefixOf, prefixFirst, prefixLast, dualWords, words};
+ghost use Rattle.emission.specs.Laying.{Laid, SpaceDual, SpaceFirst, SpaceLast};
+use super::word;
+use signs::sign::Sign;
+
+// Not of the operand that ends before node e, the operator with the word w, not of that: as in `!(!p|!q)` and `!F!p`.
+pub fn dual(w: u32, e: usize, nodes: &mut [u32]) -> usize
+    requires { ⌜ SpaceDual e (now nodes) ⌝ }
+    ensures { λ r. ⌜ Laid (dualWords w e) (now (nodes .entry)) e r (now (nodes .exit)) ⌝ }
+{
+    nodes[e] = word::not(e - 1);
+    nodes[e + 1] = w;
+    nodes[e + 2] = word::not(e + 1);
+    e + 3
+}
+
+// What stands before the operand of a prefix.
+pub fn open_prefix(c: u8, b: usize, nodes: &mut [u32]) -> usize
+    requires { ⌜ SpaceFirst c b (now nodes) ⌝ }
+    ensures { λ r. ⌜ Laid (words (prefixFirst (prefixOf c))) (now (nodes .entry)) b r (now (nodes .exit)) ⌝ }
+{
+    if c == Sign::FUTURE {
+        nodes[b] = word::truth();
+        return b + 1;
+    }
+    if c == Sign::ALWAYS {
+        nodes[b] = word::truth();
+        return b + 1;
+    }
+    b
+}
+
+// What follows the operand of a prefix, which ends before node e.
+pub fn close_prefix(c: u8, b: usize, e: usize, nodes: &mut [u32]) -> usize
+    requires { ⌜ SpaceLast c b e (now nodes) ⌝ }
+    ensures { λ r. ⌜ Laid (words (prefixLast (prefixOf c) b e)) (now (nodes .entry)) e r (now (nodes .exit)) ⌝ }
+{
+    if c == Sign::ALWAYS {
+        return dual(word::until(Sign::UNTIL, b, e), e, nodes);
+    }
+    nodes[e] = word::prefix(c, b, e);
+    e + 1
+}

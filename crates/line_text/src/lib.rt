@@ -1,0 +1,2 @@
+// Rules in one line: the operation, over any bytes, any controller and any lent nodes.
+pub mod read;

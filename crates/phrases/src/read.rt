@@ -1,0 +1,157 @@
+// The reader's cycle: a function for each level of the grammar. The signs that are left fall from call to call, and so does the number of
+// brackets that may still be opened.
+ghost use mathlib.Core.Path.{_≡_};
+ghost use lib.ListN.{getD};
+ghost use Rattle.definitions.specs.OneLineGrammar.{Arrows, Ors, Ands, Untils, Prefixes, Primaries};
+ghost use Rattle.phrases.specs.Reading.{Ready, Primed, Read};
+use emission::word;
+use emission::write;
+use signs::sign::Sign;
+
+// How far a reader came: the next sign, and the next node.
+pub struct Spot {
+    pub at: usize,
+    pub made: usize,
+}
+
+// The sign at a place; past the end, the one that ends every phrase.
+fn peek(codes: &[u8], at: usize) -> u8
+    ensures { λ r. ⌜ r ≡ getD (now (codes .entry)) at 0 ⌝ }
+{
+    if at < codes.len() {
+        codes[at]
+    } else {
+        Sign::CLOSING
+    }
+}
+
+// "`->` (to the right)": p, not, q, or.
+pub fn arrows(codes: &[u8], at: usize, left: usize, made: usize, nodes: &mut [u32]) -> Spot
+    requires { ⌜ Ready left (now codes) at made (now nodes) ⌝ }
+    ensures { λ r. ⌜ Read Arrows 1 (now (codes .entry)) at made (now (nodes .entry)) (r .at) (r .made) (now (nodes .exit)) ⌝ }
+{
+    let p = ors(codes, at, left, made, nodes);
+    let a = p.at;
+    let m = p.made;
+    if peek(codes, a) == Sign::IMPLIES {
+        nodes[m] = word::not(m - 1);
+        let q = arrows(codes, a + 1, left, m + 1, nodes);
+        let e = q.made;
+        nodes[e] = word::or(m, e - 1);
+        return Spot {
+            at: q.at,
+            made: e + 1,
+        };
+    }
+    Spot { at: a, made: m }
+}
+
+// "`|` (to the left)": p, q, or.
+fn ors(codes: &[u8], at: usize, left: usize, made: usize, nodes: &mut [u32]) -> Spot
+    requires { ⌜ Ready left (now codes) at made (now nodes) ⌝ }
+    ensures { λ r. ⌜ Read Ors 2 (now (codes .entry)) at made (now (nodes .entry)) (r .at) (r .made) (now (nodes .exit)) ⌝ }
+{
+    let p = ands(codes, at, left, made, nodes);
+    let mut a = p.at;
+    let mut m = p.made;
+    while peek(codes, a) == Sign::OR {
+        let q = ands(codes, a + 1, left, m, nodes);
+        let e = q.made;
+        nodes[e] = word::or(m - 1, e - 1);
+        a = q.at;
+        m = e + 1;
+    }
+    Spot { at: a, made: m }
+}
+
+// "`&` (to the left)": p, not, q, not, or, not.
+fn ands(codes: &[u8], at: usize, left: usize, made: usize, nodes: &mut [u32]) -> Spot
+    requires { ⌜ Ready left (now codes) at made (now nodes) ⌝ }
+    ensures { λ r. ⌜ Read Ands 3 (now (codes .entry)) at made (now (nodes .entry)) (r .at) (r .made) (now (nodes .exit)) ⌝ }
+{
+    let p = untils(codes, at, left, made, nodes);
+    let mut a = p.at;
+    let mut m = p.made;
+    while peek(codes, a) == Sign::AND {
+        nodes[m] = word::not(m - 1);
+        let q = untils(codes, a + 1, left, m + 1, nodes);
+        let e = q.made;
+        let end = write::dual(word::or(m, e), e, nodes);
+        a = q.at;
+        m = end;
+    }
+    Spot { at: a, made: m }
+}
+
+// "`U` and `S` (to the right, alike in strength)": p, q, until or since.
+fn untils(codes: &[u8], at: usize, left: usize, made: usize, nodes: &mut [u32]) -> Spot
+    requires { ⌜ Ready left (now codes) at made (now nodes) ⌝ }
+    ensures { λ r. ⌜ Read Untils 4 (now (codes .entry)) at made (now (nodes .entry)) (r .at) (r .made) (now (nodes .exit)) ⌝ }
+{
+    let p = prefixes(codes, at, left, made, nodes);
+    let a = p.at;
+    let m = p.made;
+    let c = peek(codes, a);
+    if c < Sign::UNTIL {
+        return Spot { at: a, made: m };
+    }
+    if Sign::SINCE < c {
+        return Spot { at: a, made: m };
+    }
+    let q = untils(codes, a + 1, left, m, nodes);
+    let e = q.made;
+    nodes[e] = word::until(c, m - 1, e - 1);
+    Spot {
+        at: q.at,
+        made: e + 1,
+    }
+}
+
+// "prefixes `! X Y F G`".
+fn prefixes(codes: &[u8], at: usize, left: usize, made: usize, nodes: &mut [u32]) -> Spot
+    requires { ⌜ Ready left (now codes) at made (now nodes) ⌝ }
+    ensures { λ r. ⌜ Read Prefixes 5 (now (codes .entry)) at made (now (nodes .entry)) (r .at) (r .made) (now (nodes .exit)) ⌝ }
+{
+    let c = peek(codes, at);
+    if c < Sign::NOT {
+        return primaries(codes, at, left, made, nodes);
+    }
+    if Sign::ALWAYS < c {
+        return primaries(codes, at, left, made, nodes);
+    }
+    let n = write::open_prefix(c, made, nodes);
+    let p = prefixes(codes, at + 1, left, n, nodes);
+    let e = p.made;
+    let end = write::close_prefix(c, made, e, nodes);
+    Spot {
+        at: p.at,
+        made: end,
+    }
+}
+
+// "`true`, `a` with an atom number, or a bracketed rule".
+fn primaries(codes: &[u8], at: usize, left: usize, made: usize, nodes: &mut [u32]) -> Spot
+    requires { ⌜ Primed left (now codes) at made (now nodes) ⌝ }
+    ensures { λ r. ⌜ Read Primaries 5 (now (codes .entry)) at made (now (nodes .entry)) (r .at) (r .made) (now (nodes .exit)) ⌝ }
+{
+    let c = peek(codes, at);
+    if c == Sign::OPENING {
+        let p = arrows(codes, at + 1, left - 1, made, nodes);
+        return Spot {
+            at: p.at + 1,
+            made: p.made,
+        };
+    }
+    if c == Sign::TRUTH {
+        nodes[made] = word::truth();
+        return Spot {
+            at: at + 1,
+            made: made + 1,
+        };
+    }
+    nodes[made] = word::atom((c - Sign::ATOM) as usize);
+    Spot {
+        at: at + 1,
+        made: made + 1,
+    }
+}

@@ -1,0 +1,25 @@
+use Rattle.sentences.proofs.TallyLaws.{refusal-laws}
+use Rattle.sentences.proofs.refusal.of_tally.Statement.{statement}
+use Rattle.sentences.proofs.refusal.of_tally.Tie as tie
+use Rattle.sentences.proofs.refusal.of_tally.Reads as reads
+use Rattle.sentences.proofs.refusal.of_tally.Lts as lts
+use Rattle.formulas.proofs.choice.pick.Reads as pick-reads
+
+-- src/refusal.rt:21:9
+pick-requires : tie.Need-pick-requires
+pick-requires c κs = search refusal-laws
+
+-- src/refusal.rt:22:9
+pick-requires-2 : tie.Need-pick-requires-2
+pick-requires-2 c κs = search refusal-laws
+
+-- src/refusal.rt:23:5
+pick-requires-3 : tie.Need-pick-requires-3
+pick-requires-3 c κs = search refusal-laws
+
+-- src/refusal.rt:16:1
+returns : tie.Need-returns
+returns c = search refusal-laws
+
+pub of-tally-spec : {M : Type 1} → statement M
+of-tally-spec = tie.close (tie.spec pick-requires pick-requires-2 pick-requires-3 returns)

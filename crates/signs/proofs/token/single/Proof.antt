@@ -1,0 +1,70 @@
+use Rattle.signs.proofs.TokenLaws.{single-laws}
+use Rattle.signs.proofs.token.single.Statement.{statement}
+use Rattle.signs.proofs.token.single.Tie as tie
+use Rattle.signs.proofs.token.single.Reads as reads
+use Rattle.signs.proofs.token.single.Lts as lts
+
+-- src/token.rt:25:9
+returns : tie.Need-returns
+returns c = search single-laws
+
+-- src/token.rt:28:9
+returns-2 : tie.Need-returns-2
+returns-2 c = search single-laws
+
+-- src/token.rt:31:9
+returns-3 : tie.Need-returns-3
+returns-3 c = search single-laws
+
+-- src/token.rt:34:9
+returns-4 : tie.Need-returns-4
+returns-4 c = search single-laws
+
+-- src/token.rt:37:9
+returns-5 : tie.Need-returns-5
+returns-5 c = search single-laws
+
+-- src/token.rt:40:9
+returns-6 : tie.Need-returns-6
+returns-6 c = search single-laws
+
+-- src/token.rt:43:9
+returns-7 : tie.Need-returns-7
+returns-7 c = search single-laws
+
+-- src/token.rt:46:9
+returns-8 : tie.Need-returns-8
+returns-8 c = search single-laws
+
+-- src/token.rt:49:9
+returns-9 : tie.Need-returns-9
+returns-9 c = search single-laws
+
+-- src/token.rt:52:9
+returns-10 : tie.Need-returns-10
+returns-10 c = search single-laws
+
+-- src/token.rt:55:9
+returns-11 : tie.Need-returns-11
+returns-11 c = search single-laws
+
+-- src/token.rt:21:1
+returns-12 : tie.Need-returns-12
+returns-12 c = search single-laws
+
+pub single-spec : {M : Type 1} → statement M
+single-spec =
+    tie.close
+    (tie.spec
+    returns
+    returns-2
+    returns-3
+    returns-4
+    returns-5
+    returns-6
+    returns-7
+    returns-8
+    returns-9
+    returns-10
+    returns-11
+    returns-12)

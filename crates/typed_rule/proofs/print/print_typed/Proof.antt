@@ -1,0 +1,95 @@
+use Rattle.typed_rule.proofs.PrintLaws.{typed-laws}
+use Rattle.typed_rule.proofs.print.print_typed.Statement.{statement}
+use Rattle.typed_rule.proofs.print.print_typed.Tie as tie
+use Rattle.typed_rule.proofs.print.print_typed.Reads as reads
+use Rattle.typed_rule.proofs.print.print_typed.Lts as lts
+use Rattle.fields.proofs.number.decimal.Reads as decimal-reads
+use Rattle.fields.proofs.scan.after.Reads as after-reads
+use Rattle.fields.proofs.scan.until_byte.Reads as until-byte-reads
+use Rattle.typed_rule.proofs.print.print_line.Reads as print-line-reads
+use Rattle.typed_rule.proofs.print.print_refusal.Reads as print-refusal-reads
+
+-- src/print.rt:51:9
+until-byte-requires : tie.Need-until-byte-requires
+until-byte-requires c κs = search typed-laws
+
+-- src/print.rt:53:57
+slice-aggregate-decimal : tie.Need-slice-aggregate-decimal
+slice-aggregate-decimal c = search typed-laws
+
+-- src/print.rt:53:41
+decimal-requires : tie.Need-decimal-requires
+decimal-requires c κs = search typed-laws
+
+-- src/print.rt:53:27
+enum-known-controller : tie.Need-enum-known-controller
+enum-known-controller c = search typed-laws
+
+-- src/print.rt:54:54
+enum-told : tie.Need-enum-told
+enum-told c = search typed-laws
+
+-- src/print.rt:54:13
+print-refusal-requires : tie.Need-print-refusal-requires
+print-refusal-requires c κs = search typed-laws
+
+-- src/print.rt:54:13
+same-length : tie.Need-same-length
+same-length c = search typed-laws
+
+-- src/print.rt:54:13
+returns : tie.Need-returns
+returns c = search typed-laws
+
+-- src/print.rt:56:27
+cast-print-line : tie.Need-cast-print-line
+cast-print-line c = search typed-laws
+
+-- src/print.rt:56:48
+after-requires : tie.Need-after-requires
+after-requires c κs = search typed-laws
+
+-- src/print.rt:56:9
+print-line-requires : tie.Need-print-line-requires
+print-line-requires c κs = search typed-laws
+
+-- src/print.rt:56:9
+same-length-2 : tie.Need-same-length-2
+same-length-2 c = search typed-laws
+
+-- src/print.rt:56:9
+returns-2 : tie.Need-returns-2
+returns-2 c = search typed-laws
+
+-- src/print.rt:58:5
+print-refusal-requires-2 : tie.Need-print-refusal-requires-2
+print-refusal-requires-2 c κs = search typed-laws
+
+-- src/print.rt:47:1
+same-length-3 : tie.Need-same-length-3
+same-length-3 c = search typed-laws
+
+-- src/print.rt:47:1
+returns-3 : tie.Need-returns-3
+returns-3 c = search typed-laws
+
+pub print-typed-spec : {M : Type 1} → statement M
+print-typed-spec =
+    tie.close
+    (tie.spec
+    until-byte-requires
+    slice-aggregate-decimal
+    decimal-requires
+    enum-known-controller
+    enum-told
+    print-refusal-requires
+    same-length
+    returns
+    cast-print-line
+    after-requires
+    print-line-requires
+    same-length-2
+    returns-2
+    print-refusal-requires-2
+    same-length-3
+    returns-3)
