@@ -1,4 +1,5 @@
 pub mod Samples
 pub mod Trials
+pub mod OperatorTrials
 pub mod RefusalTrials
 pub mod OneLineTrials
