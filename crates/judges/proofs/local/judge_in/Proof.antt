@@ -10,11 +10,11 @@ sub-last c = search own-laws
 mask-at-requires : tie.Need-mask-at-requires
 mask-at-requires c κs = search needs
 
-local-length-requires : tie.Need-local-length-requires
-local-length-requires c κs = search own-laws
-
 project-into-requires : tie.Need-project-into-requires
 project-into-requires c κs = search own-laws
+
+add-length : tie.Need-add-length
+add-length c = search own-laws
 
 widen-requires : tie.Need-widen-requires
 widen-requires c κs = search own-laws
@@ -43,8 +43,8 @@ judge-in-spec =
     (tie.spec
     sub-last
     mask-at-requires
-    local-length-requires
     project-into-requires
+    add-length
     widen-requires
     evaluate-requires
     at-tops-requires
