@@ -29,7 +29,7 @@ fn unused_clear(n: Node) -> bool
 
 // A kind that the table may hold; operands that are nodes are earlier ones; others are below their limits. No test is a
 // branch that the kinds of a table decide.
-fn node_fits(rewritten: bool, i: usize, n: Node) -> bool
+pub fn node_fits(rewritten: bool, i: usize, n: Node) -> bool
     ensures { λ r. ⌜ r ≡ nodeFits rewritten i (meaning n) ⌝ }
 {
     let known = n.kind <= pick(rewritten, Node::END, Node::SINCE);
