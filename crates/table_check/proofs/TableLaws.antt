@@ -78,8 +78,8 @@ module _ (rewritten : Bool) (count : ℕ) (ws : List ℕ) where
     fit-next z n h m o e = record {
       inside = omega arith;
       rest = λ b.
-        let both = both-true fit z b in
-        left-next rewritten count ws i 0 n (so .rest (both .0)) h (omega arith) o (fits-none rewritten i (n .kind) (n .first) (n .second) z e (both .1)) refl;
+          let both = both-true fit z b in
+          left-next rewritten count ws i 0 n (so .rest (both .0)) h (omega arith) o (fits-none rewritten i (n .kind) (n .first) (n .second) z e (both .1)) refl;
     }
 
     pub fit-done : count ≤ i → fit ≡ true → nodesRefusal rewritten 0 count ws ≡ accepted
