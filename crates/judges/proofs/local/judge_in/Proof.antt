@@ -1,6 +1,6 @@
 -- `judges::local::judge_in` meets its contract.
 use borrow.Author.Needs.{needs}
-use Rattle.judges.proofs.LocalLaws.{own-laws}
+use Rattle.judges.proofs.LocalLaws.{own-laws, own-judged}
 use Rattle.judges.proofs.local.judge_in.Statement.{statement}
 use Rattle.judges.proofs.local.judge_in.Tie as tie
 
@@ -35,7 +35,7 @@ same-length-3 : tie.Need-same-length-3
 same-length-3 c = search needs
 
 returns : tie.Need-returns
-returns c = search own-laws
+returns c = search own-judged
 
 pub judge-in-spec : {M : Type 1} → statement M
 judge-in-spec =
