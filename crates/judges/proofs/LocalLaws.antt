@@ -4,6 +4,8 @@ use mathlib.Core.Bool.{false}
 use mathlib.Core.List.{List, _++_, append-assoc}
 use Prim.Native.Nat.{ℕ, suc, _+_, _*_, _-_, _<_, _≤_}
 use native.Mathlib.Numerals.{add-one}
+use mir.Syntax.{w64}
+use mir.Val.{Fits}
 use native.Mathlib.Omega.{arith}
 use lib.ListN.{length, take, drop, getD, set, length-append, length-drop}
 use lib.Seq.{take-at, drop-at, drop-drop, take-suc, set-split, length-take-le}
@@ -22,9 +24,9 @@ use Rattle.theorems.proofs.ScheduleIndependence.{Accepted}
 use Rattle.lent.specs.Space.{laid}
 use Rattle.traces.specs.Joining.{traceRefusal}
 use Rattle.traces.proofs.CheckLaws.{own-mask}
-use Rattle.projection.specs.Places.{runsIn, placesIn, Projectable, Countable}
+use Rattle.projection.specs.Places.{runsIn, placesIn, Projectable}
 use Rattle.projection.proofs.LengthLaws.{length-of}
-use Rattle.projection.proofs.PlaceLaws.{projectable, countable, local-places, few-local}
+use Rattle.projection.proofs.PlaceLaws.{projectable, local-places, few-local}
 use Rattle.evaluation.specs.Traced.{traceOf}
 use Rattle.evaluation.specs.Nodes.{Evaluable, rowsTo}
 use Rattle.evaluation.proofs.TableLaws.{nodes-length}
@@ -86,24 +88,28 @@ module _ (c count : ℕ) (nodes : List ℕ) (C n : ℕ) (masks states words plac
   pub own-some : 1 ≤ count
   own-some = omega (arith, rule-some r (A .rule))
 
-  pub own-countable : Countable n c states
-  own-countable = countable R c (A .recording) (A .controller)
-
   pub own-projectable : Projectable n c states words
   own-projectable = projectable R c words (A .recording) (A .controller) (ready .wordsRoom)
 
   nodes-accepted : nodesRefusal false 0 count nodes ≡ 0
   nodes-accepted = (accepted-rule r (A .rule)) .1
 
-  module _ (L : ℕ) (le : L ≡ length (runsIn n c states) + 1) where
-    few : L ≤ maxStates
-    few = omega (arith, few-local n c states words own-projectable, own-projectable .fewStates)
+  -- the last place's number, and the number of places
+  module _ (last : ℕ) (le : last ≡ length (runsIn n c states)) where
+    abbrev L : ℕ
+    L = last + 1
+
+    length-few : L ≤ maxStates
+    length-few = omega (arith, few-local n c states words own-projectable, own-projectable .fewStates)
+
+    pub own-length : Fits w64 L
+    own-length = record { fits = omega (arith, length-few) }
 
     pub own-few : (words′ : List ℕ) → length words′ ≡ length words → L ≤ length words′
-    own-few words′ kept = omega (arith, few, ready .wordsRoom)
+    own-few words′ kept = omega (arith, length-few, ready .wordsRoom)
 
     pub own-room : L ≤ length places
-    own-room = omega (arith, few, ready .placesRoom)
+    own-room = omega (arith, length-few, ready .placesRoom)
 
     module _ (mask : ℕ) (me : mask ≡ getD masks c 0) (words′ : List ℕ) (p : words′ ≡ laid (placesIn n mask c states) words)
         (places′ : List ℕ) (w : places′ ≡ take L words′ ++ drop L places) where
@@ -111,7 +117,7 @@ module _ (c count : ℕ) (nodes : List ℕ) (C n : ℕ) (masks states words plac
       content = placesIn n mask c states
 
       size : length content ≡ L
-      size = length-of n c mask states ∙ sym le
+      size = length-of n c mask states ∙ ap (λ (m : ℕ). m + 1) (sym le)
 
       front : places′ ≡ content ++ drop L places
       front = w ∙ ap (λ (l : List ℕ). l ++ drop L places) (ap (take L) p ∙ take-at content (drop (length content) words) L size)
@@ -120,7 +126,7 @@ module _ (c count : ℕ) (nodes : List ℕ) (C n : ℕ) (masks states words plac
       own-evaluable = record {
         counted = nodes-there false 0 count nodes nodes-accepted;
         fit = nodes-fit false count nodes nodes-accepted;
-        few = few;
+        few = length-few;
         there = rw (front, length-append) (omega (arith, size));
         controller = omega arith;
         room = omega (arith, rule-few r (A .rule), ready .rowsRoom);
@@ -177,6 +183,6 @@ module _ (c count : ℕ) (nodes : List ℕ) (C n : ℕ) (masks states : List ℕ
 
 pub ruleset widen-laws = (needs, widening-none, widening-length, widening-room, widening-more, widening-done)
 
-pub ruleset own-laws = (needs, own-some, own-countable, own-projectable, own-few, own-room, own-evaluable, own-topped, own-judged)
+pub ruleset own-laws = (needs, own-some, own-projectable, own-length, own-few, own-room, own-evaluable, own-topped, own-judged)
 
 pub ruleset local-laws = (needs, local-number, local-refused, local-accepted, local-judged)

@@ -18,7 +18,6 @@ use evaluation::evaluate::evaluate;
 use formulas::choice::or_else;
 use formulas::limits::Limits;
 use formulas::limits::Refusal;
-use projection::places::local_length;
 use projection::places::project_into;
 use table_check::rule_refusal;
 use traces::check::trace_refusal;
@@ -67,8 +66,7 @@ fn judge_in(
     let c = rule.controller;
     let last = rule.count - 1;
     let mask = mask_at(masks, c);
-    let length = local_length(recording.count, c, states);
-    project_into(recording.count, mask, c, states, words);
+    let length = project_into(recording.count, mask, c, states, words) + 1;
     widen(words, length, places);
     evaluate(nodes, rule.count, places, length, 0, mask, rows);
     at_tops(rows, last, last)

@@ -5,7 +5,7 @@ ghost use Prim.Native.Nat.{ℕ};
 ghost use Rattle.definitions.specs.Nodes.{kindOf};
 ghost use Rattle.definitions.specs.Tables.{nodeRefusal};
 ghost use Rattle.formulas.specs.Meaning.{meaning};
-ghost use Rattle.node_check.specs.Ends.{takesNodes, firstEnd, secondEnd, nodeFits};
+ghost use Rattle.node_check.specs.Fits.{takesNodes, unusedClear, nodeFits};
 use formulas::choice::pick;
 use formulas::choice::pick_index;
 use formulas::kind::takes_two;
@@ -20,38 +20,32 @@ fn takes_nodes(kind: u8) -> bool
     (Node::ATOM < kind) & (kind < Node::RUN)
 }
 
-fn first_end(kind: u8, i: usize) -> usize
-    ensures { λ r. ⌜ r ≡ firstEnd i (kindOf kind) ⌝ }
+// A second operand that is not used is 0.
+fn unused_clear(n: Node) -> bool
+    ensures { λ r. ⌜ r ≡ unusedClear (meaning n) ⌝ }
 {
-    let node_end = pick_index(takes_nodes(kind), i, 1);
-    pick_index(kind == Node::ATOM, Limits::ATOMS, node_end)
+    takes_two(n.kind) | (n.second == 0)
 }
 
-fn second_end(kind: u8, i: usize) -> usize
-    ensures { λ r. ⌜ r ≡ secondEnd i (kindOf kind) ⌝ }
-{
-    pick_index(takes_two(kind), i, 1)
-}
-
-// A kind that the table may hold, and each operand before its end.
-fn node_fits(rewritten: bool, i: usize, n: Node) -> bool
+// A kind that the table may hold; operands that are nodes are earlier ones; others are below their limits. No test is a
+// branch that the kinds of a table decide.
+pub fn node_fits(rewritten: bool, i: usize, n: Node) -> bool
     ensures { λ r. ⌜ r ≡ nodeFits rewritten i (meaning n) ⌝ }
 {
-    let kind = n.kind;
-    let known = kind <= pick(rewritten, Node::END, Node::SINCE);
-    let first = (n.first as usize) < first_end(kind, i);
-    let second = (n.second as usize) < second_end(kind, i);
-    known & first & second
+    let known = n.kind <= pick(rewritten, Node::END, Node::SINCE);
+    let nodes = takes_nodes(n.kind);
+    let first = n.first as usize;
+    let early = (first < i) & ((n.second as usize) < i);
+    let within = first < pick_index(n.kind == Node::ATOM, Limits::ATOMS, 1);
+    known & unused_clear(n) & ((nodes & early) | (!nodes & within))
 }
 
 // Of a node that doesn't fit: 3 where nothing but a node that it takes can be wrong, else 2.
 fn misfit_refusal(n: Node) -> u8
     ensures { λ r. ⌜ ((rewritten : Bool) (i : ℕ) → nodeFits rewritten i (meaning n) ≡ false → r ≡ nodeRefusal rewritten i (meaning n)) ⌝ }
 {
-    let kind = n.kind;
-    let none_unused = takes_two(kind) | (n.second == 0);
     pick(
-        takes_nodes(kind) & none_unused,
+        takes_nodes(n.kind) & unused_clear(n),
         Refusal::RULE_OPERAND,
         Refusal::RULE_LIMITS,
     )

@@ -16,7 +16,7 @@ use Rattle.definitions.specs.Projection.{runStates, afterLast, placesOf, localT
 use Rattle.theorems.proofs.Choice.{by-test}
 use Rattle.theorems.proofs.RecordingLaws.{Checked, checked, Recorded, recorded}
 use Rattle.lent.specs.Space.{laid}
-use Rattle.projection.specs.Places.{placesIn, Projectable, Countable}
+use Rattle.projection.specs.Places.{runsIn, placesIn, Projectable, Countable}
 
 -- ---- the states in which a component runs, one state more
 module _ (run : ℕ → Bool) where
@@ -157,9 +157,12 @@ module _ (N c : ℕ) (states entry places : List ℕ) (here next k : ℕ) (inv :
     pub next-in : next < length states
     next-in = omega (arith, next-counted, P .allThere)
 
+    pub last-place : here ≡ length (runsIn N c states)
+    last-place = inv .count ∙ ap (λ (j : ℕ). length (runStates (runIn N c states) j)) whole
+
     pub place-in : here < length places
     place-in =
-        let e : here ≡ length (runStates (runIn N c states) N) = inv .count ∙ ap (λ (j : ℕ). length (runStates (runIn N c states) j)) whole in
+        let e : here ≡ length (runsIn N c states) = last-place in
         omega (arith, runs-in (runIn N c states) N (P .someState) idle, P .fewStates, P .room, inv .kept)
 
     pub walk-end : (mask w : ℕ) → w ≡ atomsOf (getD states next 0) →
@@ -168,14 +171,14 @@ module _ (N c : ℕ) (states entry places : List ℕ) (here next k : ℕ) (inv :
     walk-end mask w ws =
         let rs : List ℕ = runStates (runIn N c states) N in
         let n : next ≡ afterLast rs = inv .after ∙ ap (λ (j : ℕ). afterLast (runStates (runIn N c states) j)) whole in
-        let m : here ≡ length rs = inv .count ∙ ap (λ (j : ℕ). length (runStates (runIn N c states) j)) whole in
+        let m : here ≡ length rs = last-place in
         let l : take here places ≡ map (wordIn N states) rs = inv .laid ∙ ap (λ (j : ℕ). map (wordIn N states) (runStates (runIn N c states) j)) whole in
         let v : w ≡ wordIn N states (afterLast rs) = ws ∙ (ap atomsOf (sym (getD-take N states next 0 next-counted)) ∙ ap (wordIn N states) n) in
         let size : here + 1 ≡ length (placesOf (wordIn N states) mask rs)
         = omega (arith, length-append (map (wordIn N states) rs) (bitAnd (wordIn N states (afterLast rs)) mask ∷ []), length-map rs (wordIn N states)) in
         set-split places here (bitAnd w mask) place-in ∙ rw (← size, ← add-one here, inv .rest, l, v, append-assoc)
 
-pub ruleset walk-laws = (walk-start, walk-end)
+pub ruleset walk-laws = (walk-start, last-place, walk-end)
 
 pub ruleset walk-bounds = (needs, walk-keeps, next-in, place-in)
 

@@ -19,11 +19,11 @@ pub fn local_length(count: usize, c: usize, states: &[u64]) -> usize
     run.total() as usize + 1
 }
 
-// The places, over the start of what is lent. Each word is written to the next place, and kept where the component runs:
-// no branch that the marks decide.
-pub fn project_into(count: usize, mask: u32, c: usize, states: &[u64], places: &mut [u32])
+// The places, over the start of what is lent; the answer is the last one's number. Each word is written to the next place, and
+// kept where the component runs: no branch that the marks decide.
+pub fn project_into(count: usize, mask: u32, c: usize, states: &[u64], places: &mut [u32]) -> usize
     requires { ⌜ Projectable count c (now states) (now places) ⌝ }
-    ensures { λ _. ⌜ now (places .exit) ≡ laid (placesIn count mask c (now (states .entry))) (now (places .entry)) ⌝ }
+    ensures { λ r. ⌜ (r ≡ length (runsIn count c (now (states .entry)))) × (now (places .exit) ≡ laid (placesIn count mask c (now (states .entry))) (now (places .entry))) ⌝ }
 {
     let mut here = 0;
     let mut next = 0;
@@ -35,4 +35,5 @@ pub fn project_into(count: usize, mask: u32, c: usize, states: &[u64], places: &
         next = pick_index(ran, k + 1, next);
     }
     places[here] = atoms_of(states[next]) & mask;
+    here
 }

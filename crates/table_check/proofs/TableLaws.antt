@@ -1,7 +1,7 @@
 -- The check of a table, turn by turn and return by return.
 use mathlib.Core.Bool.{Bool, true, false, _&&_}
 use mathlib.Core.List.{List}
-use mathlib.Core.Path.{_≡_, sym, _∙_}
+use mathlib.Core.Path.{_≡_, refl, sym, _∙_}
 use Prim.Native.Nat.{ℕ, suc, _+_, _-_, _<_, _≤_}
 use native.Mathlib.Nat.{sub-zero}
 use native.Mathlib.Omega.{arith}
@@ -15,8 +15,11 @@ use Rattle.definitions.specs.Limits.{maxTableNodes, accepted, ruleLimits, ruleL
 use Rattle.definitions.specs.Bounded.{pick, within, orElse}
 use Rattle.definitions.specs.Nodes.{nodeOf}
 use Rattle.definitions.specs.Tables.{nodeRefusal, nodesRefusal, ruleHeadingRefusal, ruleRefusal, topsRefusal, tableRefusal, ruleOf, tableOf}
+use Rattle.theorems.proofs.Choice.{both-true}
 use Rattle.formulas.specs.Meaning.{meaning, OfWord}
 use Rattle.formulas.specs.declared.node.Node.{Node}
+use Rattle.node_check.specs.Fits.{nodeFits}
+use Rattle.node_check.proofs.FitLaws.{fits-none}
 
 or-first : (k other : ℕ) → (k ≡ 0 → ⊥) → orElse k other ≡ k
 unfolding orElse pick
@@ -60,6 +63,32 @@ module _ (rewritten : Bool) (count : ℕ) (ws : List ℕ) where
   pub left-done : (i : ℕ) → Left rewritten count ws i → count ≤ i → accepted ≡ nodesRefusal rewritten 0 count ws
   unfolding nodesRefusal
   left-done i l h = let z : count - i ≡ 0 = omega (arith, l .inside) in sym (l .rest ∙ rw z)
+
+-- before node i: where all so far fit, what is left to test is the answer
+pub record Fitting (rewritten : Bool) (count : ℕ) (ws : List ℕ) (fit : Bool) (i : ℕ) : Type 0 where
+  pub inside : i ≤ count
+  pub rest : fit ≡ true → Left rewritten count ws i
+
+module _ (rewritten : Bool) (count : ℕ) (ws : List ℕ) where
+  pub fit-start : Fitting rewritten count ws true 0
+  fit-start = record { inside = omega arith; rest = λ e. left-start rewritten count ws }
+
+  module _ (fit : Bool) (i : ℕ) (so : Fitting rewritten count ws fit i) where
+    pub fit-next : (z : Bool) (n : Node) → i < count → count ≤ length ws → OfWord (getD ws i 0) n → z ≡ nodeFits rewritten i (meaning n) → Fitting rewritten count ws (fit && z) (i + 1)
+    fit-next z n h m o e = record {
+      inside = omega arith;
+      rest = λ b.
+          let both = both-true fit z b in
+          left-next rewritten count ws i 0 n (so .rest (both .0)) h (omega arith) o (fits-none rewritten i (n .kind) (n .first) (n .second) z e (both .1)) refl;
+    }
+
+    pub fit-done : count ≤ i → fit ≡ true → nodesRefusal rewritten 0 count ws ≡ accepted
+    fit-done h t = sym (left-done rewritten count ws i (so .rest t) h)
+
+pub ruleset fit-laws = (needs, fit-start, fit-next, fit-done)
+
+pub all-fit : (rewritten : Bool) (count : ℕ) (ws : List ℕ) (z : Bool) → (z ≡ true → nodesRefusal rewritten 0 count ws ≡ accepted) → z ≡ true → accepted ≡ nodesRefusal rewritten 0 count ws
+all-fit rewritten count ws z h e = sym (h e)
 
 pub ruleset node-laws = (needs, left-start, left-missing, left-refused, left-next, left-done)
 

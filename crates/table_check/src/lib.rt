@@ -1,14 +1,31 @@
 // The check of a rule's table and of the judge's: the first refusal that is met, 0 for none.
+ghost use mathlib.Core.Bool.{true};
 ghost use mathlib.Core.Path.{_≡_};
+ghost use Prim.Native.Nat.{_≤_};
+ghost use lib.ListN.{length};
+ghost use Rattle.definitions.specs.Limits.{accepted};
 ghost use Rattle.definitions.specs.Tables.{nodesRefusal, ruleHeadingRefusal, ruleRefusal, tableRefusal, ruleOf, tableOf};
 use formulas::choice::pick;
 use formulas::limits::Limits;
 use formulas::limits::Refusal;
 use formulas::node::Node;
+use node_check::node_fits;
 use node_check::node_refusal;
 
+// Each node fits: one pass without a branch, for the tables that are accepted.
+fn all_fit(rewritten: bool, count: usize, nodes: &[u32]) -> bool
+    requires { ⌜ count ≤ length (now nodes) ⌝ }
+    ensures { λ r. ⌜ (r ≡ true → nodesRefusal rewritten 0 count (now (nodes .entry)) ≡ accepted) ⌝ }
+{
+    let mut fit = true;
+    for i in 0..count {
+        fit = fit & node_fits(rewritten, i, Node::of_word(nodes[i]));
+    }
+    fit
+}
+
 // The nodes that are there, in order, then a node missing.
-fn nodes_refusal(rewritten: bool, count: usize, nodes: &[u32]) -> u8
+fn first_refusal(rewritten: bool, count: usize, nodes: &[u32]) -> u8
     ensures { λ r. ⌜ r ≡ nodesRefusal rewritten 0 count (now (nodes .entry)) ⌝ }
 {
     let mut i = 0;
@@ -23,6 +40,17 @@ fn nodes_refusal(rewritten: bool, count: usize, nodes: &[u32]) -> u8
         i += 1;
     }
     Refusal::NONE
+}
+
+fn nodes_refusal(rewritten: bool, count: usize, nodes: &[u32]) -> u8
+    ensures { λ r. ⌜ r ≡ nodesRefusal rewritten 0 count (now (nodes .entry)) ⌝ }
+{
+    if count <= nodes.len() {
+        if all_fit(rewritten, count, nodes) {
+            return Refusal::NONE;
+        }
+    }
+    first_refusal(rewritten, count, nodes)
 }
 
 // A controller or a count outside its limits.

@@ -1,62 +1,20 @@
--- `nodes_refusal` meets its contract. The invariant: what is left to test at node i is the answer.
-use Prim.Native.Nat.{_-_}
-use Rattle.table_check.proofs.TableLaws.{Left, node-laws}
+-- `nodes_refusal` meets its contract: where all nodes fit, nothing refuses them.
+use borrow.Author.Needs.{needs}
+use Rattle.table_check.proofs.TableLaws.{all-fit}
 use Rattle.table_check.proofs.nodes_refusal.Statement.{statement}
 use Rattle.table_check.proofs.nodes_refusal.Tie as tie
 
-abbrev Inv-loop : tie.InvT-loop
-Inv-loop rewritten count nodes i₀ i = Left rewritten count nodes i
+all-fit-requires : tie.Need-all-fit-requires
+all-fit-requires c κs = search needs
 
-abbrev μ-loop : tie.MeasureT-loop
-μ-loop rewritten count nodes i₀ i = count - i
+returns : tie.Need-returns
+returns c = search all-fit
 
-loop-holds : tie.Need-loop-holds Inv-loop μ-loop
-loop-holds c = search node-laws
+first-refusal-requires : tie.Need-first-refusal-requires
+first-refusal-requires c κs = search needs
 
-returns : tie.Need-returns Inv-loop μ-loop
-returns c = search node-laws
-
-mul-of-word : tie.Need-mul-of-word Inv-loop μ-loop
-mul-of-word c = search node-laws
-
-shared-slice-read-of-word : tie.Need-shared-slice-read-of-word Inv-loop μ-loop
-shared-slice-read-of-word c = search node-laws
-
-of-word-requires : tie.Need-of-word-requires Inv-loop μ-loop
-of-word-requires c κs = search node-laws
-
-node-refusal-requires : tie.Need-node-refusal-requires Inv-loop μ-loop
-node-refusal-requires c κs = search node-laws
-
-returns-2 : tie.Need-returns-2 Inv-loop μ-loop
-returns-2 c = search node-laws
-
-add-i : tie.Need-add-i Inv-loop μ-loop
-add-i c = search node-laws
-
-loop-less : tie.Need-loop-less Inv-loop μ-loop
-loop-less c = search node-laws
-
-loop-again : tie.Need-loop-again Inv-loop μ-loop
-loop-again c = search node-laws
-
-returns-3 : tie.Need-returns-3 Inv-loop μ-loop
-returns-3 c = search node-laws
+returns-2 : tie.Need-returns-2
+returns-2 c = search needs
 
 pub nodes-refusal-spec : {M : Type 1} → statement M
-nodes-refusal-spec =
-    tie.close
-    (tie.spec
-    Inv-loop
-    μ-loop
-    loop-holds
-    returns
-    mul-of-word
-    shared-slice-read-of-word
-    of-word-requires
-    node-refusal-requires
-    returns-2
-    add-i
-    loop-less
-    loop-again
-    returns-3)
+nodes-refusal-spec = tie.close (tie.spec all-fit-requires returns first-refusal-requires returns-2)

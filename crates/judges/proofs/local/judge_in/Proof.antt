@@ -1,6 +1,6 @@
 -- `judges::local::judge_in` meets its contract.
 use borrow.Author.Needs.{needs}
-use Rattle.judges.proofs.LocalLaws.{own-laws}
+use Rattle.judges.proofs.LocalLaws.{own-laws, own-judged}
 use Rattle.judges.proofs.local.judge_in.Statement.{statement}
 use Rattle.judges.proofs.local.judge_in.Tie as tie
 
@@ -10,11 +10,11 @@ sub-last c = search own-laws
 mask-at-requires : tie.Need-mask-at-requires
 mask-at-requires c κs = search needs
 
-local-length-requires : tie.Need-local-length-requires
-local-length-requires c κs = search own-laws
-
 project-into-requires : tie.Need-project-into-requires
 project-into-requires c κs = search own-laws
+
+add-length : tie.Need-add-length
+add-length c = search own-laws
 
 widen-requires : tie.Need-widen-requires
 widen-requires c κs = search own-laws
@@ -35,7 +35,7 @@ same-length-3 : tie.Need-same-length-3
 same-length-3 c = search needs
 
 returns : tie.Need-returns
-returns c = search own-laws
+returns c = search own-judged
 
 pub judge-in-spec : {M : Type 1} → statement M
 judge-in-spec =
@@ -43,8 +43,8 @@ judge-in-spec =
     (tie.spec
     sub-last
     mask-at-requires
-    local-length-requires
     project-into-requires
+    add-length
     widen-requires
     evaluate-requires
     at-tops-requires

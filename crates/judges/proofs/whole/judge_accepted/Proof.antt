@@ -1,6 +1,6 @@
 -- `judges::whole::judge_accepted` meets its contract.
 use borrow.Author.Needs.{needs}
-use Rattle.judges.proofs.WholeLaws.{accepted-laws}
+use Rattle.judges.proofs.WholeLaws.{accepted-laws, whole-verdicts}
 use Rattle.judges.proofs.whole.judge_accepted.Statement.{statement}
 use Rattle.judges.proofs.whole.judge_accepted.Tie as tie
 
@@ -20,7 +20,7 @@ same-length : tie.Need-same-length
 same-length c = search needs
 
 returns : tie.Need-returns
-returns c = search accepted-laws
+returns c = search whole-verdicts
 
 pub judge-accepted-spec : {M : Type 1} → statement M
 judge-accepted-spec =

@@ -1,6 +1,6 @@
 -- `judges::whole::judge_recording` meets its contract.
 use borrow.Author.Needs.{needs}
-use Rattle.judges.proofs.WholeLaws.{whole-laws}
+use Rattle.judges.proofs.WholeLaws.{whole-laws, whole-refused, whole-judged}
 use Rattle.judges.proofs.whole.judge_recording.Statement.{statement}
 use Rattle.judges.proofs.whole.judge_recording.Tie as tie
 
@@ -29,7 +29,7 @@ same-length : tie.Need-same-length
 same-length c = search needs
 
 returns : tie.Need-returns
-returns c = search whole-laws
+returns c = search whole-refused
 
 judge-accepted-requires : tie.Need-judge-accepted-requires
 judge-accepted-requires c κs = search whole-laws
@@ -38,7 +38,7 @@ same-length-2 : tie.Need-same-length-2
 same-length-2 c = search needs
 
 returns-2 : tie.Need-returns-2
-returns-2 c = search whole-laws
+returns-2 c = search whole-judged
 
 pub judge-recording-spec : {M : Type 1} → statement M
 judge-recording-spec =
