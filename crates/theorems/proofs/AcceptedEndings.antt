@@ -124,19 +124,19 @@ masks-plain : (lines : ℕ) (earlier t : List ℕ) → (scanMasks lines earlier 
     → Without carriageReturn (withNewlines ((scanMasks lines earlier t) .rest)) → Without carriageReturn (withNewlines t)
 unfolding scanMasks
 masks-plain zero earlier t e w = w
-masks-plain (suc lines) earlier t =
+masks-plain (suc lines) earlier t e w =
     on-next (λ (s : Scan). s .number ≡ 0 → Without carriageReturn (withNewlines (s .rest)) → Without carriageReturn (withNewlines t)) (maskLine earlier t) _ _
-    (λ k r e w. refused-not maskForm (maskRefusal earlier) t k r e)
-    (λ m rest r e w. read-plain maskForm (maskRefusal earlier) t m rest r (λ s f. mask-plain s m f) (masks-plain lines (m ∷ earlier) rest e w))
+    (λ k r z y. refused-not maskForm (maskRefusal earlier) t k r z)
+    (λ m rest r z y. read-plain maskForm (maskRefusal earlier) t m rest r (λ s f. mask-plain s m f) (masks-plain lines (m ∷ earlier) rest z y)) e w
 
 states-plain : (C N : ℕ) (masks : List ℕ) (lines k prior : ℕ) (t : List ℕ) → (scanStates C N masks lines k prior t) .number ≡ 0 → Without carriageReturn (withNewlines t)
 unfolding scanStates withNewlines pick
 states-plain C N masks zero k prior [] e = without-none carriageReturn
 states-plain C N masks zero k prior (x ∷ t) e = absurd (omega (arith, rw (ne-eqb (suc (length t)) 0 (λ q. omega arith)) at e))
-states-plain C N masks (suc lines) k prior t =
+states-plain C N masks (suc lines) k prior t e =
     on-next (λ (s : Scan). s .number ≡ 0 → Without carriageReturn (withNewlines t)) (stateLine C N masks k prior t) _ _
-    (λ j r e. refused-not stateForm (stateRefusal C N masks k prior) t j r e)
-    (λ v rest r e. read-plain stateForm (stateRefusal C N masks k prior) t v rest r (λ s f. state-plain s v f) (states-plain C N masks lines (k + 1) v rest e))
+    (λ j r z. refused-not stateForm (stateRefusal C N masks k prior) t j r z)
+    (λ v rest r z. read-plain stateForm (stateRefusal C N masks k prior) t v rest r (λ s f. state-plain s v f) (states-plain C N masks lines (k + 1) v rest z)) e
 
 masked-plain : (C N : ℕ) (t : List ℕ) → (recordingMasks C N (scanMasks C [] t)) .number ≡ 0 → Without carriageReturn (withNewlines t)
 masked-plain C N t e =
