@@ -12,11 +12,11 @@ returns c = search line-laws
 before-ending-requires : tie.Need-before-ending-requires
 before-ending-requires c κs = search line-laws
 
-add-result : tie.Need-add-result
-add-result c = search line-laws
+add-t5 : tie.Need-add-t5
+add-t5 c = search line-laws
 
 returns-2 : tie.Need-returns-2
 returns-2 c = search line-laws
 
 pub first-line-spec : {M : Type 1} → statement M
-first-line-spec = tie.close (tie.spec until-byte-requires returns before-ending-requires add-result returns-2)
+first-line-spec = tie.close (tie.spec until-byte-requires returns before-ending-requires add-t5 returns-2)
