@@ -18,11 +18,11 @@ part-first-line-end c = search split-laws
 first-line-requires : tie.Need-first-line-requires
 first-line-requires c κs = search split-laws
 
-add-t6 : tie.Need-add-t6
-add-t6 c = search split-laws
+add-t5 : tie.Need-add-t5
+add-t5 c = search split-laws
 
 returns : tie.Need-returns
 returns c = search split-laws
 
 pub split-spec : {M : Type 1} → statement M
-split-spec = tie.close (tie.spec rule-length-requires sub-first-line part-first-line-start part-first-line-end first-line-requires add-t6 returns)
+split-spec = tie.close (tie.spec rule-length-requires sub-first-line part-first-line-start part-first-line-end first-line-requires add-t5 returns)
