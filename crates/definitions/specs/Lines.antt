@@ -69,11 +69,11 @@ lineLength (x ∷ t) = pick (eqb x newline || isReturn x t) 0 (suc (lineLength t
 abbrev pub lineOf : List ℕ → List ℕ
 lineOf t = take (lineLength t) t
 
--- the first line is "closed by byte 10"
+-- the first line is "closed by byte 10", which either ending ends in
 abbrev pub isClosed : List ℕ → Bool
 isClosed t = has newline t
 
--- where the text after the first line and its ending begins
+-- where the text after the first line and its ending begins: after that byte 10
 abbrev pub restAt : List ℕ → ℕ
 restAt t = before newline t + 1
 

@@ -1,5 +1,5 @@
 -- In an accepted text each byte 13 stands before a byte 10, so it is read as the same text with byte 10 at each line.
-use mathlib.Core.Path.{_≡_, refl, ap, subst}
+use mathlib.Core.Path.{_≡_, refl, subst}
 use Prim.Native.Nat.{ℕ, zero, suc, _+_, _*_, _<_}
 use mathlib.Core.Bool.{true}
 use mathlib.Core.List.{List, [], _∷_, _++_}
@@ -11,7 +11,7 @@ use Rattle.definitions.specs.Limits.{recordingForm, recordingLines}
 use Rattle.definitions.specs.Bounded.{pick}
 use Rattle.definitions.specs.Nodes.{nodeOf}
 use Rattle.definitions.specs.Recordings.{maskRefusal, stateRefusal, stateOf, recordingHeadingRefusal}
-use Rattle.definitions.specs.Lines.{tab, newline, carriageReturn, before, has, upTo, after, isClosed, lineOf, restOf, withNewlines, Parsed, formed, malformed, decimal, hexDigit, hexOn, hexadecimal, Heading, headingForm, twoFields, refused, read, onNext, nextLine, Scan}
+use Rattle.definitions.specs.Lines.{tab, newline, carriageReturn, before, has, upTo, after, isClosed, lineOf, restOf, withNewlines, Parsed, formed, malformed, decimal, hexDigit, hexOn, hexadecimal, Heading, headingForm, twoFields, refused, read, nextLine, Scan}
 use Rattle.definitions.specs.RuleText.{scanRule, nodeText, nodesText, ruleText}
 use Rattle.definitions.specs.RecordingText.{recordingWord, ownsWord, atWord, wordDigits, markDigits, recordingHeading, recordingHeadingLine, maskForm, maskLine, stateForm, stateLine, scanMasks, scanStates, RecordingScan, recordingStop, recordingStates, recordingMasks, scanRecording}
 use Rattle.theorems.proofs.Choice.{pick-must}

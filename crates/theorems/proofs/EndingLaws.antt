@@ -7,7 +7,7 @@ use lib.ListN.{length, drop, getD}
 use lib.Seq.{take-at}
 use native.Mathlib.Omega.{arith}
 use lib.Dec.{eqb}
-use borrow.Author.Tests.{eq-eqb, ne-eqb, eqb-true, eqb-false, ltb-true, ltb-false}
+use borrow.Author.Tests.{eq-eqb, ne-eqb, eqb-true, eqb-false, lt-ltb, ltb-true, ltb-false}
 use Rattle.definitions.specs.Bounded.{pick}
 use Rattle.definitions.specs.Lines.{newline, carriageReturn, before, upTo, newlineNext, isReturn, lineLength, lineOf, isClosed, restOf, withNewlines}
 use Rattle.theorems.proofs.Choice.{by-test, both-true}
@@ -95,6 +95,37 @@ with-short (x ∷ t) =
     by-test (isReturn x t)
     (λ f. omega (arith, ap length (with-return x t f), with-short t))
     (λ f. omega (arith, ap length (with-other x t f), with-short t))
+
+-- a closed text is its first line, one of the two endings, and the rest
+rest-later : (x : ℕ) (t : List ℕ) → eqb x newline ≡ false → restOf (x ∷ t) ≡ restOf t
+rest-later x t e = let s : suc (before newline t) + 1 ≡ suc (before newline t + 1) = omega arith in rw (before-later newline x t e, s)
+
+parts-newline : (x : ℕ) (t : List ℕ) → eqb x newline ≡ true → x ∷ t ≡ lineOf (x ∷ t) ++ (newline ∷ restOf (x ∷ t))
+parts-newline x t e = rw (length-here x t e, before-here newline x t e, eqb-true x newline e)
+
+parts-return : (x : ℕ) (t : List ℕ) → isReturn x t ≡ true → x ∷ t ≡ lineOf (x ∷ t) ++ (carriageReturn ∷ newline ∷ restOf (x ∷ t))
+parts-return x t f =
+    let r = return-is x t f in
+    let e : eqb x newline ≡ false = ne-eqb x newline (λ q. omega (arith, r .0)) in
+    let b = newline-first t (r .1) in
+    ap (λ (y : ℕ). y ∷ t) (r .0) ∙ (ap (λ (l : List ℕ). carriageReturn ∷ l) (r .1) ∙ rw (length-return x t f, rest-later x t e, b))
+
+parts-later : (x : ℕ) (t ending : List ℕ) → eqb x newline ≡ false → isReturn x t ≡ false → t ≡ lineOf t ++ (ending ++ restOf t)
+    → x ∷ t ≡ lineOf (x ∷ t) ++ (ending ++ restOf (x ∷ t))
+parts-later x t ending e f q = ap (λ (l : List ℕ). x ∷ l) q ∙ rw (length-later x t e f, rest-later x t e)
+
+pub by-ending : {P : Type 0} (t : List ℕ) → isClosed t ≡ true
+    → (t ≡ lineOf t ++ (newline ∷ restOf t) → P) → (t ≡ lineOf t ++ (carriageReturn ∷ newline ∷ restOf t) → P) → P
+by-ending [] c f g = let h = ltb-true (before newline []) 0 c in absurd (omega arith)
+by-ending (x ∷ t) c f g =
+    by-test (eqb x newline)
+    (λ e. f (parts-newline x t e))
+    (λ e. by-test (isReturn x t)
+    (λ r. g (parts-return x t r))
+    (λ r.
+    let h = ltb-true (before newline (x ∷ t)) (suc (length t)) c in
+    let d : isClosed t ≡ true = lt-ltb (before newline t) (length t) (omega (arith, before-later newline x t e)) in
+    by-ending t d (λ q. f (parts-later x t (newline ∷ []) e r q)) (λ q. g (parts-later x t (carriageReturn ∷ newline ∷ []) e r q))))
 
 -- an unclosed text has no ending
 open-front : (t : List ℕ) → length t ≤ before newline t → withNewlines t ≡ t

@@ -1,8 +1,8 @@
 -- The program prints the same of an input and of the same input with byte 10 at each line.
-use mathlib.Core.Path.{_≡_, refl, ap, sym, _∙_}
+use mathlib.Core.Path.{_≡_, ap, sym, _∙_}
 use mathlib.Core.Bool.{true, false}
 use mathlib.Core.List.{List, [], _∷_, _++_, append-assoc}
-use Prim.Native.Nat.{ℕ, zero, suc, _+_, _≤_}
+use Prim.Native.Nat.{ℕ, zero, suc, _≤_}
 use native.Mathlib.Omega.{arith}
 use native.Mathlib.Numerals.{add-one}
 use lib.ListN.{length, take, drop, drop-of-length-le}
@@ -12,7 +12,7 @@ use Rattle.definitions.specs.Limits.{maxInputBytes}
 use Rattle.definitions.specs.Bounded.{pick}
 use Rattle.definitions.specs.Lines.{newline, before, upTo, isClosed, lineOf, restAt, restOf, withNewlines, same}
 use Rattle.definitions.specs.Program.{splitLine, ruleLength, ruleIn, recordingIn, textsOutput, programOutput}
-use Rattle.theorems.proofs.Choice.{by-test, pick-false}
+use Rattle.theorems.proofs.Choice.{by-test}
 use Rattle.theorems.proofs.SplitLaws.{found-byte}
 use Rattle.theorems.proofs.EndingLaws.{with-front, with-short, open-same}
 use Rattle.theorems.proofs.EndingReadings.{Settled, settled-drop, with-none, closed-closed, line-same, rest-same, front-line, rule-same, recording-same, joint-same, bytes-same}
