@@ -170,7 +170,8 @@ fn the_program_splits_at_either_ending() {
 
 #[test]
 fn the_example_with_either_ending() {
-    let example = "rule 0 9\natom 1\nnot 0\natom 0\nnext 2\nor 1 3\nnot 4\ntrue\nuntil 6 5\nnot 7\n\
+    let example =
+        "rule 0 9\natom 1\nnot 0\natom 0\nnext 2\nor 1 3\nnot 4\ntrue\nuntil 6 5\nnot 7\n\
         -\nrecording 2 5\nowns 00000001\nowns 00000002\nat 01 00000002\nat 02 00000003\n\
         at 01 00000001\nat 02 00000000\nat 00 00000002\n";
     let output = "local 3\nown yes no\nplain 55 yes no\nshort 43 yes no\n".replace(' ', "\t");
