@@ -2,6 +2,7 @@
 //! lent space, valid and damaged, every small rule and recording, and every
 //! short list of signs.
 
+pub mod endings;
 pub mod exhaustive;
 pub mod formulas;
 pub mod lent;

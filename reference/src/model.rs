@@ -178,8 +178,7 @@ fn joint(rule_text: &[u8], recording_text: &[u8]) -> Result<(Formula, Trace), (u
     let trace = text::read_recording(recording_text)
         .map_err(|refused| refused_part(Source::Recording, refused))?;
     trace.check_component(formula.component).map_err(|number| {
-        let first_line = rule_text.iter().take_while(|byte| **byte != 10).count();
-        refused_part(Source::Rule, RefusedLine { number, line: 0..first_line })
+        refused_part(Source::Rule, RefusedLine { number, line: text::first_line(rule_text) })
     })?;
     Ok((formula, trace))
 }
@@ -482,13 +481,10 @@ pub fn program_says(input: &[u8]) -> Vec<u8> {
 }
 
 /// The controller and the rule of the input of the program `rule`: one line
-/// and its end, parted by a tab.
+/// and its ending, parted by a tab.
 fn typed(input: &[u8]) -> Option<(usize, &[u8])> {
-    let line = input.strip_suffix(b"\n")?;
+    let line = text::only_line(input)?;
     let at = line.iter().position(|byte| *byte == b'\t')?;
-    if line.contains(&b'\n') {
-        return None;
-    }
     Some((text::decimal(&line[..at])?, &line[at + 1..]))
 }
 

@@ -3,7 +3,7 @@ use mathlib.Core.Path.{_≡_}
 use Prim.Native.Nat.{ℕ}
 use mathlib.Core.List.{List}
 use Rattle.definitions.specs.Limits.{recordingForm, recordingLines}
-use Rattle.definitions.specs.Lines.{newline, before, Heading, NextLine, refused, read, nextLine}
+use Rattle.definitions.specs.Lines.{lineLength, Heading, NextLine, refused, read, nextLine}
 use Rattle.definitions.specs.RecordingText.{maskForm}
 use Rattle.traces.specs.Unions.{unionRefusal}
 use Rattle.traces.specs.Turns.{InTurn}
@@ -34,6 +34,6 @@ abbrev pub seenLine : (seen : ℕ) → List ℕ → NextLine ℕ
 seenLine seen t = nextLine recordingLines recordingForm maskForm (unionRefusal seen) t
 
 -- what the line of state k asks of its caller
-pub record StateTurn (C N k end : ℕ) (t : List ℕ) : Type 0 where
+pub record StateTurn (C N k len : ℕ) (t : List ℕ) : Type 0 where
   pub turn : InTurn C N k
-  pub ends : end ≡ before newline t
+  pub ends : len ≡ lineLength t

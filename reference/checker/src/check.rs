@@ -8,6 +8,7 @@ use crate::difference::Difference;
 use crate::expected;
 use crate::input::{Input, GUARD};
 use crate::library;
+use crate::misread::{self, Misreading};
 use crate::outcome::Outcome;
 use crate::tally::{Operation, Section, Tally};
 use crate::wrong::{Place, WrongAnswer};
@@ -31,6 +32,11 @@ impl<'a> Check<'a> {
         self.wrong.take(self.section, operation, place)
     }
 
+    /// The wrong reader of line endings that is expected here, if one is.
+    pub fn misreading(&self, operation: Operation) -> Option<Misreading> {
+        self.wrong.misreading(self.section, operation)
+    }
+
     /// Counts inputs of an operation and the entries compared for them.
     pub fn count(&mut self, operation: Operation, inputs: u64, entries: u64) {
         self.tally.add(self.section, operation, inputs, entries);
@@ -41,6 +47,7 @@ impl<'a> Check<'a> {
         let mut expected = expected::of(input);
         if self.wrong.pending() {
             self.alter(input, &mut expected);
+            self.misread(input, &mut expected);
         }
         // The wrapper panics where a part isn't within its text.
         let found = catch_unwind(AssertUnwindSafe(|| library::of(input)));
@@ -71,6 +78,18 @@ impl<'a> Check<'a> {
             if let Some(at) = place {
                 expected.lent[number][GUARD + at] ^= 1;
             }
+        }
+    }
+
+    /// Expects what a wrong reader of line endings answers, if it belongs here
+    /// and is another answer.
+    fn misread(&self, input: &Input, expected: &mut Outcome) {
+        let operation = input.operation();
+        let Some(misreading) = self.misreading(operation) else { return };
+        let misread = misread::outcome(misreading, input, expected);
+        if let Some(misread) = misread.filter(|_| self.wrong(operation, Place::Misread(misreading)))
+        {
+            *expected = misread;
         }
     }
 

@@ -214,6 +214,28 @@ impl Input {
         }
     }
 
+    /// The texts that it has, in the order in which they are read.
+    pub fn texts(&self) -> Vec<&[u8]> {
+        match self {
+            Input::ReadRule { text, .. } | Input::ReadRecording { text, .. } => vec![text],
+            Input::ReadJoint { rule, recording, .. } => vec![rule, recording],
+            _ => vec![],
+        }
+    }
+
+    /// The same input with other texts.
+    pub fn with_texts(&self, other: impl Fn(&[u8]) -> Vec<u8>) -> Input {
+        let mut input = self.clone();
+        match &mut input {
+            Input::ReadRule { text, .. } | Input::ReadRecording { text, .. } => *text = other(text),
+            Input::ReadJoint { rule, recording, .. } => {
+                (*rule, *recording) = (other(rule), other(recording));
+            }
+            _ => {}
+        }
+        input
+    }
+
     /// Its lent slices.
     pub fn slices(&self) -> Vec<Slice> {
         let slice = |name, full, lent: &Lent| Slice { name, full, lent: *lent };

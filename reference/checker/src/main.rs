@@ -9,11 +9,13 @@
 mod caught;
 mod check;
 mod difference;
+mod endings;
 mod expected;
 mod input;
 mod lent;
 mod library;
 mod lines;
+mod misread;
 mod options;
 mod outcome;
 mod plan;

@@ -13,6 +13,8 @@ pub struct Plan {
     pub random_batches: usize,
     /// Texts for each kind of damage.
     pub damaged_texts: usize,
+    /// Batches of texts with other line endings.
+    pub ending_batches: usize,
     /// All lists of signs of a rule in one line up to this length.
     pub list_length: usize,
     /// Batches of random rules in one line.
@@ -51,6 +53,7 @@ impl Plan {
             seed,
             random_batches: 800,
             damaged_texts: 1000,
+            ending_batches: 200,
             list_length: 6,
             line_batches: 400,
             lent_step: 1,
@@ -73,6 +76,7 @@ impl Plan {
         Plan {
             random_batches: 8000,
             damaged_texts: 10_000,
+            ending_batches: 2000,
             line_batches: 4000,
             program_runs: 30_000,
             small: SmallPlan {
@@ -93,6 +97,7 @@ impl Plan {
             seed,
             random_batches: 2,
             damaged_texts: 1,
+            ending_batches: 2,
             list_length: 2,
             line_batches: 2,
             lent_step: 61,

@@ -7,6 +7,7 @@ use std::process::{Child, Command, Output, Stdio};
 use std::thread;
 use std::time::{Duration, Instant};
 
+use reference::generate::endings::{any_endings, with_returns};
 use reference::generate::lines;
 use reference::generate::random::Random;
 use reference::generate::texts::{self, program_input, recording_text, rule_text};
@@ -16,6 +17,7 @@ use reference::model::{program, program_says, rule_program};
 
 use crate::check::Check;
 use crate::difference::Difference;
+use crate::misread;
 use crate::outcome::first_difference;
 use crate::plan::Plan;
 use crate::tally::{Operation, Section};
@@ -125,6 +127,30 @@ struct Expected {
     errors: Vec<u8>,
 }
 
+impl Expected {
+    /// What the model says that a program is to write.
+    fn of(program: Program, input: &[u8]) -> Expected {
+        Expected { output: (program.model)(input), errors: (program.says)(input) }
+    }
+
+    /// Expects what a wrong reader of line endings writes, if it belongs here
+    /// and is another refusal or another line.
+    fn misread(&mut self, check: &Check, program: Program, input: &[u8]) {
+        let Some(misreading) = check.misreading(program.operation) else { return };
+        let misread = Expected::of(program, &misread::program_input(misreading, input));
+        let output = misread::printed_line(misreading, input, misread.output);
+        let misread = Expected { output, ..misread };
+        let differs = if misread.errors == self.errors {
+            misread.output != self.output
+        } else {
+            refusal(&misread.output) != refusal(&self.output)
+        };
+        if differs && check.wrong(program.operation, Place::Misread(misreading)) {
+            *self = misread;
+        }
+    }
+}
+
 /// Where a stream differs from the expected one, in words.
 fn difference(stream: &str, expected: &[u8], found: &[u8]) -> Option<String> {
     let quoted = format!("expected \"{}\"", expected.escape_ascii());
@@ -176,7 +202,8 @@ fn compare(
     input: &[u8],
     pieces: &[usize],
 ) -> Result<(), Difference> {
-    let mut expected = Expected { output: (program.model)(input), errors: (program.says)(input) };
+    let mut expected = Expected::of(program, input);
+    expected.misread(check, program, input);
     if check.wrong(program.operation, Place::Content) {
         expected.output[0] ^= 1;
     }
@@ -199,7 +226,59 @@ fn example(check: &mut Check) -> Result<(), Difference> {
     }
     require(check, JUDGE, &input, &expected, &[])?;
     let bytewise = vec![1; input.len()];
-    require(check, JUDGE, &input, &expected, &bytewise)
+    require(check, JUDGE, &input, &expected, &bytewise)?;
+    let returned = with_returns(&input, |_| true);
+    let between_13_and_10 = [b"rule\t0\t9\r".len()];
+    require(check, JUDGE, &returned, &expected, &[])?;
+    require(check, JUDGE, &returned, &expected, &between_13_and_10)
+}
+
+/// Inputs whose lines end in 13 10: the example's, with a line refused, too
+/// many or unclosed, with every other ending, and too long only as it came.
+fn ending_edges() -> Vec<Vec<u8>> {
+    let (rule, recording) = (rule_text(&example_rule()), recording_text(&recording_r()));
+    let returned = with_returns(&program_input(&rule, &recording), |_| true);
+    let mut inputs = vec![
+        with_returns(&program_input(&rule, &recording), |line| line % 2 == 0),
+        with_returns(&program_input(&rule, &recording), |line| line % 2 == 1),
+        with_returns(&program_input(b"rule\t2\t1\ntrue\n", &recording), |_| true),
+        [&returned[..], b"x\r\n"].concat(),
+        [&returned[..], b"x\r"].concat(),
+        [&returned[..returned.len() - 1], b"\r\n"].concat(),
+        returned[..returned.len() - 1].to_vec(),
+        returned[..returned.len() - 2].to_vec(),
+        [&rule[..], b"-\r"].concat(),
+        b"rule\t0\t2\r\ntrue\r\nfoo\t1\r\n".to_vec(),
+        b"rule\t0\t2\r\ntrue\r\nfoo\t1\r\r\n".to_vec(),
+        b"rule\t0\t1\r\ntrue\r".to_vec(),
+        b"rule\t0\t1\rtrue\r-\rrecording\t1\t1\r".to_vec(),
+    ];
+    for length in PROGRAM_INPUT - 1..=PROGRAM_INPUT + 2 {
+        for byte in [10, 13, 97] {
+            let mut long = returned.clone();
+            long.resize(length, byte);
+            inputs.push(long);
+        }
+    }
+    inputs
+}
+
+/// All lists of up to four of the bytes `-`, 13 and 10, after the rule text of
+/// the example and between its two texts.
+fn partings() -> Vec<Vec<u8>> {
+    let (rule, recording) = (rule_text(&example_rule()), recording_text(&recording_r()));
+    let mut lists = vec![Vec::new()];
+    let mut longest = lists.clone();
+    for _ in 0..4 {
+        let longer = |list: &Vec<u8>| b"-\r\n".map(|byte| [&list[..], &[byte]].concat());
+        longest = longest.iter().flat_map(longer).collect();
+        lists.extend(longest.clone());
+    }
+    let around = |list: &Vec<u8>| {
+        let after = [&rule[..], list].concat();
+        [[&after[..], &recording].concat(), after]
+    };
+    lists.iter().flat_map(around).collect()
 }
 
 /// Inputs at the edges: without parting line, with an unclosed one, at the
@@ -237,7 +316,7 @@ fn accepted_input(random: &mut Random) -> Vec<u8> {
     let recording = traces::recording(random, CONTROLLERS, STATES);
     let controller = random.below(recording.controllers);
     let rule = formulas::rule_for(random, controller, RULE_NODES);
-    program_input(&rule_text(&rule), &recording_text(&recording))
+    any_endings(random, program_input(&rule_text(&rule), &recording_text(&recording)))
 }
 
 /// An accepted input with a few damages of any kinds.
@@ -246,6 +325,7 @@ fn damaged_input(random: &mut Random) -> Vec<u8> {
     let controller = random.below(recording.controllers);
     let rule = formulas::rule_for(random, controller, 6);
     let input = program_input(&rule_text(&rule), &recording_text(&recording));
+    let input = any_endings(random, input);
     texts::damaged(random, &input)
 }
 
@@ -267,9 +347,9 @@ fn random_runs(check: &mut Check, plan: &Plan, number: usize) -> Result<(), Diff
     Ok(())
 }
 
-/// The request's line, against the nodes that it names; other inputs that are
-/// or aren't one line of a controller and a rule; inputs of any length.
-fn typed_edges(check: &mut Check) -> Result<(), Difference> {
+/// The line of the request for rules in one line, against the nodes that it
+/// names, with either ending.
+fn typed_example(check: &mut Check) -> Result<(), Difference> {
     let text = "rule 0 9\ntrue\natom 1\nnot 1\natom 0\nnext 3\nor 2 4\nnot 5\nuntil 0 6\nnot 7\n";
     let text = text.replace(' ', "\t").into_bytes();
     let mut expected = Expected { output: text, errors: Vec::new() };
@@ -277,18 +357,26 @@ fn typed_edges(check: &mut Check) -> Result<(), Difference> {
         expected.output[5] ^= 1;
     }
     require(check, RULE, b"0\tG (a1 -> X a0)\n", &expected, &[])?;
+    require(check, RULE, b"0\tG (a1 -> X a0)\r\n", &expected, &[])
+}
+
+/// Inputs that are or aren't one line of a controller and a rule; inputs of
+/// any length.
+fn typed_edges() -> Vec<Vec<u8>> {
+    let returned = ["0\ta0\r\n", "0\ta0\r\r\n", "0\ta0\r", "0\r\ta0\r\n", "0\r\n", "\r\n"];
     let odd = ["", "\n", "0", "0\n", "0\ta0", "a0\n", "0 a0\n", "00\ta0\n", "\ta0\n", "0\ta0\n\n"];
     let more =
         ["0\ta0\na", "0\t\n", "8\ta0\n", "65536\ta0\n", "99999999999999999999\ta0\n", "8\t(\n"];
-    for input in odd.iter().chain(&more) {
-        compare(check, RULE, input.as_bytes(), &[])?;
-    }
-    for length in [PROGRAM_INPUT - 1, PROGRAM_INPUT, PROGRAM_INPUT + 1, 70_000] {
+    let mut inputs: Vec<Vec<u8>> =
+        returned.iter().chain(&odd).chain(&more).map(|input| input.as_bytes().to_vec()).collect();
+    for length in [PROGRAM_INPUT + 1, PROGRAM_INPUT, PROGRAM_INPUT - 1, 70_000] {
         for byte in [b'(', b'\n', b'9'] {
-            compare(check, RULE, &vec![byte; length], &[])?;
+            inputs.push([&vec![byte; length - 2][..], b"\r\n"].concat());
+            inputs.push(vec![byte; length]);
         }
     }
-    lines::edges().iter().try_for_each(|line| compare(check, RULE, &typed(7, line), &[]))
+    inputs.extend(lines::edges().iter().map(|line| typed(7, line)));
+    inputs
 }
 
 /// The input of the program `rule`.
@@ -301,7 +389,8 @@ fn random_typed(check: &mut Check, plan: &Plan, number: usize) -> Result<(), Dif
     let mut random = plan.random(Section::Program, number + (1 << 20));
     for _ in 0..RUNS.min(plan.program_runs) {
         let line = lines::any_line(&mut random);
-        let mut input = typed(random.below(CONTROLLERS + 1), &line);
+        let input = typed(random.below(CONTROLLERS + 1), &line);
+        let mut input = any_endings(&mut random, input);
         if random.once_in(8) {
             input = lines::damaged(&mut random, &input);
         }
@@ -313,13 +402,18 @@ fn random_typed(check: &mut Check, plan: &Plan, number: usize) -> Result<(), Dif
 
 /// All runs of the programs.
 pub fn jobs(plan: &Plan) -> Vec<Job<'_>> {
-    let mut jobs: Vec<Job> = vec![Box::new(example), Box::new(typed_edges)];
-    for inputs in edges().chunks(RUNS) {
-        let inputs = inputs.to_vec();
-        jobs.push(Box::new(move |check| {
-            inputs.iter().try_for_each(|input| compare(check, JUDGE, input, &[]))
-        }));
+    let mut jobs: Vec<Job> = vec![Box::new(typed_example)];
+    let [endings, typed] = [ending_edges(), typed_edges()];
+    let lists = [(JUDGE, endings), (RULE, typed), (JUDGE, partings()), (JUDGE, edges())];
+    for (program, inputs) in &lists {
+        for inputs in inputs.chunks(RUNS) {
+            let (program, inputs) = (*program, inputs.to_vec());
+            jobs.push(Box::new(move |check| {
+                inputs.iter().try_for_each(|input| compare(check, program, input, &[]))
+            }));
+        }
     }
+    jobs.push(Box::new(example));
     for number in 0..plan.program_runs.div_ceil(RUNS) {
         jobs.push(Box::new(move |check| random_runs(check, plan, number)));
         jobs.push(Box::new(move |check| random_typed(check, plan, number)));

@@ -5,13 +5,14 @@ use crate::plan::Plan;
 use crate::small::Small;
 use crate::tally::{Section, Tally};
 use crate::wrong::WrongAnswer;
-use crate::{lent, lines, program, sampled, texts, trials, work};
+use crate::{endings, lent, lines, program, sampled, texts, trials, work};
 
 /// Runs a section: what was compared, or the first difference.
 pub fn run(section: Section, plan: &Plan, wrong: &WrongAnswer) -> Result<Tally, Difference> {
     match section {
         Section::Trials => work::run(section, wrong, &trials::jobs()),
         Section::Texts => work::run(section, wrong, &texts::jobs(plan)),
+        Section::Endings => work::run(section, wrong, &endings::jobs(plan)),
         Section::Lines => work::run(section, wrong, &lines::jobs(plan)),
         Section::Lent => work::run(section, wrong, &lent::jobs(plan)),
         Section::Random => work::run(section, wrong, &sampled::jobs(plan)),

@@ -10,6 +10,8 @@ pub enum Section {
     Trials,
     /// Texts: round trips and every kind of damage.
     Texts,
+    /// Line endings: every choice, 13 at every place, and at random.
+    Endings,
     /// Rules in one line: every short list of signs, and every kind of damage.
     Lines,
     /// Lent space of every length.
@@ -24,9 +26,10 @@ pub enum Section {
 
 impl Section {
     /// Every section, in order.
-    pub const ALL: [Section; 7] = [
+    pub const ALL: [Section; 8] = [
         Section::Trials,
         Section::Texts,
+        Section::Endings,
         Section::Lines,
         Section::Lent,
         Section::Random,
@@ -39,6 +42,7 @@ impl Section {
         match self {
             Section::Trials => "trials",
             Section::Texts => "texts",
+            Section::Endings => "endings",
             Section::Lines => "lines",
             Section::Lent => "lent",
             Section::Random => "random",
@@ -48,7 +52,7 @@ impl Section {
     }
 }
 
-/// What is compared: the operations, two laws and the programs.
+/// What is compared: the operations, three laws and the programs.
 #[derive(Clone, Copy, PartialEq, Eq, PartialOrd, Ord, Debug)]
 pub enum Operation {
     /// Reading a rule text.
@@ -71,8 +75,11 @@ pub enum Operation {
     RewriteShort,
     /// A table over the whole recording.
     JudgeRecording,
-    /// An accepted text, read and written, is the same text.
+    /// An accepted text, read and written, is the same text with byte 10 at
+    /// each line.
     RoundTrip,
+    /// A text and that text with byte 10 at each line answer the same.
+    Endings,
     /// Recordings of one local trace give one verdict (demand 3).
     Schedules,
     /// The program.
@@ -110,6 +117,7 @@ impl Operation {
             Operation::RewriteShort => "rewrite_short",
             Operation::JudgeRecording => "judge_recording",
             Operation::RoundTrip => "round_trip",
+            Operation::Endings => "endings",
             Operation::Schedules => "schedules",
             Operation::Program => "judge",
             Operation::RuleProgram => "rule",

@@ -2,6 +2,7 @@
 //! one byte, line or number to the texts of the example; random damage of
 //! every kind.
 
+use reference::generate::endings::{any_endings, plain_endings};
 use reference::generate::exhaustive;
 use reference::generate::formulas::{self, RuleTable};
 use reference::generate::texts::{damage, recording_text, rule_text, DAMAGES, NUMBERS};
@@ -10,6 +11,7 @@ use reference::model::limits::{CONTROLLERS, RULE_NODES, STATES};
 
 use crate::check::Check;
 use crate::difference::Difference;
+use crate::endings::compare;
 use crate::input::Input;
 use crate::outcome::Outcome;
 use crate::plan::Plan;
@@ -23,24 +25,25 @@ fn words(outcome: &Outcome, slice: usize, count: usize) -> Vec<u32> {
     outcome.slice(slice)[..count].iter().map(|word| *word as u32).collect()
 }
 
-/// Compares a text that came back with the one that was read.
+/// Compares a text that came back with the one that was read, which has "byte
+/// 10 at each line" then.
 fn same_text(check: &mut Check, text: &[u8], mut back: Vec<u8>) -> Result<(), Difference> {
     if check.wrong(Operation::RoundTrip, Place::Content) {
         back[0] ^= 1;
     }
     check.count(Operation::RoundTrip, 1, back.len() as u64);
-    if back != text {
+    if back != plain_endings(text) {
         let place = format!("the text written back: \"{}\"", back.escape_ascii());
         return Err(Difference::new(place, format!("b\"{}\"", text.escape_ascii())));
     }
     Ok(())
 }
 
-/// Reads a rule text; an accepted one is written back byte for byte, and read
-/// again it is the same table.
+/// Reads a rule text; an accepted one is written back byte for byte, but for
+/// its endings, and read again it is the same table.
 fn rule_round_trip(check: &mut Check, text: Vec<u8>) -> Result<(), Difference> {
     let input = Input::read_rule(text.clone());
-    let read = check.compare(&input)?;
+    let read = compare(check, &input)?;
     if read.number != 0 {
         return Ok(());
     }
@@ -56,7 +59,7 @@ fn rule_round_trip(check: &mut Check, text: Vec<u8>) -> Result<(), Difference> {
 
 /// Reads a recording text; the tables of an accepted one have that text.
 fn recording_round_trip(check: &mut Check, text: Vec<u8>) -> Result<(), Difference> {
-    let read = check.compare(&Input::read_recording(text.clone()))?;
+    let read = compare(check, &Input::read_recording(text.clone()))?;
     if read.number != 0 {
         return Ok(());
     }
@@ -69,19 +72,21 @@ fn recording_round_trip(check: &mut Check, text: Vec<u8>) -> Result<(), Differen
 
 /// One of the two texts.
 #[derive(Clone, Copy, PartialEq, Eq)]
-enum Kind {
+pub enum Kind {
+    /// The rule text.
     Rule,
+    /// The recording text.
     Recording,
 }
 
 /// Reads a damaged text alone and in a joint reading whose other text is the
 /// example's.
-fn read(check: &mut Check, kind: Kind, text: Vec<u8>) -> Result<(), Difference> {
+pub fn read(check: &mut Check, kind: Kind, text: Vec<u8>) -> Result<(), Difference> {
     let joint = match kind {
         Kind::Rule => Input::read_joint(text.clone(), recording_text(&recording_r())),
         Kind::Recording => Input::read_joint(rule_text(&example_rule()), text.clone()),
     };
-    check.compare(&joint)?;
+    compare(check, &joint)?;
     match kind {
         Kind::Rule => rule_round_trip(check, text),
         Kind::Recording => recording_round_trip(check, text),
@@ -89,7 +94,7 @@ fn read(check: &mut Check, kind: Kind, text: Vec<u8>) -> Result<(), Difference> 
 }
 
 /// The text of the example, of a kind.
-fn example(kind: Kind) -> Vec<u8> {
+pub fn example(kind: Kind) -> Vec<u8> {
     match kind {
         Kind::Rule => rule_text(&example_rule()),
         Kind::Recording => recording_text(&recording_r()),
@@ -194,12 +199,13 @@ fn random_damage(check: &mut Check, plan: &Plan, number: usize) -> Result<(), Di
         let recording = traces::recording(&mut random, CONTROLLERS, states);
         let controller = random.below(recording.controllers);
         let rule = rule_text(&formulas::rule_for(&mut random, controller, nodes));
-        let recording = recording_text(&recording);
+        let rule = any_endings(&mut random, rule);
+        let recording = any_endings(&mut random, recording_text(&recording));
         let bad_rule = damage(&mut random, &rule, kind);
         let bad_recording = damage(&mut random, &recording, kind);
-        check.compare(&Input::read_joint(bad_rule.clone(), recording.clone()))?;
-        check.compare(&Input::read_joint(rule.clone(), bad_recording.clone()))?;
-        check.compare(&Input::read_joint(bad_rule.clone(), bad_recording.clone()))?;
+        compare(check, &Input::read_joint(bad_rule.clone(), recording.clone()))?;
+        compare(check, &Input::read_joint(rule.clone(), bad_recording.clone()))?;
+        compare(check, &Input::read_joint(bad_rule.clone(), bad_recording.clone()))?;
         rule_round_trip(check, bad_rule)?;
         recording_round_trip(check, bad_recording)?;
         rule_round_trip(check, rule)?;

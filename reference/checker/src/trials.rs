@@ -1,6 +1,7 @@
 //! The trials of document 01, on the library, against the numbers and verdicts
 //! that the document names.
 
+use reference::generate::endings::with_returns;
 use reference::generate::formulas::{JudgeTable, RuleTable};
 use reference::generate::texts::{recording_text, rule_text};
 use reference::generate::traces::RecordingTable;
@@ -9,6 +10,7 @@ use reference::model::formula::{Node, ATOM, NEXT, NOT, OR, PREV, SINCE, TRUE, UN
 use crate::check::Check;
 use crate::difference::Difference;
 use crate::input::Input;
+use crate::outcome::Outcome;
 use crate::work::Job;
 use crate::wrong::Place;
 
@@ -41,11 +43,22 @@ fn never_runs(words: &[u64]) -> RecordingTable {
     RecordingTable { controllers: 1, length: words.len(), masks: vec![1], states: words.to_vec() }
 }
 
-/// Compares an outcome with the number and values that document 01 names.
+/// Compares an outcome with the number that document 01 names, and with its
+/// values when it is accepted.
 fn named(check: &mut Check, input: Input, number: u8, values: &[usize]) -> Result<(), Difference> {
     let found = check.compare(&input)?;
-    let zeros = vec![0; found.values.len()];
-    let mut values = if number == 0 { values.to_vec() } else { zeros };
+    let values = if number == 0 { values.to_vec() } else { vec![0; found.values.len()] };
+    answered(check, input, found, number, values)
+}
+
+/// Compares what was answered with the number and the values that are named.
+fn answered(
+    check: &mut Check,
+    input: Input,
+    found: Outcome,
+    number: u8,
+    mut values: Vec<usize>,
+) -> Result<(), Difference> {
     if check.wrong(input.operation(), Place::Named) {
         values[0] ^= 1;
     }
@@ -180,6 +193,65 @@ fn joint_readings(check: &mut Check) -> Result<(), Difference> {
     named(check, Input::read_joint(rule_text(&example_rule()), recording), 0, &accepted)
 }
 
+/// A refused text, rule or recording: the number, and the part of it that is
+/// handed back.
+fn handed_back(
+    check: &mut Check,
+    texts: [&[u8]; 2],
+    number: u8,
+    (source, start, line): (usize, usize, &[u8]),
+) -> Result<(), Difference> {
+    let input = Input::read_joint(texts[0].to_vec(), texts[1].to_vec());
+    let found = check.compare(&input)?;
+    answered(check, input, found, number, vec![0, 0, 0, 0, source, start, line.len()])?;
+    let part = &texts[source][start..start + line.len()];
+    assert_eq!(part, line, "the trial names a part of its text");
+    Ok(())
+}
+
+/// Lines from the other system: either ending, line by line; 13 elsewhere; what
+/// is handed back.
+fn endings(check: &mut Check) -> Result<(), Difference> {
+    let (rule, recording) = (rule_text(&example_rule()), recording_text(&recording_r()));
+    let choices: [fn(usize) -> bool; 3] = [|_| true, |line| line % 2 == 0, |line| line == 3];
+    for returned in choices {
+        let texts = [&rule, &recording].map(|text| with_returns(text, returned));
+        let accepted = [0, 9, 2, 5, 1, texts[1].len(), 0];
+        let [rule, recording] = texts;
+        named(check, Input::read_rule(rule.clone()), 0, &[0, 9])?;
+        named(check, Input::read_recording(recording.clone()), 0, &[2, 5])?;
+        named(check, Input::read_joint(rule, recording), 0, &accepted)?;
+    }
+    let rules: [(&[u8], u8, usize, &[u8]); 12] = [
+        (b"rule\t0\t1\ntrue\r\r\n", 1, 9, b"true\r"),
+        (b"rule\t0\t1\ntrue\r", 1, 9, b"true\r"),
+        (b"rule\t0\t1\r\ntr\rue\r\n", 1, 10, b"tr\rue"),
+        (b"rule\t0\t1\rtrue\r", 1, 0, b"rule\t0\t1\rtrue\r"),
+        (b"rule\t0\t1\r\n\r\n", 1, 10, b""),
+        (b"rule\t0\t1\nfoo\t1\r\n", 2, 9, b"foo\t1"),
+        (b"rule\t0\t1\nfoo\t1\r\r\n", 1, 9, b"foo\t1\r"),
+        (b"rule\t0\t1\r\n", 4, 10, b""),
+        (b"rule\t0\t1\ntrue\nx\r\n", 4, 14, b"x"),
+        (b"rule\t0\t1\ntrue\nx\r", 4, 14, b"x\r"),
+        (b"rule\t0\t1\ntrue\nx\r\r\n", 4, 14, b"x\r"),
+        (b"rule\t2\t1\r\ntrue\n", 11, 0, b"rule\t2\t1"),
+    ];
+    for (text, number, start, line) in rules {
+        handed_back(check, [text, &recording], number, (0, start, line))?;
+    }
+    let recordings: [(&[u8], u8, usize, &[u8]); 5] = [
+        (b"recording\t1\t1\r\r\n", 5, 0, b"recording\t1\t1\r"),
+        (b"recording\t1\t1\r\nowns\t00000001\r", 5, 15, b"owns\t00000001\r"),
+        (b"recording\t1\t1\r\nowns\t00000001\r\n", 8, 30, b""),
+        (b"recording\t1\t1\nowns\t00000001\nat\t00\t00000000\nx\r\n", 8, 43, b"x"),
+        (b"recording\t1\t1\nowns\t00000001\nat\t00\t00000000\nx\r", 8, 43, b"x\r"),
+    ];
+    for (text, number, start, line) in recordings {
+        handed_back(check, [&rule, text], number, (1, start, line))?;
+    }
+    Ok(())
+}
+
 /// Reads a line that is accepted with these nodes.
 fn typed(check: &mut Check, line: &str, nodes: &[Listed]) -> Result<(), Difference> {
     let input = Input::read_line(0, line.as_bytes().to_vec());
@@ -259,6 +331,7 @@ pub fn jobs<'a>() -> Vec<Job<'a>> {
         Box::new(state_limit),
         Box::new(atom_limit),
         Box::new(joint_readings),
+        Box::new(endings),
         Box::new(one_line),
         Box::new(traps),
     ]

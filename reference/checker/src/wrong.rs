@@ -3,6 +3,7 @@
 
 use std::sync::atomic::{AtomicBool, Ordering};
 
+use crate::misread::Misreading;
 use crate::tally::{Operation, Section};
 
 /// The places of an expected answer that can be altered.
@@ -28,6 +29,8 @@ pub enum Place {
     Length,
     /// The number or a value that document 01 names in a trial.
     Named,
+    /// All of it, by a wrong reader of line endings.
+    Misread(Misreading),
 }
 
 impl Place {
@@ -44,6 +47,7 @@ impl Place {
             Place::Beyond => "beyond",
             Place::Length => "length",
             Place::Named => "named",
+            Place::Misread(misreading) => misreading.name(),
         }
     }
 }
@@ -77,6 +81,11 @@ impl Wrong {
         for (section, operation, places) in lists() {
             all.extend(places.iter().map(|place| Wrong { section, operation, place: *place }));
         }
+        for (section, operation, misreadings) in misreaders() {
+            let place = |misreading: &Misreading| Place::Misread(*misreading);
+            let places = misreadings.iter().map(place);
+            all.extend(places.map(|place| Wrong { section, operation, place }));
+        }
         all
     }
 }
@@ -100,6 +109,11 @@ fn lists() -> Vec<(Section, Operation, &'static [Place])> {
         (Section::Texts, Operation::ReadRecording, &[Number, Value, Content]),
         (Section::Texts, Operation::ReadJoint, &[Number, Value, Line]),
         (Section::Texts, Operation::RoundTrip, &[Content]),
+        (Section::Endings, Operation::ReadRule, &[Number, Value, Content]),
+        (Section::Endings, Operation::ReadRecording, &[Number, Value, Content]),
+        (Section::Endings, Operation::ReadJoint, &[Number, Value, Line]),
+        (Section::Endings, Operation::RoundTrip, &[Content]),
+        (Section::Endings, Operation::Endings, &[Value, Line]),
         (Section::Lines, Operation::ReadLine, &[Number, Value, Content, Unused, Zero]),
         (Section::Lines, Operation::RoundTrip, &[Content]),
         (Section::Program, Operation::Program, &[Named, Content, Length, Line]),
@@ -112,6 +126,23 @@ fn lists() -> Vec<(Section, Operation, &'static [Place])> {
         (Section::Small, Operation::Schedules, &[Value]),
     ]);
     lists
+}
+
+/// The wrong readers of line endings by section and operation.
+fn misreaders() -> Vec<(Section, Operation, Vec<Misreading>)> {
+    use Misreading::{Alone, Counted, Kept, NewlineOnly, Split, SplitNewlineOnly};
+    use Misreading::{Stripped, Swallowed, Trimmed};
+    let reader = Misreading::READER.to_vec();
+    let joint = [&reader[..], &[Kept, Trimmed]].concat();
+    let program = [&joint[..], &[Split, SplitNewlineOnly, Counted]].concat();
+    let rule_program = vec![NewlineOnly, Stripped, Alone, Swallowed, Counted];
+    vec![
+        (Section::Endings, Operation::ReadRule, reader.clone()),
+        (Section::Endings, Operation::ReadRecording, reader),
+        (Section::Endings, Operation::ReadJoint, joint),
+        (Section::Program, Operation::Program, program),
+        (Section::Program, Operation::RuleProgram, rule_program),
+    ]
 }
 
 /// The wrong answer of a run, if it has one; it is expected once only.
@@ -130,6 +161,18 @@ impl WrongAnswer {
     /// Does the run have a wrong answer that is still to come?
     pub fn pending(&self) -> bool {
         self.wrong.is_some() && !self.spent.load(Ordering::Relaxed)
+    }
+
+    /// The wrong reader of line endings that is still to come, if it is one of
+    /// this section and operation.
+    pub fn misreading(&self, section: Section, operation: Operation) -> Option<Misreading> {
+        let wrong = self.wrong.filter(|_| self.pending())?;
+        match wrong.place {
+            Place::Misread(misreading) if wrong == (Wrong { section, operation, ..wrong }) => {
+                Some(misreading)
+            }
+            _ => None,
+        }
     }
 
     /// Is this the place to alter? Yes at most once.

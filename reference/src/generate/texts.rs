@@ -1,5 +1,6 @@
 //! Rule texts, recording texts and program inputs, and damage of every kind.
 
+use super::endings::any_endings;
 use super::formulas::{self, RuleTable};
 use super::random::Random;
 use super::traces::{self, RecordingTable};
@@ -83,8 +84,12 @@ pub enum Damage {
     TabReplaced,
     /// The last byte 10 is missing.
     LastNewlineDropped,
-    /// A byte 13 before a byte 10.
+    /// A byte 13 put before any byte.
     ReturnAdded,
+    /// A line that ends in 13 13 10.
+    ReturnDoubled,
+    /// A line that ends in 13 alone.
+    ReturnAlone,
     /// The first word of a line becomes another word.
     WordChanged,
     /// More fields after a line's own.
@@ -96,7 +101,7 @@ pub enum Damage {
 }
 
 /// Every kind of damage.
-pub const DAMAGES: [Damage; 24] = [
+pub const DAMAGES: [Damage; 26] = [
     Damage::ByteChanged,
     Damage::OddByte,
     Damage::ByteDropped,
@@ -117,6 +122,8 @@ pub const DAMAGES: [Damage; 24] = [
     Damage::TabReplaced,
     Damage::LastNewlineDropped,
     Damage::ReturnAdded,
+    Damage::ReturnDoubled,
+    Damage::ReturnAlone,
     Damage::WordChanged,
     Damage::FieldsAdded,
     Damage::UnknownWord,
@@ -190,7 +197,7 @@ const WORDS: [&str; 21] = [
     "-",
 ];
 
-/// The lines of a text, each with its byte 10 if it has one.
+/// The lines of a text, each with its ending if it has one.
 fn lines(text: &[u8]) -> Vec<Vec<u8>> {
     text.split_inclusive(|byte| *byte == 10).map(<[u8]>::to_vec).collect()
 }
@@ -205,7 +212,7 @@ fn numbers(text: &[u8]) -> Vec<(usize, usize)> {
     let mut found = Vec::new();
     let mut start = 0;
     for end in 0..=text.len() {
-        if end == text.len() || text[end] == 9 || text[end] == 10 {
+        if end == text.len() || matches!(text[end], 9 | 10 | 13) {
             if start < end && text[start..end].iter().all(u8::is_ascii_digit) {
                 found.push((start, end));
             }
@@ -228,6 +235,7 @@ fn damage_byte(random: &mut Random, text: &mut Vec<u8>, damage: Damage) {
         Damage::ByteChanged => text[at] = random.byte(),
         Damage::OddByte if random.once_in(2) => text[at] = odd,
         Damage::OddByte => text.insert(at, odd),
+        Damage::ReturnAdded => text.insert(at, 13),
         Damage::ByteDropped => drop(text.remove(at)),
         Damage::Cut => text.truncate(at),
         Damage::FrontCut => drop(text.drain(..at)),
@@ -249,8 +257,10 @@ fn damage_lines(random: &mut Random, text: &mut Vec<u8>, damage: Damage) {
         Damage::LineDropped => drop(lines.remove(one)),
         Damage::LineDoubled => lines.insert(one, lines[one].clone()),
         _ => {
-            let extra: [&[u8]; 6] =
-                [b"\n", b"true\n", b"x", b"at\t00\t00000000\n", b"-\n", b"\t\r"];
+            let closed: [&[u8]; 6] =
+                [b"\n", b"\r\n", b"true\n", b"at\t00\t00000000\r\n", b"-\n", b"-\r\n"];
+            let more: [&[u8]; 6] = [b"x", b"\t\r", b"\r", b"x\r", b"x\r\r\n", b"\r\r\n"];
+            let extra = if random.once_in(2) { closed } else { more };
             lines.push(random.pick(&extra).to_vec());
         }
     }
@@ -284,7 +294,7 @@ fn damage_picked(random: &mut Random, text: &mut Vec<u8>, damage: Damage) {
     let picked = match damage {
         Damage::DigitChanged => places(text, |byte| byte.is_ascii_hexdigit()),
         Damage::UpperCase => places(text, |byte| byte.is_ascii_lowercase()),
-        Damage::ReturnAdded => places(text, |byte| byte == 10),
+        Damage::ReturnDoubled | Damage::ReturnAlone => places(text, |byte| byte == 10),
         _ => places(text, |byte| byte == 9),
     };
     if picked.is_empty() {
@@ -294,7 +304,8 @@ fn damage_picked(random: &mut Random, text: &mut Vec<u8>, damage: Damage) {
     match damage {
         Damage::DigitChanged => text[at] = random.pick(b"0123456789abcdef"),
         Damage::UpperCase => text[at] = text[at].to_ascii_uppercase(),
-        Damage::ReturnAdded => text.insert(at, 13),
+        Damage::ReturnDoubled => replace(text, at, at, b"\r\r"),
+        Damage::ReturnAlone => text[at] = 13,
         Damage::TabAdded => text.insert(at, 9),
         Damage::TabDropped => drop(text.remove(at)),
         _ => text[at] = 32,
@@ -317,9 +328,11 @@ fn unknown_line(random: &mut Random) -> Vec<u8> {
 fn damage_fields(random: &mut Random, text: &mut Vec<u8>, damage: Damage) {
     let mut lines = lines(text);
     let one = random.below(lines.len());
-    let closed = lines[one].last() == Some(&10);
+    let endings: [&[u8]; 3] = [b"\r\n", b"\n", b""];
+    let ending = endings.into_iter().find(|ending| lines[one].ends_with(ending));
+    let ending = ending.expect("every line ends in nothing");
     let mut line = lines[one].clone();
-    line.truncate(line.len() - usize::from(closed));
+    line.truncate(line.len() - ending.len());
     let word = line.iter().position(|byte| *byte == 9).unwrap_or(line.len());
     match damage {
         Damage::WordChanged => replace(&mut line, 0, word, random.pick(&WORDS).as_bytes()),
@@ -329,7 +342,7 @@ fn damage_fields(random: &mut Random, text: &mut Vec<u8>, damage: Damage) {
         Damage::UnknownWord => line = unknown_line(random),
         _ => line.truncate(line.iter().rposition(|byte| *byte == 9).unwrap_or(0)),
     }
-    line.extend(closed.then_some(10));
+    line.extend(ending);
     lines[one] = line;
     *text = lines.concat();
 }
@@ -343,6 +356,7 @@ pub fn damage(random: &mut Random, text: &[u8], damage: Damage) -> Vec<u8> {
     match damage {
         Damage::ByteChanged
         | Damage::OddByte
+        | Damage::ReturnAdded
         | Damage::ByteDropped
         | Damage::Cut
         | Damage::FrontCut
@@ -376,9 +390,13 @@ pub fn damaged(random: &mut Random, text: &[u8]) -> Vec<u8> {
 /// any bytes at all.
 pub fn any_rule_text(random: &mut Random, most: usize) -> Vec<u8> {
     let valid = rule_text(&formulas::rule(random, most));
+    let valid = any_endings(random, valid);
     match random.below(12) {
         0..=2 => valid,
-        3 | 4 => rule_text(&formulas::damaged_rule(random, most)),
+        3 | 4 => {
+            let rule = rule_text(&formulas::damaged_rule(random, most));
+            any_endings(random, rule)
+        }
         5 => any_bytes(random),
         _ => damaged(random, &valid),
     }
@@ -391,9 +409,13 @@ pub fn any_recording_text(
     most_states: usize,
 ) -> Vec<u8> {
     let valid = recording_text(&traces::recording(random, most_controllers, most_states));
+    let valid = any_endings(random, valid);
     match random.below(12) {
         0..=2 => valid,
-        3 | 4 => recording_text(&traces::damaged_recording(random, most_controllers, most_states)),
+        3 | 4 => {
+            let damaged = traces::damaged_recording(random, most_controllers, most_states);
+            any_endings(random, recording_text(&damaged))
+        }
         5 => any_bytes(random),
         _ => damaged(random, &valid),
     }
@@ -412,10 +434,14 @@ pub fn any_pair(random: &mut Random) -> (Vec<u8>, Vec<u8>) {
     let recording = traces::recording(random, limits::CONTROLLERS, limits::STATES);
     let controller = random.below(recording.controllers);
     let rule = formulas::rule_for(random, controller, limits::RULE_NODES);
-    let (rule, recording) = (rule_text(&rule), recording_text(&recording));
+    let rule = any_endings(random, rule_text(&rule));
+    let recording = any_endings(random, recording_text(&recording));
     match random.below(8) {
         0 | 1 => (rule, recording),
-        2 => (rule_text(&formulas::rule(random, 8)), recording),
+        2 => {
+            let rule = rule_text(&formulas::rule(random, 8));
+            (any_endings(random, rule), recording)
+        }
         3 | 4 => (any_rule_text(random, limits::RULE_NODES), recording),
         5 | 6 => (rule, any_recording_text(random, limits::CONTROLLERS, limits::STATES)),
         _ => {
@@ -429,13 +455,15 @@ pub fn any_pair(random: &mut Random) -> (Vec<u8>, Vec<u8>) {
 /// and now and then grown to its limit or beyond.
 pub fn any_program_input(random: &mut Random) -> Vec<u8> {
     let (rule, recording) = any_pair(random);
+    let odd: [&[u8]; 6] = [b"", b"-", b"-\n-\n", b"-\r", b"-\r\r\n", b"-\r\n-\n"];
     let mut input = match random.below(10) {
-        0 => [&rule[..], &recording[..]].concat(),
-        1 => [&rule[..], b"-", &recording[..]].concat(),
-        2 => [&rule[..], b"-\n-\n", &recording[..]].concat(),
+        0..=2 => [&rule[..], random.pick(&odd), &recording[..]].concat(),
         3 => [&rule[..], b"-\r\n", &recording[..]].concat(),
-        4 => [&b"-\n"[..], &rule[..], b"-\n", &recording[..]].concat(),
-        5 => [&rule[..], b"-"].concat(),
+        4 => {
+            let first: &[u8] = random.pick(&[&b"-\n"[..], b"-\r\n"]);
+            [first, &rule, b"-\n", &recording[..]].concat()
+        }
+        5 => [&rule[..], random.pick(&[&b"-"[..], b"-\r"])].concat(),
         _ => program_input(&rule, &recording),
     };
     if random.once_in(6) {

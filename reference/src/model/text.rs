@@ -1,4 +1,5 @@
-//! "Texts": one record a line, fields parted by one tab.
+//! "Texts": one record a line, fields parted by one tab; "Lines from the other
+//! system": a line ends in byte 10, or in bytes 13 and 10.
 
 use std::ops::Range;
 
@@ -10,7 +11,7 @@ use super::trace::{self, State, Trace};
 const NEWLINE: u8 = 10;
 /// The byte between two fields.
 const TAB: u8 = 9;
-/// The byte that no field after an unknown kind word may hold.
+/// The byte that may stand right before the byte that closes a line.
 const RETURN: u8 = 13;
 
 /// A refusal number and the refused line's place in its text.
@@ -18,8 +19,33 @@ const RETURN: u8 = 13;
 pub struct RefusedLine {
     /// The refusal number.
     pub number: u8,
-    /// The line without its byte 10.
+    /// The line without its ending.
     pub line: Range<usize>,
+}
+
+/// "The line reader must take either ending, line by line": the closed line
+/// that starts here, which "leaves out its ending", and where the next starts.
+fn closed_line(text: &[u8], start: usize) -> Option<(Range<usize>, usize)> {
+    let newline = (start..text.len()).find(|at| text[*at] == NEWLINE)?;
+    let returned = start < newline && text[newline - 1] == RETURN;
+    let end = if returned { newline - 1 } else { newline };
+    Some((start..end, newline + 1))
+}
+
+/// The line that starts here: without its ending, or all that is left.
+fn line_at(text: &[u8], start: usize) -> Range<usize> {
+    closed_line(text, start).map_or(start..text.len(), |(line, _)| line)
+}
+
+/// The first line of a text.
+pub fn first_line(text: &[u8]) -> Range<usize> {
+    line_at(text, 0)
+}
+
+/// The line that a text is, if it is one closed line and nothing else.
+pub fn only_line(text: &[u8]) -> Option<&[u8]> {
+    let (line, next) = closed_line(text, 0)?;
+    (next == text.len()).then_some(&text[line])
 }
 
 /// The lines of a text, in order.
@@ -32,12 +58,7 @@ struct Lines<'a> {
     lines: u8,
 }
 
-impl<'a> Lines<'a> {
-    /// Where the line that starts here ends: its byte 10, if it has one.
-    fn closing(&self) -> Option<usize> {
-        (self.start..self.text.len()).find(|at| self.text[*at] == NEWLINE)
-    }
-
+impl Lines<'_> {
     /// Reads one line and hands it to `read`. "for an unclosed line all that
     /// is left, for a missing line the empty end of that text".
     fn read<T>(&mut self, read: impl FnOnce(&[u8]) -> Result<T, u8>) -> Result<T, RefusedLine> {
@@ -45,24 +66,21 @@ impl<'a> Lines<'a> {
         if self.start == end {
             return Err(RefusedLine { number: self.lines, line: end..end });
         }
-        match self.closing() {
+        match closed_line(self.text, self.start) {
             None => Err(RefusedLine { number: self.form, line: self.start..end }),
-            Some(closing) => {
-                let line = self.start..closing;
-                self.start = closing + 1;
+            Some((line, next)) => {
+                self.start = next;
                 read(&self.text[line.clone()]).map_err(|number| RefusedLine { number, line })
             }
         }
     }
 
-    /// "for a line too many the first extra one (up to its byte 10 or the end)".
+    /// "for a line too many the first extra one" (up to its ending or the end).
     fn finish(&self) -> Result<(), RefusedLine> {
-        let end = self.text.len();
-        if self.start == end {
+        if self.start == self.text.len() {
             return Ok(());
         }
-        let line = self.start..self.closing().unwrap_or(end);
-        Err(RefusedLine { number: self.lines, line })
+        Err(RefusedLine { number: self.lines, line: line_at(self.text, self.start) })
     }
 }
 
@@ -124,7 +142,8 @@ fn rule_heading(line: &[u8]) -> Result<(usize, usize), u8> {
 }
 
 /// A node line: "the kind word, spelt as above, and its operands, decimal".
-/// After an unknown kind word any fields without byte 13 do.
+/// After an unknown kind word any fields without byte 13 do; no other form has
+/// a place for one, so "a byte 13 anywhere else still makes the line malformed".
 fn node_of_line(line: &[u8]) -> Result<Node, u8> {
     let fields = fields(line);
     if !is_kind_word(fields[0]) {
@@ -236,14 +255,16 @@ pub fn write_rule(formula: &Formula) -> Vec<u8> {
 }
 
 /// "split at the first such line; with none, the recording text is empty":
-/// the rule text and the recording text around the first line `-`.
+/// the rule text and the recording text around the first closed line `-`.
 pub fn split_input(input: &[u8]) -> (&[u8], &[u8]) {
-    let starts = |at: usize| at == 0 || input[at - 1] == NEWLINE;
-    let parting = (0..input.len()).find(|at| starts(*at) && input[*at..].starts_with(b"-\n"));
-    match parting {
-        None => (input, &[]),
-        Some(at) => (&input[..at], &input[at + 2..]),
+    let mut start = 0;
+    while let Some((line, next)) = closed_line(input, start) {
+        if input[line] == *b"-" {
+            return (&input[..start], &input[next..]);
+        }
+        start = next;
     }
+    (input, &[])
 }
 
 /// A line of the program's output.

@@ -1,4 +1,5 @@
-//! The readers of texts: lines by their byte 10, fields by their tabs.
+//! The readers of texts: lines by their byte 10, with byte 13 before it or not,
+//! fields by their tabs.
 
 use super::check;
 use super::node::{self, ATOM, END, NEXT, NOT, OR, PREV, RUN, SINCE, TRUE, UNTIL};
@@ -24,6 +25,11 @@ fn find(bytes: &[u8], byte: u8) -> Option<usize> {
     bytes.iter().position(|one| *one == byte)
 }
 
+/// A closed line without the byte 13 of its ending.
+fn without_return(line: &[u8]) -> &[u8] {
+    line.strip_suffix(b"\r").unwrap_or(line)
+}
+
 impl<'a> Lines<'a> {
     fn new(text: &'a [u8], form: u8, missing: u8) -> Lines<'a> {
         Lines { text, start: 0, form, missing }
@@ -40,7 +46,8 @@ impl<'a> Lines<'a> {
             return Err(self.refused(self.missing));
         }
         let end = find(rest, b'\n').ok_or_else(|| self.refused(self.form))?;
-        let value = read(&rest[..end]).map_err(|number| self.refused(number))?;
+        let line = without_return(&rest[..end]);
+        let value = read(line).map_err(|number| self.refused(number))?;
         self.start += end + 1;
         Ok(value)
     }
@@ -243,10 +250,10 @@ pub fn read_recording(text: &[u8], masks: &mut [u32], states: &mut [u64]) -> (u8
     scanned.map_or_else(|refused| (refused.number, [0; 2]), |values| (0, values))
 }
 
-/// The refused line: up to its byte 10 or the end.
+/// The refused line: up to its ending or the end.
 fn refused_line<'a>(number: u8, of_rule: bool, text: &'a [u8], start: usize) -> Joint<'a> {
     let rest = &text[start..];
-    let part = &rest[..find(rest, b'\n').unwrap_or(rest.len())];
+    let part = find(rest, b'\n').map_or(rest, |end| without_return(&rest[..end]));
     Joint { number, values: [0; 4], of_rule, start, part }
 }
 
