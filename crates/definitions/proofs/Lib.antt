@@ -2,4 +2,5 @@ pub mod Samples
 pub mod Trials
 pub mod OperatorTrials
 pub mod RefusalTrials
+pub mod MidStepTrials
 pub mod OneLineTrials

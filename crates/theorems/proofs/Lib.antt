@@ -17,6 +17,8 @@ pub mod Terms
 pub mod Images
 pub mod Faithful
 pub mod RecordingLaws
+pub mod Beginnings
+pub mod LastMarks
 pub mod ProjectionLaws
 pub mod ScheduleIndependence
 pub mod SplitLaws
