@@ -1,18 +1,26 @@
 -- A mark in the last state "is read as no run: by projection, by `end`, by run in a rewritten rule" (document 02): recordings that differ in the
 -- marks of their last state only have the same local traces, and every table reads the same over them.
-use mathlib.Core.Path.{_≡_, sym, ap, _∙_, fun-ext}
-use Prim.Native.Nat.{ℕ, suc, _<_}
+use mathlib.Core.Path.{_≡_, ap, _∙_, fun-ext}
+use Prim.Native.Nat.{ℕ, suc, _-_, _<_}
 use native.Mathlib.Omega.{arith}
 use native.Mathlib.Decide.{decLt}
-use mathlib.Core.Bool.{Bool, _&&_}
-use mathlib.Core.List.{List}
+use mathlib.Core.Bool.{Bool, false, _&&_}
+use mathlib.Core.List.{List, append-nil}
 use lib.Dec.{ltb}
 use lib.ListN.{getD}
 use borrow.Author.Tests.{lt-ltb, le-ltb}
-use Rattle.definitions.specs.Bounded.{bitOf}
+use Rattle.definitions.specs.Bounded.{pick, bitOf}
 use Rattle.definitions.specs.Recordings.{Recording, marked, masksOf, maskOf, stateAt, wordAt, runsAt}
 use Rattle.definitions.specs.Projection.{runStates, placesOf, localTrace, endAt}
 use Rattle.definitions.specs.Readings.{Trace, whole}
+
+-- the last state adds no run
+pub last-adds-none : (R : Recording) (c : ℕ) → 0 < R .count → runStates (runsAt R c) (R .count) ≡ runStates (runsAt R c) (R .count - 1)
+unfolding pick
+last-adds-none R c h =
+    let e : R .count ≡ suc (R .count - 1) = omega arith in
+    let idle : ltb (suc (R .count - 1)) (R .count) ≡ false = le-ltb (suc (R .count - 1)) (R .count) (omega arith) in
+    ap (λ (n : ℕ). runStates (runsAt R c) n) e ∙ rw (idle, append-nil)
 
 -- R and S have the same masks and words, and the same run marks in all states but the last
 pub record SameButLastMarks (R S : Recording) : Type 0 where
