@@ -7,6 +7,7 @@ use reference::model::refusal::{BRACKETS_DEEP, LENT_SPACE};
 use crate::difference::Difference;
 use crate::expected;
 use crate::input::{Input, GUARD};
+use crate::last_state::LastState;
 use crate::library;
 use crate::outcome::Outcome;
 use crate::tally::{Operation, Section, Tally};
@@ -65,12 +66,32 @@ impl<'a> Check<'a> {
         if refused && operation == Operation::ReadJoint && self.wrong(operation, Place::Line) {
             expected.values[5] += 1;
         }
+        if let Some(last) = LastState::marked(input, expected) {
+            self.alter_last(&last, input, expected);
+        }
         for (number, slice) in input.slices().iter().enumerate() {
             let length = slice.lent.length;
             let place = self.altered_entry(operation, expected, number, slice.full, length);
             if let Some(at) = place {
                 expected.lent[number][GUARD + at] ^= 1;
             }
+        }
+    }
+
+    /// Alters what is expected of run marks in the last state.
+    fn alter_last(&self, last: &LastState, input: &Input, expected: &mut Outcome) {
+        let operation = input.operation();
+        if let Some(place) = last.run_place(input) {
+            if self.wrong(operation, Place::LastRun) {
+                place.count(expected);
+            }
+        }
+        if operation == Operation::ReadRecording && self.wrong(operation, Place::Cleared) {
+            last.clear(expected);
+        }
+        if self.wrong(operation, Place::Nine) {
+            expected.number = 9;
+            expected.values.fill(0);
         }
     }
 

@@ -11,6 +11,7 @@ mod check;
 mod difference;
 mod expected;
 mod input;
+mod last_state;
 mod lent;
 mod library;
 mod lines;

@@ -28,6 +28,12 @@ pub enum Place {
     Length,
     /// The number or a value that document 01 names in a trial.
     Named,
+    /// A mark in the last state taken for a run.
+    LastRun,
+    /// The marks of the last state, as they are handed back.
+    Cleared,
+    /// An accepted recording with marks in its last state, refused with 9.
+    Nine,
 }
 
 impl Place {
@@ -44,6 +50,9 @@ impl Place {
             Place::Beyond => "beyond",
             Place::Length => "length",
             Place::Named => "named",
+            Place::LastRun => "last_run",
+            Place::Cleared => "cleared",
+            Place::Nine => "nine",
         }
     }
 }
@@ -84,6 +93,7 @@ impl Wrong {
 /// The wrong answers by section and operation.
 fn lists() -> Vec<(Section, Operation, &'static [Place])> {
     use Place::{Beyond, Content, Length, Line, Named, Number, Untouched, Unused, Value, Zero};
+    use Place::{Cleared, LastRun, Nine};
     let mut lists: Vec<(Section, Operation, &[Place])> = Vec::new();
     for operation in Operation::ALL {
         lists.push((Section::Trials, operation, &[Named]));
@@ -96,6 +106,11 @@ fn lists() -> Vec<(Section, Operation, &'static [Place])> {
     lists.extend([
         (Section::Random, Operation::ReadJoint, &[Line][..]),
         (Section::Random, Operation::Schedules, &[Value]),
+        (Section::Random, Operation::Beginnings, &[Number]),
+        (Section::Random, Operation::ReadRecording, &[Nine, Cleared]),
+        (Section::Random, Operation::Project, &[Nine, LastRun]),
+        (Section::Random, Operation::JudgeLocal, &[Nine]),
+        (Section::Random, Operation::JudgeRecording, &[Nine, LastRun]),
         (Section::Texts, Operation::ReadRule, &[Number, Value, Content]),
         (Section::Texts, Operation::ReadRecording, &[Number, Value, Content]),
         (Section::Texts, Operation::ReadJoint, &[Number, Value, Line]),

@@ -205,7 +205,7 @@ pub fn read_recording(text: &[u8]) -> Result<Trace, RefusedLine> {
     for _ in 0..length {
         states.push(lines.read(|line| {
             let state = state_of_line(line)?;
-            trace::check_state(components, length, &masks, &states, state)?;
+            trace::check_state(components, &masks, &states, state)?;
             Ok(state)
         })?);
     }
