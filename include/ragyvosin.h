@@ -99,7 +99,8 @@ enum {
 };
 
 /*
- * Reads a rule text. Full size: nodes RGV_RULE_NODES.
+ * Reads a rule text. Full size: nodes RGV_RULE_NODES. In every text a line ends
+ * in byte 10 or in bytes 13 and 10, line by line.
  * values: controller, node count. Refusals: 13, 1, 2, 3, 4.
  */
 uint8_t rgv_read_rule(const uint8_t *text, size_t text_len,
@@ -120,7 +121,8 @@ uint8_t rgv_read_line(size_t controller,
                       size_t values[2]);
 
 /*
- * Writes the text of a rule. Full size: text RGV_RULE_BYTES.
+ * Writes the text of a rule, byte 10 at each line. Full size: text
+ * RGV_RULE_BYTES.
  * values: length of the text. Refusals: 13, 2, 3, 4.
  */
 uint8_t rgv_write_rule(size_t controller, size_t count,
@@ -142,7 +144,7 @@ uint8_t rgv_read_recording(const uint8_t *text, size_t text_len,
  * Full sizes: nodes RGV_RULE_NODES, masks RGV_MASKS, states RGV_STATES.
  * values: controller, node count, C, N (zero on a refusal); then the part
  * handed back, refused or not: which text (0 the rule text, 1 the recording
- * text), start, length. It is the refused line without its byte 10, for 13 the
+ * text), start, length. It is the refused line without its ending, for 13 the
  * empty start of the rule text, accepted the empty end of the recording text.
  * Refusals: 13, those of the rule, those of the recording, 11.
  */

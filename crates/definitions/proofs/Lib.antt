@@ -3,4 +3,5 @@ pub mod Trials
 pub mod OperatorTrials
 pub mod RefusalTrials
 pub mod MidStepTrials
+pub mod EndingTrials
 pub mod OneLineTrials

@@ -94,7 +94,7 @@ pub record Shapes : Type 0 where
   pub eventually : lineNodes (bytes "F Y X true") ≡ node True 0 0 ∷ node True 0 0 ∷ node Next 1 0 ∷ node Prev 2 0 ∷ node Until 0 3 ∷ []
 
 shapes : Shapes
-unfolding pick lines.before onParsed decimalOn decimal digitsBy digits larger mostOpen formulaOf size nodesFrom largestAtom past signAmong digitsAhead atomFirst signFirst afterSpace signsBy signsOf closed operandBy whole treeOf sentenceRefusal lineRefusal lineNodes
+unfolding pick lines.before lines.newlineNext lines.isReturn lines.lineLength onParsed decimalOn decimal digitsBy digits larger mostOpen formulaOf size nodesFrom largestAtom past signAmong digitsAhead atomFirst signFirst afterSpace signsBy signsOf closed operandBy whole treeOf sentenceRefusal lineRefusal lineNodes
 shapes = record {
   always = refl;
   untils = refl;
@@ -150,7 +150,7 @@ pub record Numbers : Type 0 where
   pub bytes1025 : lineRefusal 0 (times 13 (nested 16 ++ bytes " | ") ++ (nested 16 ++ (bytes " |" ++ (times 12 (nested 16 ++ bytes "|") ++ nested 16)))) ≡ 15
 
 numbers : Numbers
-unfolding pick lines.before onParsed decimalOn decimal digitsBy digits larger mostOpen formulaOf size nodesFrom largestAtom past signAmong digitsAhead atomFirst signFirst afterSpace signsBy signsOf closed operandBy whole treeOf sentenceRefusal lineRefusal lineNodes
+unfolding pick lines.before lines.newlineNext lines.isReturn lines.lineLength onParsed decimalOn decimal digitsBy digits larger mostOpen formulaOf size nodesFrom largestAtom past signAmong digitsAhead atomFirst signFirst afterSpace signsBy signsOf closed operandBy whole treeOf sentenceRefusal lineRefusal lineNodes
 numbers = record {
   unspaced = refl;
   twoSpaces = refl;
@@ -194,9 +194,13 @@ pub record Answers : Type 0 where
   pub noLine : ruleOutput (bytes "2\tX a31") ≡ bytes "refused\t1\n"
   pub twoLines : ruleOutput (bytes "2\tX a31\n\n") ≡ bytes "refused\t1\n"
   pub noController : ruleOutput (bytes "X a31\n") ≡ bytes "refused\t1\n"
+  -- "either ending", as of every line
+  pub otherEnding : ruleOutput (bytes "2\tX a31\r\n") ≡ bytes "rule\t2\t2\natom\t31\nnext\t0\n"
+  pub returnTwice : ruleOutput (bytes "2\tX a31\r\r\n") ≡ bytes "refused\t15\n"
+  pub unclosedReturn : ruleOutput (bytes "2\tX a31\r") ≡ bytes "refused\t1\n"
 
 answers : Answers
-unfolding pick lines.before onParsed decimalOn decimal digitsBy digits larger mostOpen formulaOf size nodesFrom largestAtom past signAmong digitsAhead atomFirst signFirst afterSpace signsBy signsOf closed operandBy whole treeOf sentenceRefusal lineRefusal lineNodes readLineNumber readLineAnswer readLineNodes answer left kindOf nodeText nodesText ruleText refusalText lineOutput typedOutput ruleOutput
+unfolding pick lines.before lines.newlineNext lines.isReturn lines.lineLength onParsed decimalOn decimal digitsBy digits larger mostOpen formulaOf size nodesFrom largestAtom past signAmong digitsAhead atomFirst signFirst afterSpace signsBy signsOf closed operandBy whole treeOf sentenceRefusal lineRefusal lineNodes readLineNumber readLineAnswer readLineNodes answer left kindOf nodeText nodesText ruleText refusalText lineOutput typedOutput ruleOutput
 answers = record {
   accepts = refl;
   acceptedNodes = refl;
@@ -209,4 +213,7 @@ answers = record {
   noLine = refl;
   twoLines = refl;
   noController = refl;
+  otherEnding = refl;
+  returnTwice = refl;
+  unclosedReturn = refl;
 }

@@ -1,6 +1,6 @@
 -- "Texts": bytes, lines, fields, decimal and hexadecimal forms, and printed numbers.
 use Prim.Native.Nat.{ℕ, zero, suc, _+_, _-_, _*_, _/_, _%_}
-use mathlib.Core.Bool.{Bool, true, false, not, _&&_}
+use mathlib.Core.Bool.{Bool, true, false, not, _&&_, _||_}
 use mathlib.Core.List.{List, [], _∷_, _++_}
 use Prim.Native.String.{String, len, charAt}
 use Prim.Native.Char.{code}
@@ -18,7 +18,7 @@ bytesFrom s i (suc n) = code (charAt s i) ∷ bytesFrom s (suc i) n
 abbrev pub bytes : String → List ℕ
 bytes s = bytesFrom s 0 (len s)
 
--- "closed by byte 10"
+-- "byte 10", which closes a line; "The texts that we write keep byte 10 only"
 abbrev pub newline : ℕ
 newline = 10
 
@@ -39,17 +39,52 @@ before b (x ∷ t) = pick (eqb x b) 0 (suc (before b t))
 abbrev pub isEmpty : List ℕ → Bool
 isEmpty t = eqb (length t) 0
 
--- byte b is there: a line is "closed by byte 10", "fields parted by one tab"
+-- byte b is there: "fields parted by one tab"
 abbrev pub has : ℕ → List ℕ → Bool
 has b t = ltb (before b t) (length t)
 
--- what stands before the first byte b: the line "without byte 10", the field before a tab; all that is left where there is none
+-- what stands before the first byte b: the field before a tab; all that is left where there is none
 abbrev pub upTo : ℕ → List ℕ → List ℕ
 upTo b t = take (before b t) t
 
--- what follows the first byte b: the lines that are left, "the rest of the text after each tab"
+-- what follows the first byte b: "the rest of the text after each tab"
 abbrev pub after : ℕ → List ℕ → List ℕ
 after b t = drop (before b t + 1) t
+
+-- byte 10 comes next
+unfoldable pub newlineNext : List ℕ → Bool
+newlineNext [] = false
+newlineNext (x ∷ t) = eqb x newline
+
+-- "bytes 13 and 10 at the line end": x is this byte 13, and t follows it
+unfoldable pub isReturn : ℕ → List ℕ → Bool
+isReturn x t = eqb x carriageReturn && newlineNext t
+
+-- "The line reader must take either ending": how many bytes stand before the first one; all that is left where there is none
+unfoldable pub lineLength : List ℕ → ℕ
+lineLength [] = 0
+lineLength (x ∷ t) = pick (eqb x newline || isReturn x t) 0 (suc (lineLength t))
+
+-- the first line: it "leaves out its ending"
+abbrev pub lineOf : List ℕ → List ℕ
+lineOf t = take (lineLength t) t
+
+-- the first line is "closed by byte 10"
+abbrev pub isClosed : List ℕ → Bool
+isClosed t = has newline t
+
+-- where the text after the first line and its ending begins
+abbrev pub restAt : List ℕ → ℕ
+restAt t = before newline t + 1
+
+-- the text after the first line and its ending
+abbrev pub restOf : List ℕ → List ℕ
+restOf t = drop (restAt t) t
+
+-- "with byte 10 at each line and otherwise unchanged"
+unfoldable pub withNewlines : List ℕ → List ℕ
+withNewlines [] = []
+withNewlines (x ∷ t) = pick (isReturn x t) (withNewlines t) (x ∷ withNewlines t)
 
 -- what a line or a field is, where it is of its form
 pub data Parsed (A : Type 0) : Type 0 where
@@ -143,9 +178,9 @@ onNext (read a rest) stops goes = goes a rest
 unfoldable pub nextLine : {A : Type 0} (missing unformed : ℕ) (form : List ℕ → Parsed A) (check : A → ℕ) → List ℕ → NextLine A
 nextLine missing unformed form check t =
     pick (isEmpty t) (refused missing)
-    (pick (has newline t)
-    (onParsed (form (upTo newline t)) (refused unformed)
-    (λ a. pick (eqb (check a) accepted) (read a (after newline t)) (refused (check a))))
+    (pick (isClosed t)
+    (onParsed (form (lineOf t)) (refused unformed)
+    (λ a. pick (eqb (check a) accepted) (read a (restOf t)) (refused (check a))))
     (refused unformed))
 
 -- what a reader of lines has: the refusal or 0, the words read, and the text from the refused line on (of an accepted text, its empty end)

@@ -7,7 +7,7 @@ use lib.Dec.{eqb, ltb, leb}
 use Rattle.definitions.specs.Limits.{accepted, maxControllers, atomCount, maxRuleNodes, maxInputBytes, maxLineBytes, maxOpenBrackets, ruleForm, ruleLimits, lentShort, inputLong, lineForm, bracketsDeep}
 use Rattle.definitions.specs.Bounded.{pick}
 use Rattle.definitions.specs.Nodes.{Node, nodeWord}
-use Rattle.definitions.specs.Lines.{tab, newline, isEmpty, has, upTo, after, onParsed, decimal, digits}
+use Rattle.definitions.specs.Lines.{tab, newline, isEmpty, has, upTo, after, isClosed, lineOf, restOf, onParsed, decimal, digits}
 use Rattle.definitions.specs.RuleText.{ruleText}
 use Rattle.definitions.specs.Operations.{Answer, answer, tooShort, left}
 use Rattle.definitions.specs.Program.{refusedWord}
@@ -64,4 +64,4 @@ typedOutput typed =
 unfoldable pub ruleOutput : (input : List ℕ) → List ℕ
 ruleOutput input =
     pick (ltb maxInputBytes (length input)) (refusalText inputLong)
-    (pick (has newline input && isEmpty (after newline input)) (typedOutput (upTo newline input)) (refusalText ruleForm))
+    (pick (isClosed input && isEmpty (restOf input)) (typedOutput (lineOf input)) (refusalText ruleForm))

@@ -12,7 +12,7 @@ use Rattle.definitions.specs.Recordings.{Recording, recordingOf, maskOf}
 use Rattle.definitions.specs.Projection.{localTrace}
 use Rattle.definitions.specs.Readings.{Trace, whole, Verdicts, verdicts, localVerdicts}
 use Rattle.definitions.specs.Rewriting.{Rewritten, rewriting}
-use Rattle.definitions.specs.Lines.{bytes, tab, newline, before, has, upTo, after, same, digits}
+use Rattle.definitions.specs.Lines.{bytes, tab, newline, isClosed, lineOf, restAt, restOf, same, digits}
 use Rattle.definitions.specs.RuleText.{scanRule}
 use Rattle.definitions.specs.RecordingText.{RecordingScan, scanRecording, Part, jointNumber, jointPart}
 use Rattle.definitions.specs.Operations.{sizeRefusal}
@@ -25,8 +25,8 @@ splitLine = bytes "-"
 unfoldable pub ruleLength : (lines : ℕ) → List ℕ → ℕ
 ruleLength zero t = length t
 ruleLength (suc lines) t =
-    pick (has newline t)
-    (pick (same (upTo newline t) splitLine) 0 (before newline t + 1 + ruleLength lines (after newline t)))
+    pick (isClosed t)
+    (pick (same (lineOf t) splitLine) 0 (restAt t + ruleLength lines (restOf t)))
     (length t)
 
 -- the rule text of the input
@@ -35,7 +35,7 @@ ruleIn input = take (ruleLength (length input) input) input
 
 -- the recording text of the input, after the line `-`; "with none, the recording text is empty"
 abbrev pub recordingIn : List ℕ → List ℕ
-recordingIn input = after newline (drop (ruleLength (length input) input) input)
+recordingIn input = restOf (drop (ruleLength (length input) input) input)
 
 -- the words that it prints
 abbrev pub refusedWord : List ℕ

@@ -7,7 +7,7 @@ use lib.Dec.{eqb}
 use Rattle.definitions.specs.Limits.{accepted, recordingForm, recordingLines, noController}
 use Rattle.definitions.specs.Bounded.{pick}
 use Rattle.definitions.specs.Recordings.{stateOf, stateRefusal, maskRefusal, recordingHeadingRefusal, controllerRefusal}
-use Rattle.definitions.specs.Lines.{bytes, newline, before, isEmpty, Parsed, hexadecimal, Heading, twoFields, worded, headingForm, NextLine, onNext, nextLine, Scan, stop, more}
+use Rattle.definitions.specs.Lines.{bytes, isEmpty, lineLength, Parsed, hexadecimal, Heading, twoFields, worded, headingForm, NextLine, onNext, nextLine, Scan, stop, more}
 use Rattle.definitions.specs.RuleText.{scanRule}
 
 -- the words that open its lines
@@ -98,9 +98,9 @@ pub record Part : Type 0 where
   pub from : ℕ
   pub count : ℕ
 
--- the line with which `rest`, the end of the text, begins: all that is left of an unclosed one, and nothing where nothing is left
+-- the line with which `rest`, the end of the text, begins, without its ending: all that is left of an unclosed one, and nothing where nothing is left
 abbrev pub lineIn : (ofRule : Bool) (text rest : List ℕ) → Part
-lineIn ofRule text rest = record { ofRule = ofRule; from = length text - length rest; count = before newline rest }
+lineIn ofRule text rest = record { ofRule = ofRule; from = length text - length rest; count = lineLength rest }
 
 -- "for 13 the empty start of the rule text"
 abbrev pub emptyStart : Part

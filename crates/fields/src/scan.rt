@@ -5,11 +5,11 @@ ghost use lib.ListN.{length};
 ghost use Rattle.definitions.specs.Lines.{same, letters};
 ghost use Rattle.fields.specs.Parts.{Located, IsRest};
 
-// Closes a line.
+// Ends a line, alone or after a carriage return; what is written ends its lines in it alone.
 pub const NEWLINE: u8 = 10;
 // Parts two fields.
 pub const TAB: u8 = 9;
-// Is of no form, even after an unknown word.
+// Is of no form, even after an unknown word; right before a newline it is of the line's ending.
 pub const CARRIAGE_RETURN: u8 = 13;
 
 // How many bytes of `s` stand before its first `b`: all of them where there is none.

@@ -7,7 +7,7 @@ use native.Mathlib.Omega.{arith}
 use lib.ListN.{take}
 use Rattle.definitions.specs.Limits.{maxControllers, maxRuleNodes, ruleForm, ruleLines}
 use Rattle.definitions.specs.Tables.{ruleHeadingRefusal}
-use Rattle.definitions.specs.Lines.{newline, before, has, upTo, after, Heading, heading, headingForm, NextLine, refused, read}
+use Rattle.definitions.specs.Lines.{lineLength, lineOf, isClosed, restOf, Heading, heading, headingForm, NextLine, refused, read}
 use Rattle.definitions.specs.RuleText.{ruleWord, ruleHeadingLine}
 use Rattle.theorems.proofs.NodeLaws.{accepted-heading}
 use Rattle.theorems.proofs.NextLines.{next-back}
@@ -16,9 +16,8 @@ use Rattle.lines.specs.Forms.{cappedPair}
 use Rattle.lines.specs.Reading.{endRefusal}
 use Rattle.lines.specs.declared.form.Pair.{Pair}
 use Rattle.lines.specs.declared.form.Pair.the-variants as pair
-use Rattle.fields.proofs.PartLaws.{part-laws, up-to-part}
 use Rattle.fields.proofs.FieldLaws.{cap-below, cap-within-limits, cap-exact}
-use Rattle.lines.proofs.NextLaws.{next-unread, end-fine}
+use Rattle.lines.proofs.NextLaws.{line-part, line-part-laws, next-unread, end-fine}
 use Rattle.lines.proofs.HeadingLaws.{CapCheck, first-malformed, first-denied, first-read}
 use Rattle.formula_lines.specs.NextLines.{headingAnswer}
 use Rattle.formula_lines.specs.declared.heading.HeadingRead.{HeadingRead}
@@ -48,12 +47,12 @@ module _ (t : List ℕ) (n : ℕ) (ns : n ≡ endRefusal ruleLines ruleForm t) w
   pub heading-unread : (n ≡ 0 → ⊥) → first.Refused n ≡ headingAnswer (ruleHeadingLine t)
   heading-unread z = is-refused (ruleHeadingLine t) n (next-unread ruleLines ruleForm t n ns _ _ z)
 
-  module _ (z : n ≡ 0) (end : ℕ) (is : end ≡ before newline t) (r : Pair) (rs : r ≡ cappedPair (headingForm ruleWord (take end t))) where
-    closed : has newline t ≡ true
+  module _ (z : n ≡ 0) (len : ℕ) (is : len ≡ lineLength t) (r : Pair) (rs : r ≡ cappedPair (headingForm ruleWord (take len t))) where
+    closed : isClosed t ≡ true
     closed = end-fine ruleLines ruleForm t n ns (omega arith) (omega arith) z
 
-    line : r ≡ cappedPair (headingForm ruleWord (upTo newline t))
-    line = rw (up-to-part newline t end is) at rs
+    line : r ≡ cappedPair (headingForm ruleWord (lineOf t))
+    line = rw (line-part t len is) at rs
 
     pub heading-malformed : r ≡ pair.Malformed → first.Refused ruleForm ≡ headingAnswer (ruleHeadingLine t)
     heading-malformed x = is-refused (ruleHeadingLine t) ruleForm (first-malformed ruleLines ruleForm ruleWord ruleHeadingRefusal caps t closed r line x)
@@ -64,9 +63,9 @@ module _ (t : List ℕ) (n : ℕ) (ns : n ≡ endRefusal ruleLines ruleForm t) w
 
       pub heading-read : k ≡ 0 → first.Heading c m ≡ headingAnswer (ruleHeadingLine t)
       heading-read y =
-          is-read (ruleHeadingLine t) (heading c m) (after newline t) (first-read ruleLines ruleForm ruleWord ruleHeadingRefusal caps t closed r line c m x (sym ks ∙ y))
+          is-read (ruleHeadingLine t) (heading c m) (restOf t) (first-read ruleLines ruleForm ruleWord ruleHeadingRefusal caps t closed r line c m x (sym ks ∙ y))
 
-pub ruleset heading-laws = (part-laws, heading-unread, heading-malformed, heading-refused, heading-read)
+pub ruleset heading-laws = (line-part-laws, heading-unread, heading-malformed, heading-refused, heading-read)
 
 -- ---- what a caller has of an answer
 answer-refused : (n : NextLine Heading) (r : HeadingRead) (k : ℕ) → r ≡ headingAnswer n → r ≡ first.Refused k → n ≡ refused k
@@ -92,8 +91,7 @@ answer-read (read h rest) r c m e x = record { rest = rest; is = ap (λ (g : Hea
 
 -- the first line is accepted, with its controller and count
 pub record Headed (t : List ℕ) (c m : ℕ) : Type 0 where
-  pub is : ruleHeadingLine t ≡ read (heading c m) (after newline t)
-  pub closed : has newline t ≡ true
+  pub is : ruleHeadingLine t ≡ read (heading c m) (restOf t)
   pub few : m ≤ maxRuleNodes
 
 module _ (t : List ℕ) (r : HeadingRead) (rs : r ≡ headingAnswer (ruleHeadingLine t)) where
@@ -101,7 +99,7 @@ module _ (t : List ℕ) (r : HeadingRead) (rs : r ≡ headingAnswer (ruleHeading
   headed c m x =
       let a = answer-read (ruleHeadingLine t) r c m rs x in
       let b = next-back ruleLines ruleForm (headingForm ruleWord) (λ h. ruleHeadingRefusal (h .first) (h .second)) t (heading c m) (a .rest) (a .is) in
-      record { is = a .is ∙ ap (read (heading c m)) (b .left); closed = b .closed; few = accepted-heading c m (b .fine) .1 .1 }
+      record { is = a .is ∙ ap (read (heading c m)) (b .left); few = accepted-heading c m (b .fine) .1 .1 }
 
   pub unheaded : (k : ℕ) → r ≡ first.Refused k → ruleHeadingLine t ≡ refused k
   unheaded k x = answer-refused (ruleHeadingLine t) r k rs x

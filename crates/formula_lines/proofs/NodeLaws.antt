@@ -11,7 +11,7 @@ use Rattle.definitions.specs.Limits.{maxRuleNodes, atomCount, ruleForm, ruleLin
 use Rattle.definitions.specs.Nodes as table
 use Rattle.definitions.specs.Nodes.{node, nodeWord}
 use Rattle.definitions.specs.Tables.{nodeRefusal}
-use Rattle.definitions.specs.Lines.{newline, before, has, upTo, after, Parsed, formed, malformed, NextLine, refused, read}
+use Rattle.definitions.specs.Lines.{lineLength, lineOf, isClosed, restOf, Parsed, formed, malformed, NextLine, refused, read}
 use Rattle.definitions.specs.RuleText.{nodeForm, nodeLine}
 use Rattle.theorems.proofs.Choice.{by-test}
 use Rattle.theorems.proofs.Inversions.{formed-same, never-formed}
@@ -19,9 +19,8 @@ use Rattle.theorems.proofs.NodeLaws.{AcceptedNode, accepted-node, first-below, 
 use Rattle.theorems.proofs.NextLines.{next-malformed, next-denied, next-read, next-back}
 use Rattle.fields.specs.Fields.{largest, cap}
 use Rattle.lines.specs.Reading.{endRefusal}
-use Rattle.fields.proofs.PartLaws.{part-laws, up-to-part}
 use Rattle.fields.proofs.FieldLaws.{cap-over, cap-within}
-use Rattle.lines.proofs.NextLaws.{next-unread, end-fine}
+use Rattle.lines.proofs.NextLaws.{line-part, line-part-laws, next-unread, end-fine}
 use Rattle.formulas.specs.Meaning.{meaning, Wordable}
 use Rattle.formulas.specs.declared.node.Node.{Node}
 use Rattle.formulas.proofs.KindLaws.{unknown-of}
@@ -87,20 +86,20 @@ module _ (i : ℕ) (t : List ℕ) (n : ℕ) (ns : n ≡ endRefusal ruleLines rul
   pub node-unread : (n ≡ 0 → ⊥) → Refused n ≡ nodeAnswer (nodeLine i t)
   node-unread z = is-refused (nodeLine i t) n (next-unread ruleLines ruleForm t n ns _ _ z)
 
-  module _ (y : n ≡ 0) (end : ℕ) (is : end ≡ before newline t) (l : NodeForm) (e : meant l ≡ cappedForm (nodeForm (take end t))) where
-    closed : has newline t ≡ true
+  module _ (y : n ≡ 0) (len : ℕ) (is : len ≡ lineLength t) (l : NodeForm) (e : meant l ≡ cappedForm (nodeForm (take len t))) where
+    closed : isClosed t ≡ true
     closed = end-fine ruleLines ruleForm t n ns (omega arith) (omega arith) y
 
-    line : meant l ≡ cappedForm (nodeForm (upTo newline t))
-    line = rw (up-to-part newline t end is) at e
+    line : meant l ≡ cappedForm (nodeForm (lineOf t))
+    line = rw (line-part t len is) at e
 
     pub node-malformed : l ≡ Malformed → Refused ruleForm ≡ nodeAnswer (nodeLine i t)
     node-malformed h =
-        is-refused (nodeLine i t) ruleForm (next-malformed ruleLines ruleForm nodeForm (nodeRefusal false i) t closed (form-not (nodeForm (upTo newline t)) (rw h at line)))
+        is-refused (nodeLine i t) ruleForm (next-malformed ruleLines ruleForm nodeForm (nodeRefusal false i) t closed (form-not (nodeForm (lineOf t)) (rw h at line)))
 
     module _ (few : i ≤ maxRuleNodes) (m : Node) (h : l ≡ Formed m) (k : ℕ) (ks : k ≡ nodeRefusal false i (meaning m)) where
-      form : FormIs (nodeForm (upTo newline t)) (meaning m)
-      form = form-is (nodeForm (upTo newline t)) (meaning m) (rw h at line)
+      form : FormIs (nodeForm (lineOf t)) (meaning m)
+      form = form-is (nodeForm (lineOf t)) (meaning m) (rw h at line)
 
       the-refusal : nodeRefusal false i (form .value) ≡ k
       the-refusal = sym (cap-refusal i (form .value) few) ∙ (ap (nodeRefusal false i) (sym (form .same)) ∙ sym ks)
@@ -138,18 +137,17 @@ module _ (i : ℕ) (t : List ℕ) (n : ℕ) (ns : n ≡ endRefusal ruleLines rul
         pub node-read : (w : ℕ) → w ≡ nodeWord (meaning m) → Word w ≡ nodeAnswer (nodeLine i t)
         node-read w ws =
             ap Word (ws ∙ ap nodeWord exactly)
-            ∙ is-read (nodeLine i t) (form .value) (after newline t)
+            ∙ is-read (nodeLine i t) (form .value) (restOf t)
             (next-read ruleLines ruleForm nodeForm (nodeRefusal false i) t closed (form .value) (form .read) (the-refusal ∙ z))
 
-pub ruleset node-laws = (part-laws, node-unread, node-malformed, node-refused, node-wordable, node-read)
+pub ruleset node-laws = (line-part-laws, node-unread, node-malformed, node-refused, node-wordable, node-read)
 
 -- ---- what a caller has of an answer
 -- the line of a node was read as the word w
 pub record WordRead (i : ℕ) (t : List ℕ) (w : ℕ) : Type 0 where
   pub item : table.Node
-  pub is : nodeLine i t ≡ read item (after newline t)
+  pub is : nodeLine i t ≡ read item (restOf t)
   pub word : nodeWord item ≡ w
-  pub closed : has newline t ≡ true
 
 record ReadWith (n : NextLine table.Node) (w : ℕ) : Type 0 where
   value : table.Node
@@ -172,7 +170,7 @@ module _ (i : ℕ) (t : List ℕ) (r : NodeRead) (rs : r ≡ nodeAnswer (nodeLin
   word-read w x =
       let a = answer-read (nodeLine i t) r w rs x in
       let b = next-back ruleLines ruleForm nodeForm (nodeRefusal false i) t (a .value) (a .rest) (a .is) in
-      record { item = a .value; is = a .is ∙ ap (read (a .value)) (b .left); word = a .word; closed = b .closed }
+      record { item = a .value; is = a .is ∙ ap (read (a .value)) (b .left); word = a .word }
 
   pub word-refused : (k : ℕ) → r ≡ Refused k → nodeLine i t ≡ refused k
   word-refused k x = answer-refused (nodeLine i t) r k rs x

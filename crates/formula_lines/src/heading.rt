@@ -1,6 +1,6 @@
 // The first line of a rule text: `rule`, controller, node count.
 ghost use mathlib.Core.Path.{_≡_};
-ghost use Rattle.definitions.specs.Lines.{newline, before};
+ghost use Rattle.definitions.specs.Lines.{lineLength};
 ghost use Rattle.definitions.specs.RuleText.{ruleHeadingLine};
 ghost use Rattle.formula_lines.specs.NextLines.{headingAnswer};
 use formulas::limits::Refusal;
@@ -15,16 +15,16 @@ pub enum HeadingRead {
     Refused(u8),
 }
 
-// The next line as the first; `end` bytes stand before its newline.
-pub fn next_heading(t: &[u8], end: usize) -> HeadingRead
-    requires { ⌜ end ≡ before newline (now t) ⌝ }
+// The next line, of `len` bytes, as the first.
+pub fn next_heading(t: &[u8], len: usize) -> HeadingRead
+    requires { ⌜ len ≡ lineLength (now t) ⌝ }
     ensures { λ r. ⌜ r ≡ headingAnswer (ruleHeadingLine (now (t .entry))) ⌝ }
 {
-    let unread = end_refusal(t, end, Refusal::RULE_LINES, Refusal::RULE_FORM);
+    let unread = end_refusal(t, len, Refusal::RULE_LINES, Refusal::RULE_FORM);
     if unread != Refusal::NONE {
         return HeadingRead::Refused(unread);
     }
-    let Pair::Numbers(controller, count) = form::worded_decimals(&t[..end], b"rule") else {
+    let Pair::Numbers(controller, count) = form::worded_decimals(&t[..len], b"rule") else {
         return HeadingRead::Refused(Refusal::RULE_FORM);
     };
     let refusal = rule_heading_refusal(controller as usize, count as usize);

@@ -3,7 +3,7 @@ ghost use mathlib.Core.Path.{_≡_};
 ghost use Prim.Native.Nat.{_≤_};
 ghost use Rattle.definitions.specs.Limits.{maxRuleNodes};
 ghost use Rattle.definitions.specs.Nodes.{kindOf, kindNumber, End};
-ghost use Rattle.definitions.specs.Lines.{tab, newline, before};
+ghost use Rattle.definitions.specs.Lines.{tab, before, lineLength};
 ghost use Rattle.definitions.specs.RuleText.{unknownForm, operandsForm, nodeForm, nodeLine};
 ghost use Rattle.lines.specs.Forms.{cappedPair};
 ghost use Rattle.formula_lines.specs.NextLines.{meant, cappedForm, operandFields, nodeAnswer};
@@ -95,16 +95,16 @@ fn node_form(s: &[u8]) -> NodeForm
     known_form(kind, s, i)
 }
 
-// The next line as that of node `i` of a rule; `end` bytes stand before its newline.
-pub fn next_node(i: usize, t: &[u8], end: usize) -> NodeRead
-    requires { ⌜ (i ≤ maxRuleNodes) × (end ≡ before newline (now t)) ⌝ }
+// The next line, of `len` bytes, as that of node `i` of a rule.
+pub fn next_node(i: usize, t: &[u8], len: usize) -> NodeRead
+    requires { ⌜ (i ≤ maxRuleNodes) × (len ≡ lineLength (now t)) ⌝ }
     ensures { λ r. ⌜ r ≡ nodeAnswer (nodeLine i (now (t .entry))) ⌝ }
 {
-    let unread = end_refusal(t, end, Refusal::RULE_LINES, Refusal::RULE_FORM);
+    let unread = end_refusal(t, len, Refusal::RULE_LINES, Refusal::RULE_FORM);
     if unread != Refusal::NONE {
         return NodeRead::Refused(unread);
     }
-    let NodeForm::Formed(n) = node_form(&t[..end]) else {
+    let NodeForm::Formed(n) = node_form(&t[..len]) else {
         return NodeRead::Refused(Refusal::RULE_FORM);
     };
     let refusal = node_refusal(false, i, n);

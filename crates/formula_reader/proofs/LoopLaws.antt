@@ -14,13 +14,14 @@ use Rattle.definitions.specs.Limits.{accepted, ruleForm, ruleLines, noControlle
 use Rattle.definitions.specs.Bounded.{pick}
 use Rattle.definitions.specs.Nodes.{Node, nodeWord}
 use Rattle.definitions.specs.Tables.{nodeRefusal}
-use Rattle.definitions.specs.Lines.{newline, before, isEmpty, after, stop, more}
+use Rattle.definitions.specs.Lines.{isEmpty, restOf, stop, more}
 use Rattle.definitions.specs.RuleText.{nodeForm, nodeLine, scanNodes}
 use Rattle.theorems.proofs.Choice.{by-test, pick-true, pick-false}
 use Rattle.theorems.proofs.RefusalBounds.{pick-low}
 use Rattle.theorems.proofs.NextLines.{on-next, next-number, next-some}
 use Rattle.theorems.proofs.RuleTextSteps.{nodes-stop, nodes-step}
-use Rattle.lines.specs.Reading.{LinesScanned}
+use Rattle.lines.specs.Reading.{FirstLine, LinesScanned}
+use Rattle.lines.specs.declared.next.Line.{Line}
 use Rattle.fields.proofs.PartLaws.{part-to-end, empty-yes, empty-no}
 use Rattle.lines.proofs.LoopLaws.{Lines, lines-none, lines-stop, lines-next, after-line, line-inside, Counted, counted-more, counted-stop, counted-end}
 use Rattle.formula_lines.specs.NextLines.{nodeAnswer}
@@ -73,11 +74,11 @@ module _ (count start : ℕ) (text o o′ : List ℕ) (at i : ℕ) (inv : NodesL
       let z : count - i ≡ 0 = omega arith in
       lines-stop _ text o o′ at i _ (inv .lines) n (rw z (nodes-end i n (drop at text) (last-line n e))) (omega (arith, inv .within))
 
-  module _ (h : i < count) (end : ℕ) (is : end ≡ before newline (take (length text - at) (drop at text))) (r : NodeRead) (rs : r ≡ nodeAnswer (nodeLine i (take (length text - at) (drop at text)))) where
+  module _ (h : i < count) (l : Line) (is : FirstLine (take (length text - at) (drop at text)) l) (r : NodeRead) (rs : r ≡ nodeAnswer (nodeLine i (take (length text - at) (drop at text)))) where
     one-fewer : count - i ≡ suc (count - (i + 1))
     one-fewer = omega arith
 
-    ends : end ≡ before newline (drop at text)
+    ends : FirstLine (drop at text) l
     ends = rw (part-to-end text at) at is
 
     answer : r ≡ nodeAnswer (nodeLine i (drop at text))
@@ -92,19 +93,16 @@ module _ (count start : ℕ) (text o o′ : List ℕ) (at i : ℕ) (inv : NodesL
       given : WordRead i (drop at text) w
       given = word-read i (drop at text) r answer w e
 
-      pub node-inside : at + end + 1 ≤ length text
-      node-inside = line-inside text at end ends (inv .lines .inside) (given .closed)
+      node-inside : at + l .next ≤ length text
+      node-inside = line-inside text at l ends (inv .lines .inside)
 
-      pub node-place-fits : length text < 2 ^ 64 → Fits w64 (at + end)
-      node-place-fits l = record { fits = omega (arith, node-inside) }
+      pub node-next-fits : length text < 2 ^ 64 → Fits w64 (at + l .next)
+      node-next-fits h = record { fits = omega (arith, node-inside) }
 
-      pub node-next-fits : length text < 2 ^ 64 → Fits w64 (at + end + 1)
-      node-next-fits l = record { fits = omega (arith, node-inside) }
+      step : scanNodes (count - i) i (drop at text) ≡ more w (scanNodes (count - (i + 1)) (i + 1) (drop (at + l .next) text))
+      step = rw (one-fewer, ← after-line text at l ends, ← given .word) (nodes-step (count - (i + 1)) i (drop at text) (given .item) (restOf (drop at text)) (given .is))
 
-      step : scanNodes (count - i) i (drop at text) ≡ more w (scanNodes (count - (i + 1)) (i + 1) (drop (at + end + 1) text))
-      step = rw (one-fewer, ← after-line text at end ends, ← given .word) (nodes-step (count - (i + 1)) i (drop at text) (given .item) (after newline (drop at text)) (given .is))
+      pub nodes-next : NodesLeft count start text o (set o′ i w) (at + l .next) (i + 1)
+      nodes-next = record { within = omega arith; lines = lines-next _ text o o′ at i _ (inv .lines) w (at + l .next) _ step (omega arith) node-inside }
 
-      pub nodes-next : NodesLeft count start text o (set o′ i w) (at + end + 1) (i + 1)
-      nodes-next = record { within = omega arith; lines = lines-next _ text o o′ at i _ (inv .lines) w (at + end + 1) _ step (omega arith) node-inside }
-
-pub ruleset loop-laws = (needs, nodes-start, nodes-done, nodes-refused, node-place-fits, node-next-fits, nodes-next)
+pub ruleset loop-laws = (needs, nodes-start, nodes-done, nodes-refused, node-next-fits, nodes-next)

@@ -7,11 +7,11 @@ use native.Mathlib.Omega.{arith}
 use lib.Dec.{eqb}
 use lib.ListN.{length, drop, length-drop}
 use borrow.Author.Needs.{needs}
-use borrow.Author.Tests.{lt-ltb, le-ltb, ltb-true, eqb-true, eqb-false}
+use borrow.Author.Tests.{lt-ltb, le-ltb, eqb-true, eqb-false}
 use Rattle.definitions.specs.Limits.{maxRuleNodes, ruleForm, ruleLines, lentShort, noController}
 use Rattle.definitions.specs.Bounded.{pick}
 use Rattle.definitions.specs.Tables.{ruleHeadingRefusal}
-use Rattle.definitions.specs.Lines.{newline, before, after, heading, refused}
+use Rattle.definitions.specs.Lines.{restOf, heading, refused}
 use Rattle.definitions.specs.RuleText.{scanNodes, ruleHeading, ruleHeadingLine, RuleScan, ruleStop, ruleNodes, scanRule}
 use Rattle.definitions.specs.Operations.{readRuleNumber, readRuleAnswer, readRuleNodes}
 use Rattle.theorems.proofs.Choice.{by-test, pick-true, pick-false}
@@ -21,7 +21,8 @@ use Rattle.theorems.proofs.RuleTextSteps.{rule-stop, rule-step}
 use Rattle.theorems.proofs.LentSpace.{refused-answer, accepted-answer}
 use Rattle.lent.specs.Space.{cleared}
 use Rattle.lent.proofs.LeftLaws.{laid-past, laid-begins, left-untouched, left-zeroed, left-filled}
-use Rattle.lines.specs.Reading.{LinesScanned}
+use Rattle.lines.specs.Reading.{FirstLine, LinesScanned}
+use Rattle.lines.specs.declared.next.Line.{Line}
 use Rattle.lines.specs.declared.next.Stopped.{Stopped}
 use Rattle.lines.proofs.LoopLaws.{Counted}
 use Rattle.formula_lines.specs.NextLines.{headingAnswer}
@@ -52,7 +53,7 @@ unfolding scanRule
 rule-low t =
     on-next (λ (s : RuleScan). s .number < noController) (ruleHeadingLine t) _ _ (λ k e. first-low t k e) (λ h rest e. nodes-counted (h .second) 0 rest .low)
 
-module _ (t o : List ℕ) (end : ℕ) (is : end ≡ before newline t) (r : HeadingRead) (rs : r ≡ headingAnswer (ruleHeadingLine t)) where
+module _ (t o : List ℕ) (l : Line) (is : FirstLine t l) (r : HeadingRead) (rs : r ≡ headingAnswer (ruleHeadingLine t)) where
   pub rule-unheaded : (k : ℕ) (v : Scanned) → r ≡ first.Refused k → v ≡ record { number = k; controller = 0; count = 0; «rest_at» = 0 } → RuleScanned t o v o
   rule-unheaded k v e w =
       let u = unheaded t r rs k e in
@@ -76,15 +77,15 @@ module _ (t o : List ℕ) (end : ℕ) (is : end ≡ before newline t) (r : Headi
     head : Headed t c n
     head = headed t r rs c n e
 
-    pub rule-room : NodeRoom n (end + 1) t o
-    rule-room = record { few = head .few; inside = omega (arith, ltb-true (before newline t) (length t) (head .closed)); room = room .room }
+    pub rule-room : NodeRoom n (l .next) t o
+    rule-room = record { few = head .few; inside = is .inside; room = room .room }
 
-    module _ (v : Stopped) (o′ : List ℕ) (m : LinesScanned (scanNodes n 0 (drop (end + 1) t)) t o v o′) where
-      whole : scanRule t ≡ ruleNodes (heading c n) (scanNodes n 0 (drop (end + 1) t))
-      whole = rule-step t (heading c n) (after newline t) (head .is) ∙ ap (λ (j : ℕ). ruleNodes (heading c n) (scanNodes n 0 (drop (j + 1) t))) (sym is)
+    module _ (v : Stopped) (o′ : List ℕ) (m : LinesScanned (scanNodes n 0 (drop (l .next) t)) t o v o′) where
+      whole : scanRule t ≡ ruleNodes (heading c n) (scanNodes n 0 (drop (l .next) t))
+      whole = rule-step t (heading c n) (restOf t) (head .is) ∙ ap (λ (u : List ℕ). ruleNodes (heading c n) (scanNodes n 0 u)) (sym (is .rest))
 
-      counted : Counted n (scanNodes n 0 (drop (end + 1) t))
-      counted = nodes-counted n 0 (drop (end + 1) t)
+      counted : Counted n (scanNodes n 0 (drop (l .next) t))
+      counted = nodes-counted n 0 (drop (l .next) t)
 
       rest-is : drop (v .at) t ≡ (scanRule t) .rest
       rest-is = m .rest ∙ sym (ap (λ (q : RuleScan). q .rest) whole)
@@ -101,7 +102,7 @@ module _ (t o : List ℕ) (end : ℕ) (is : end ≡ before newline t) (r : Headi
         few = head .few;
         nodesLaid = rw whole (m .words);
         nodesCount = λ q. ap (λ (x : RuleScan). length (x .words)) whole ∙ counted .all (sym (m .number) ∙ q);
-        nodesPast = laid-past maxRuleNodes (scanNodes n 0 (drop (end + 1) t) .words) o o′ (omega (arith, counted .most, head .few)) (m .words);
+        nodesPast = laid-past maxRuleNodes (scanNodes n 0 (drop (l .next) t) .words) o o′ (omega (arith, counted .most, head .few)) (m .words);
       }
 
 pub ruleset scan-laws = (needs, rule-unheaded, rule-room, rule-scanned)

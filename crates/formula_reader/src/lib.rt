@@ -5,7 +5,6 @@ ghost use lib.ListN.{drop};
 ghost use Rattle.definitions.specs.RuleText.{scanNodes};
 ghost use Rattle.lines.specs.Reading.{LinesScanned};
 ghost use Rattle.formula_reader.specs.Reading.{Room, NodeRoom, RuleScanned, ReadRule};
-use fields::scan;
 use formula_lines::heading::HeadingRead;
 use formula_lines::heading::next_heading;
 use formula_lines::node::NodeRead;
@@ -14,6 +13,7 @@ use formulas::choice;
 use formulas::limits::Limits;
 use formulas::limits::Refusal;
 use lines::next::Stopped;
+use lines::next::first_line;
 
 // What a rule text gave: the refusal or 0, controller and count, and the place of the refused line.
 pub struct Scanned {
@@ -38,11 +38,11 @@ fn scan_nodes(text: &[u8], start: usize, count: usize, nodes: &mut [u32]) -> Sto
     let mut i = 0;
     while i < count {
         let t = &text[at..];
-        let end = scan::until_byte(t, scan::NEWLINE);
-        match next_node(i, t, end) {
+        let line = first_line(t);
+        match next_node(i, t, line.len) {
             NodeRead::Word(word) => {
                 nodes[i] = word;
-                at = at + end + 1;
+                at = at + line.next;
                 i += 1;
             }
             NodeRead::Refused(number) => {
@@ -71,10 +71,10 @@ pub fn scan_rule(text: &[u8], nodes: &mut [u32]) -> Scanned
     requires { ⌜ Room (now nodes) ⌝ }
     ensures { λ r. ⌜ RuleScanned (now (text .entry)) (now (nodes .entry)) r (now (nodes .exit)) ⌝ }
 {
-    let end = scan::until_byte(text, scan::NEWLINE);
-    match next_heading(text, end) {
+    let line = first_line(text);
+    match next_heading(text, line.len) {
         HeadingRead::Heading(controller, count) => {
-            let stopped = scan_nodes(text, end + 1, count, nodes);
+            let stopped = scan_nodes(text, line.next, count, nodes);
             Scanned {
                 number: stopped.number,
                 controller: controller,

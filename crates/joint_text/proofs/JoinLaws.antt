@@ -13,7 +13,7 @@ use borrow.Author.Needs.{needs}
 use borrow.Author.Tests.{ne-eqb, lt-ltb, le-ltb, ltb-false, eqb-true, eqb-false}
 use Rattle.definitions.specs.Limits.{lentShort, noController, maxRuleNodes, maxControllers, maxStates}
 use Rattle.definitions.specs.Bounded.{pick}
-use Rattle.definitions.specs.Lines.{newline, before}
+use Rattle.definitions.specs.Lines.{lineLength}
 use Rattle.definitions.specs.RuleText.{scanRule}
 use Rattle.definitions.specs.Recordings.{controllerRefusal}
 use Rattle.definitions.specs.RecordingText.{scanRecording, lineIn, jointNumber, jointPart}
@@ -22,7 +22,9 @@ use Rattle.theorems.proofs.Choice.{by-test, both-false}
 use Rattle.lent.specs.Space.{laid, cleared}
 use Rattle.lent.proofs.LeftLaws.{laid-begins, left-untouched, left-zeroed, left-filled}
 use Rattle.fields.proofs.PartLaws.{part-to-end}
-use Rattle.fields.proofs.ScanLaws.{before-le}
+use Rattle.lines.specs.Reading.{FirstLine}
+use Rattle.lines.specs.declared.next.Line.{Line}
+use Rattle.lines.proofs.NextLaws.{length-le}
 use Rattle.formula_reader.specs.Reading.{RuleScanned}
 use Rattle.formula_reader.specs.declared.Scanned as ruled
 use Rattle.trace_reader.specs.Reading.{RecordingScanned}
@@ -35,9 +37,9 @@ use Rattle.joint_text.specs.declared.joint.Found.{Found}
 pub part-reads : (s : List ℕ) (from count : ℕ) → take (from + count - from) (drop from s) ≡ take count (drop from s)
 part-reads s from count = let e : from + count - from ≡ count = omega arith in rw e
 
-pub refused-line : (number at k : ℕ) (z : Bool) (s : List ℕ) → k ≡ before newline (take (length s - at) (drop at s))
-    → record { number = number; controller = 0; count = 0; controllers = 0; states = 0; «of_rule» = z; from = at; len = k } ≡ refusedAt number z at (before newline (drop at s))
-refused-line number at k z s e = ap (refusedAt number z at) (e ∙ ap (before newline) (part-to-end s at))
+pub refused-line : (number at : ℕ) (l : Line) (z : Bool) (s : List ℕ) → FirstLine (take (length s - at) (drop at s)) l
+    → record { number = number; controller = 0; count = 0; controllers = 0; states = 0; «of_rule» = z; from = at; len = l .len } ≡ refusedAt number z at (lineLength (drop at s))
+refused-line number at l z s e = ap (refusedAt number z at) (e .length-is ∙ ap lineLength (part-to-end s at))
 
 pub ruleset part-laws = (needs, part-reads, refused-line)
 
@@ -114,12 +116,12 @@ module _ (rule recording : List ℕ) where
   refused-values n z = rw (ne-eqb n 0 z)
 
 -- the line that begins at a place of a text lies in it
-line-inside : (t : List ℕ) (at : ℕ) → at ≤ length t → at + before newline (drop at t) ≤ length t
-line-inside t at h = omega (arith, before-le newline (drop at t), length-drop at t)
+line-inside : (t : List ℕ) (at : ℕ) → at ≤ length t → at + lineLength (drop at t) ≤ length t
+line-inside t at h = omega (arith, length-le (drop at t), length-drop at t)
 
 -- ---- `scan_joint`
 module _ (rule recording nodes masks states nodes′ : List ℕ) (u : ruled.Scanned) (s : RuleScanned rule nodes u nodes′) where
-  pub rule-refused : (f : Found) → (u .number ≡ 0 → ⊥) → f ≡ refusedAt (u .number) true (u .«rest_at») (before newline (drop (u .«rest_at») rule))
+  pub rule-refused : (f : Found) → (u .number ≡ 0 → ⊥) → f ≡ refusedAt (u .number) true (u .«rest_at») (lineLength (drop (u .«rest_at») rule))
       → JointScanned rule recording nodes masks states f nodes′ masks states
   unfolding pick
   rule-refused f z e =
@@ -141,7 +143,7 @@ module _ (rule recording nodes masks states nodes′ : List ℕ) (u : ruled.Scan
     ruled-number = sym (s .number) ∙ a
 
     module _ (masks′ states′ : List ℕ) (v : recorded.Scanned) (t : RecordingScanned recording masks states v masks′ states′) where
-      pub recording-refused : (f : Found) → (v .number ≡ 0 → ⊥) → f ≡ refusedAt (v .number) false (v .«rest_at») (before newline (drop (v .«rest_at») recording))
+      pub recording-refused : (f : Found) → (v .number ≡ 0 → ⊥) → f ≡ refusedAt (v .number) false (v .«rest_at») (lineLength (drop (v .«rest_at») recording))
           → JointScanned rule recording nodes masks states f nodes′ masks′ states′
       unfolding pick
       recording-refused f z e =
@@ -162,13 +164,13 @@ module _ (rule recording nodes masks states nodes′ : List ℕ) (u : ruled.Scan
         recorded-number : (scanRecording recording) .number ≡ 0
         recorded-number = sym (t .number) ∙ b
 
-        pub joining-refused : (f : Found) → v .controllers ≤ u .controller → f ≡ refusedAt 11 true 0 (before newline rule)
+        pub joining-refused : (f : Found) → v .controllers ≤ u .controller → f ≡ refusedAt 11 true 0 (lineLength rule)
             → JointScanned rule recording nodes masks states f nodes′ masks′ states′
         unfolding pick
         joining-refused f h e =
             let l : (scanRecording recording) .controllers ≤ (scanRule rule) .controller = omega (arith, s .controller, t .controllers) in
             let o : length rule - length rule ≡ 0 = omega arith in
-            let p : lineIn true rule rule ≡ record { ofRule = true; from = 0; count = before newline rule } = rw o in
+            let p : lineIn true rule rule ≡ record { ofRule = true; from = 0; count = lineLength rule } = rw o in
             let z : _≡_ {A = ℕ} 11 0 → ⊥ = λ q. omega arith in
             rw e
             (record {
@@ -176,7 +178,7 @@ module _ (rule recording nodes masks states nodes′ : List ℕ) (u : ruled.Scan
               low = omega arith;
               values = refused-values rule recording 11 z;
               part = sym p ∙ sym (joining-part rule recording ruled-number recorded-number l);
-              inside = omega (arith, before-le newline rule);
+              inside = omega (arith, length-le rule);
               nodesHeld = held-refused maxRuleNodes 11 ((scanRule rule) .words) nodes nodes′ z (s .nodesPast);
               masksHeld = held-refused maxControllers 11 ((scanRecording recording) .masks) masks masks′ z (t .masksPast);
               statesHeld = held-refused maxStates 11 ((scanRecording recording) .states) states states′ z (t .statesPast);
@@ -190,7 +192,7 @@ module _ (rule recording nodes masks states nodes′ : List ℕ) (u : ruled.Scan
           end-part =
               let r = recording-end recording recorded-number in
               let o : length recording - length ((scanRecording recording) .rest) ≡ length recording = omega arith in
-              let c : before newline ((scanRecording recording) .rest) ≡ 0 = omega (arith, before-le newline ((scanRecording recording) .rest)) in
+              let c : lineLength ((scanRecording recording) .rest) ≡ 0 = omega (arith, length-le ((scanRecording recording) .rest)) in
               rw (o, c)
 
           accepted-values : _≡_ {A = List ℕ} (u .controller ∷ u .count ∷ v .controllers ∷ v .count ∷ []) (jointValues 0 rule recording)
@@ -277,8 +279,8 @@ module _ (rule recording nodes masks states : List ℕ) (short : Bool) (is : sho
   unfolding readJointNumber isShort pick
   short-number = rw (sym is ∙ e)
 
-  pub join-short : (f : Found) → f ≡ refusedAt 13 true 0 (before newline []) → Joined rule recording nodes masks states f nodes masks states
-  unfolding readJointHeading readJointPart readJointNodes readJointMasks readJointStates before pick
+  pub join-short : (f : Found) → f ≡ refusedAt 13 true 0 (lineLength []) → Joined rule recording nodes masks states f nodes masks states
+  unfolding readJointHeading readJointPart readJointNodes readJointMasks readJointStates lineLength pick
   join-short f w =
       let n = short-number in
       rw w

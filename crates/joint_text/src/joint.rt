@@ -2,12 +2,12 @@
 ghost use mathlib.Core.Path.{_≡_};
 ghost use Prim.Native.Nat.{_≤_, _+_};
 ghost use lib.ListN.{length, drop};
-ghost use Rattle.definitions.specs.Lines.{newline, before};
+ghost use Rattle.definitions.specs.Lines.{lineLength};
 ghost use Rattle.joint_text.specs.Joining.{IsPart, Room, isShort, Clearable, Cleared, refusedAt, JointScanned, Joined, ReadJoint};
-use fields::scan;
 use formula_reader::scan_rule;
 use formulas::limits::Limits;
 use formulas::limits::Refusal;
+use lines::next::first_line;
 use trace_reader::scan_recording;
 
 // The number and, accepted, controller, node count, C and N; and the part handed back: of which text, from where, how long.
@@ -39,12 +39,12 @@ fn clear_past(
     lent::clear_u64(states, length, Limits::STATES);
 }
 
-// A refusal with the line that begins at `at`.
+// A refusal with the line that begins at `at`, without its ending.
 fn refused_at(number: u8, of_rule: bool, text: &[u8], at: usize) -> Found
     requires { ⌜ at ≤ length (now text) ⌝ }
-    ensures { λ r. ⌜ r ≡ refusedAt number «of_rule» at (before newline (drop at (now (text .entry)))) ⌝ }
+    ensures { λ r. ⌜ r ≡ refusedAt number «of_rule» at (lineLength (drop at (now (text .entry)))) ⌝ }
 {
-    let len = scan::until_byte(&text[at..], scan::NEWLINE);
+    let line = first_line(&text[at..]);
     Found {
         number: number,
         controller: 0,
@@ -53,7 +53,7 @@ fn refused_at(number: u8, of_rule: bool, text: &[u8], at: usize) -> Found
         states: 0,
         of_rule: of_rule,
         from: at,
-        len: len,
+        len: line.len,
     }
 }
 

@@ -3,7 +3,7 @@ use mathlib.Core.Path.{_≡_, ap, sym, _∙_}
 use mathlib.Core.Bool.{true}
 use mathlib.Core.List.{List}
 use Prim.Native.Nat.{ℕ}
-use Rattle.definitions.specs.Lines.{newline, has, upTo, after, formed, Heading, heading, headingForm, refused, read, nextLine}
+use Rattle.definitions.specs.Lines.{isClosed, lineOf, restOf, formed, Heading, heading, headingForm, refused, read, nextLine}
 use Rattle.theorems.proofs.NextLines.{next-malformed, next-denied, next-read}
 use Rattle.fields.specs.Fields.{cap}
 use Rattle.lines.specs.Forms.{cappedPair}
@@ -17,13 +17,13 @@ pub record CapCheck (check : ℕ → ℕ → ℕ) : Type 0 where
   pub first : (a b : ℕ) → check (cap a) (cap b) ≡ 0 → cap a ≡ a
   pub second : (a b : ℕ) → check (cap a) (cap b) ≡ 0 → cap b ≡ b
 
-module _ (missing unformed : ℕ) (word : List ℕ) (check : ℕ → ℕ → ℕ) (caps : CapCheck check) (t : List ℕ) (closed : has newline t ≡ true) (r : Pair) (rs : r ≡ cappedPair (headingForm word (upTo newline t))) where
+module _ (missing unformed : ℕ) (word : List ℕ) (check : ℕ → ℕ → ℕ) (caps : CapCheck check) (t : List ℕ) (closed : isClosed t ≡ true) (r : Pair) (rs : r ≡ cappedPair (headingForm word (lineOf t))) where
   pub first-malformed : r ≡ pair.Malformed → nextLine missing unformed (headingForm word) (λ h. check (h .first) (h .second)) t ≡ refused unformed
-  first-malformed x = next-malformed missing unformed (headingForm word) _ t closed (pair-malformed (headingForm word (upTo newline t)) r rs x)
+  first-malformed x = next-malformed missing unformed (headingForm word) _ t closed (pair-malformed (headingForm word (lineOf t)) r rs x)
 
   module _ (a b : ℕ) (x : r ≡ pair.Numbers a b) where
-    two : PairRead (headingForm word (upTo newline t)) a b
-    two = pair-read (headingForm word (upTo newline t)) r a b rs x
+    two : PairRead (headingForm word (lineOf t)) a b
+    two = pair-read (headingForm word (lineOf t)) r a b rs x
 
     checked : (h : Heading) → a ≡ cap (h .first) → b ≡ cap (h .second) → check (h .first) (h .second) ≡ check a b
     checked h p q = sym (caps .same (h .first) (h .second)) ∙ rw (p, q)
@@ -40,7 +40,7 @@ module _ (missing unformed : ℕ) (word : List ℕ) (check : ℕ → ℕ → ℕ
     first-denied k e z =
         next-denied missing unformed (headingForm word) _ t closed (two .value) (two .is) k (checked (two .value) (two .first) (two .second) ∙ e) z
 
-    pub first-read : check a b ≡ 0 → nextLine missing unformed (headingForm word) (λ h. check (h .first) (h .second)) t ≡ read (heading a b) (after newline t)
+    pub first-read : check a b ≡ 0 → nextLine missing unformed (headingForm word) (λ h. check (h .first) (h .second)) t ≡ read (heading a b) (restOf t)
     first-read z =
         next-read missing unformed (headingForm word) (λ h. check (h .first) (h .second)) t closed (heading a b)
         (two .is ∙ ap formed (exactly (two .value) (two .first) (two .second) z)) z

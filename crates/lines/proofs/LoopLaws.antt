@@ -1,16 +1,15 @@
 -- Laws of a loop over lines: what each line gave is laid over lent space, and what is left to read is left in the text.
 use mathlib.Core.Path.{_≡_, refl, ap, sym, _∙_}
-use mathlib.Core.Bool.{true}
 use mathlib.Core.List.{List, [], _∷_, _++_, append-assoc, append-nil}
 use Prim.Native.Nat.{ℕ, suc, _+_, _<_, _≤_}
 use native.Mathlib.Omega.{arith}
 use native.Mathlib.Numerals.{add-one}
 use lib.ListN.{length, take, drop, set, take-append-drop, length-set, length-drop}
 use lib.Seq.{take-suc-set, drop-set-lt, drop-drop, length-take-le}
-use borrow.Author.Tests.{ltb-true}
 use Rattle.definitions.specs.Limits.{noController}
-use Rattle.definitions.specs.Lines.{newline, before, has, after, Scan, stop, more}
-use Rattle.lines.specs.Reading.{LinesScanned}
+use Rattle.definitions.specs.Lines.{restOf, Scan, stop, more}
+use Rattle.lines.specs.Reading.{FirstLine, LinesScanned}
+use Rattle.lines.specs.declared.next.Line.{Line}
 
 -- a list that is laid from the front: `total` is what is laid so far and what is left
 pub record Fills (total o o′ : List ℕ) (n : ℕ) (left : List ℕ) : Type 0 where
@@ -66,16 +65,14 @@ module _ (total : Scan) (text o o′ : List ℕ) (at n : ℕ) (left : Scan) (inv
         rest = inv .rest ∙ ap (λ (s : Scan). s .rest) e;
       }
 
-module _ (text : List ℕ) (at end : ℕ) (is : end ≡ before newline (drop at text)) where
-  -- the text after the line that ends at `end`
-  pub after-line : after newline (drop at text) ≡ drop (at + end + 1) text
-  after-line =
-      let e : at + (end + 1) ≡ at + end + 1 = omega arith in
-      rw (← is) (drop-drop (end + 1) at text ∙ ap (λ (j : ℕ). drop j text) e)
+module _ (text : List ℕ) (at : ℕ) (l : Line) (is : FirstLine (drop at text) l) where
+  -- the text after the line that begins at `at`
+  pub after-line : restOf (drop at text) ≡ drop (at + l .next) text
+  after-line = sym (is .rest) ∙ drop-drop (l .next) at text
 
-  -- a closed line ends in the text
-  pub line-inside : at ≤ length text → has newline (drop at text) ≡ true → at + end + 1 ≤ length text
-  line-inside h c = omega (arith, ltb-true (before newline (drop at text)) (length (drop at text)) c, length-drop at text)
+  -- it begins in the text
+  pub line-inside : at ≤ length text → at + l .next ≤ length text
+  line-inside h = omega (arith, is .inside, length-drop at text)
 
 -- so many lines were asked for: no more words are read, as many if the reading is accepted, and no refusal is that of joining
 pub record Counted (lines : ℕ) (s : Scan) : Type 0 where

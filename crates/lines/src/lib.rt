@@ -1,4 +1,4 @@
-// Lines of texts: the forms that their fields have, how the next line ends, and loops over lines.
+// Lines of texts: the one function that finds the first line and what is after it, the forms that the fields of a line have, and loops over lines.
 // Nothing here knows what a line means.
 pub mod form;
 pub mod next;

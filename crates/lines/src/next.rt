@@ -1,7 +1,14 @@
-// The next line of a text, and how a reading of lines ends.
+// The next line of a text: where it ends, how it is refused for that, and how a reading of lines ends.
 ghost use mathlib.Core.Path.{_≡_};
-ghost use Rattle.definitions.specs.Lines.{newline, before};
-ghost use Rattle.lines.specs.Reading.{endRefusal};
+ghost use Rattle.definitions.specs.Lines.{lineLength};
+ghost use Rattle.lines.specs.Reading.{Ending, FirstLine, endRefusal};
+use fields::scan;
+
+// The first line of a text: how many bytes it has without its ending, and where the text after its ending begins.
+pub struct Line {
+    pub len: usize,
+    pub next: usize,
+}
 
 // How a reading of lines ended: the refusal or 0, and the place of the line that it ended at.
 pub struct Stopped {
@@ -9,15 +16,46 @@ pub struct Stopped {
     pub at: usize,
 }
 
-// The refusal of the next line for how it ends, 0 where it is closed; `end` bytes stand before its newline.
-pub fn end_refusal(t: &[u8], end: usize, missing: u8, unclosed: u8) -> u8
-    requires { ⌜ end ≡ before newline (now t) ⌝ }
+// How many bytes the first line has, closed by the newline at `end`: a carriage return right before that is of its ending.
+fn before_ending(t: &[u8], end: usize) -> usize
+    requires { ⌜ Ending (now t) end ⌝ }
+    ensures { λ r. ⌜ r ≡ lineLength (now (t .entry)) ⌝ }
+{
+    if end == 0 {
+        return end;
+    }
+    if t[end - 1] == scan::CARRIAGE_RETURN {
+        return end - 1;
+    }
+    end
+}
+
+// The first line, which ends in a newline or in a carriage return and a newline; unclosed, it is all of the text.
+pub fn first_line(t: &[u8]) -> Line
+    ensures { λ r. ⌜ FirstLine (now (t .entry)) r ⌝ }
+{
+    let end = scan::until_byte(t, scan::NEWLINE);
+    if end == t.len() {
+        return Line {
+            len: end,
+            next: end,
+        };
+    }
+    Line {
+        len: before_ending(t, end),
+        next: end + 1,
+    }
+}
+
+// The refusal of the next line, of `len` bytes, for how it ends; 0 where it is closed.
+pub fn end_refusal(t: &[u8], len: usize, missing: u8, unclosed: u8) -> u8
+    requires { ⌜ len ≡ lineLength (now t) ⌝ }
     ensures { λ r. ⌜ r ≡ endRefusal missing unclosed (now (t .entry)) ⌝ }
 {
     if t.len() == 0 {
         return missing;
     }
-    if end < t.len() {
+    if len < t.len() {
         return 0;
     }
     unclosed

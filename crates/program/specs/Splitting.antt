@@ -6,11 +6,6 @@ use lib.ListN.{length, take, drop}
 use Rattle.definitions.specs.Program.{ruleIn, recordingIn}
 use Rattle.program.specs.declared.split.Parts.{Parts}
 
--- a line of the input lies from `at` to `end`
-pub record Line (at end : ℕ) (input : List ℕ) : Type 0 where
-  pub ordered : at ≤ end
-  pub inside : end ≤ length input
-
 -- the two texts of the input, as its parts
 pub record SplitAt (input : List ℕ) (s : Parts) : Type 0 where
   pub ruleInside : s .«rule_end» ≤ length input

@@ -1,11 +1,11 @@
 // The input, split at its first line `-`.
 ghost use mathlib.Core.Path.{_≡_};
-ghost use Prim.Native.Nat.{_-_};
-ghost use lib.ListN.{length, take, drop};
-ghost use Rattle.definitions.specs.Lines.{same};
+ghost use lib.ListN.{length};
+ghost use Rattle.definitions.specs.Lines.{lineLength, lineOf, same};
 ghost use Rattle.definitions.specs.Program.{splitLine, ruleLength};
-ghost use Rattle.program.specs.Splitting.{Line, SplitAt};
+ghost use Rattle.program.specs.Splitting.{SplitAt};
 use fields::scan;
+use lines::next::first_line;
 
 // Where the rule text ends and where the recording text begins.
 pub struct Parts {
@@ -13,12 +13,12 @@ pub struct Parts {
     pub recording_at: usize,
 }
 
-// Whether the line from `at` to `end` is `-`.
-fn is_split(input: &[u8], at: usize, end: usize) -> bool
-    requires { ⌜ Line at end (now input) ⌝ }
-    ensures { λ r. ⌜ r ≡ same (take (end - at) (drop at (now (input .entry)))) splitLine ⌝ }
+// Whether the first line of `t`, of `len` bytes, is `-`.
+fn is_split(t: &[u8], len: usize) -> bool
+    requires { ⌜ len ≡ lineLength (now t) ⌝ }
+    ensures { λ r. ⌜ r ≡ same (lineOf (now (t .entry))) splitLine ⌝ }
 {
-    scan::same(&input[at..end], b"-")
+    scan::same(&t[..len], b"-")
 }
 
 // How many bytes stand before the first closed line `-`: all of them where there is none.
@@ -27,14 +27,15 @@ fn rule_length(input: &[u8]) -> usize
 {
     let mut at = 0;
     while at < input.len() {
-        let end = at + scan::until_byte(&input[at..], scan::NEWLINE);
-        if end == input.len() {
-            return end;
+        let t = &input[at..];
+        let line = first_line(t);
+        if line.len == t.len() {
+            return input.len();
         }
-        if is_split(input, at, end) {
+        if is_split(t, line.len) {
             return at;
         }
-        at = end + 1;
+        at = at + line.next;
     }
     at
 }
@@ -44,14 +45,9 @@ pub fn split(input: &[u8]) -> Parts
     ensures { λ r. ⌜ SplitAt (now (input .entry)) r ⌝ }
 {
     let rule_end = rule_length(input);
-    if rule_end == input.len() {
-        return Parts {
-            rule_end: rule_end,
-            recording_at: rule_end,
-        };
-    }
+    let line = first_line(&input[rule_end..]);
     Parts {
         rule_end: rule_end,
-        recording_at: rule_end + 2,
+        recording_at: rule_end + line.next,
     }
 }

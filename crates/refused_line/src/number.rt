@@ -1,24 +1,18 @@
 // The number of a line in its text.
 ghost use mathlib.Core.Path.{_≡_};
-ghost use Rattle.refused_line.specs.Numbering.{closes, Newlines, lineNumber, LineStart};
-use fields::scan;
+ghost use Rattle.refused_line.specs.Numbering.{LinesCounted, lineNumber, LineStart};
+use lines::next::first_line;
 
-// 1 for byte 10, 0 for any other.
-fn newline(b: u8) -> usize
-    ensures { λ r. ⌜ r ≡ closes b ⌝ }
-{
-    if b == scan::NEWLINE { 1 } else { 0 }
-}
-
-// How many bytes 10 there are.
-fn newlines(text: &[u8]) -> usize
-    ensures { λ r. ⌜ Newlines (now (text .entry)) r ⌝ }
+// How many lines a text has, the last one closed or not.
+fn line_count(text: &[u8]) -> usize
+    ensures { λ r. ⌜ LinesCounted (now (text .entry)) r ⌝ }
 {
     let mut count = 0;
-    let mut i = 0;
-    while i < text.len() {
-        count += newline(text[i]);
-        i += 1;
+    let mut at = 0;
+    while at < text.len() {
+        let line = first_line(&text[at..]);
+        at = at + line.next;
+        count += 1;
     }
     count
 }
@@ -28,5 +22,5 @@ pub fn line_number(text: &[u8], from: usize) -> u32
     requires { ⌜ LineStart from (now text) ⌝ }
     ensures { λ r. ⌜ r ≡ lineNumber from (now (text .entry)) ⌝ }
 {
-    newlines(&text[..from]) as u32 + 1
+    line_count(&text[..from]) as u32 + 1
 }

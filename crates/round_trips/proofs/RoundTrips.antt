@@ -1,6 +1,6 @@
--- The contracts of `read_rule` and `write_rule` undo each other: an accepted text that is read and written is the same bytes again,
+-- The contracts of `read_rule` and `write_rule` undo each other: an accepted text that is read and written is the same with byte 10 at each line,
 -- and a written table that is read is that table again.
-use mathlib.Core.Path.{_≡_, refl, ap, sym, _∙_}
+use mathlib.Core.Path.{_≡_, refl, ap, sym, subst, _∙_}
 use mathlib.Core.List.{List, [], _∷_, _++_}
 use Prim.Native.Nat.{ℕ, _-_, _≤_}
 use native.Mathlib.Omega.{arith}
@@ -9,9 +9,12 @@ use lib.Seq.{take-at}
 use Rattle.definitions.specs.Limits.{maxRuleNodes, maxRuleBytes}
 use Rattle.definitions.specs.Bounded.{pick}
 use Rattle.definitions.specs.Tables.{Rule, ruleOf}
+use Rattle.definitions.specs.Lines.{carriageReturn, withNewlines}
 use Rattle.definitions.specs.RuleText.{scanRule}
 use Rattle.definitions.specs.Operations.{Answer, answer, textOf, readRuleNumber, readRuleAnswer, readRuleNodes, writeRuleNumber, writeRuleAnswer, writeRuleText}
 use Rattle.theorems.proofs.LentSpace.{left-accepted}
+use Rattle.theorems.proofs.SplitLaws.{Without}
+use Rattle.theorems.proofs.EndingLaws.{plain-same}
 use Rattle.theorems.proofs.RoundTrips as theorem
 use Rattle.formula_reader.specs.Reading.{readAnswer, ReadRule}
 use Rattle.formula_writer.specs.Writing.{writeAnswer, WroteRule}
@@ -71,16 +74,22 @@ table-of text nodes nodes′ c n r =
           ∙ ap (ruleOf ((scanRule text) .controller) ((scanRule text) .count)) (r .nodes));
     }
 
--- "an accepted text is written back byte for byte"
+-- "an accepted rule text with other endings comes back with byte 10 at each line and otherwise unchanged"
 pub text-back : (text nodes nodes′ buffer buffer′ : List ℕ) (c n : ℕ) (w : RuleWritten) → ReadRule text nodes (read.Rule c n) nodes′
-    → maxRuleBytes ≤ length buffer → WroteRule (ruleOf c n nodes′) buffer w buffer′ → TextBack text buffer w buffer′
+    → maxRuleBytes ≤ length buffer → WroteRule (ruleOf c n nodes′) buffer w buffer′ → TextBack (withNewlines text) buffer w buffer′
 text-back text nodes nodes′ buffer buffer′ c n w r h s =
     let t = table-of text nodes nodes′ c n r in
     let b = theorem.accepted-text-comes-back text nodes buffer (t .fine) h in
     record {
-      length-is = is-length w (length text) (s .answered ∙ (ap (λ (x : Rule). writeRuleAnswer x buffer) (t .table) ∙ b .answered));
+      length-is = is-length w (length (withNewlines text)) (s .answered ∙ (ap (λ (x : Rule). writeRuleAnswer x buffer) (t .table) ∙ b .answered));
       holds = s .text ∙ (ap (λ (x : Rule). writeRuleText x buffer) (t .table) ∙ b .holds);
     }
+
+-- "an accepted text is written back byte for byte", where it has no byte 13
+pub plain-text-back : (text nodes nodes′ buffer buffer′ : List ℕ) (c n : ℕ) (w : RuleWritten) → Without carriageReturn text → ReadRule text nodes (read.Rule c n) nodes′
+    → maxRuleBytes ≤ length buffer → WroteRule (ruleOf c n nodes′) buffer w buffer′ → TextBack text buffer w buffer′
+plain-text-back text nodes nodes′ buffer buffer′ c n w p r h s =
+    subst (λ (t : List ℕ). TextBack t buffer w buffer′) (plain-same text p) (text-back text nodes nodes′ buffer buffer′ c n w r h s)
 
 -- a table is handed back: its controller and count are answered, lent space holds its nodes, then zeros, then what was lent past its full size
 pub record TableBack (c n : ℕ) (ws nodes : List ℕ) (r : RuleRead) (nodes′ : List ℕ) : Type 0 where

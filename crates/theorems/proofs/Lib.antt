@@ -22,6 +22,7 @@ pub mod LastMarks
 pub mod ProjectionLaws
 pub mod ScheduleIndependence
 pub mod SplitLaws
+pub mod EndingLaws
 pub mod DecimalLaws
 pub mod WordLaws
 pub mod FieldLaws
@@ -30,6 +31,11 @@ pub mod RuleTextSteps
 pub mod RuleTextBack
 pub mod RuleTextForth
 pub mod RoundTrips
+pub mod TextEnds
+pub mod EndingReadings
+pub mod AcceptedEndings
+pub mod InputSplit
+pub mod ProgramEndings
 pub mod Phrases
 pub mod PhraseUnique
 pub mod SentenceTrees

@@ -9,9 +9,10 @@ use native.Mathlib.Omega.{arith}
 use borrow.Author.Tests.{eq-eqb, ne-eqb, eqb-true, eqb-false, ltb-true}
 use Rattle.definitions.specs.Limits.{accepted}
 use Rattle.definitions.specs.Bounded.{pick}
-use Rattle.definitions.specs.Lines.{newline, before, isEmpty, has, upTo, after, Parsed, formed, malformed, onParsed, NextLine, refused, read, onNext, nextLine}
+use Rattle.definitions.specs.Lines.{newline, before, isEmpty, isClosed, lineOf, restOf, Parsed, formed, malformed, onParsed, NextLine, refused, read, onNext, nextLine}
 use Rattle.theorems.proofs.Choice.{by-test}
-use Rattle.theorems.proofs.SplitLaws.{Without, split-front, split-rest, split-found}
+use Rattle.theorems.proofs.SplitLaws.{split-rest, split-found}
+use Rattle.theorems.proofs.EndingLaws.{Unbroken, line-split}
 
 -- by the cases of the next line, with which it is
 pub by-next : {A P : Type 0} (n : NextLine A) → ((number : ℕ) → n ≡ refused number → P) → ((a : A) (rest : List ℕ) → n ≡ read a rest → P) → P
@@ -33,47 +34,47 @@ by-form malformed f g = g refl
 
 -- what a line is that was read: closed, of its form, not refused; what is left is the text after it
 pub record ReadAs {A : Type 0} (form : List ℕ → Parsed A) (check : A → ℕ) (t : List ℕ) (a : A) (rest : List ℕ) : Type 0 where
-  pub closed : has newline t ≡ true
-  pub is : form (upTo newline t) ≡ formed a
+  pub closed : isClosed t ≡ true
+  pub is : form (lineOf t) ≡ formed a
   pub fine : check a ≡ accepted
-  pub left : rest ≡ after newline t
+  pub left : rest ≡ restOf t
 
 module _ {A : Type 0} (missing unformed : ℕ) (form : List ℕ → Parsed A) (check : A → ℕ) (t : List ℕ) where
   pub next-missing : length t ≡ 0 → nextLine missing unformed form check t ≡ refused missing
   unfolding nextLine pick
   next-missing e = rw (eq-eqb (length t) 0 e)
 
-  pub next-open : (length t ≡ 0 → ⊥) → has newline t ≡ false → nextLine missing unformed form check t ≡ refused unformed
+  pub next-open : (length t ≡ 0 → ⊥) → isClosed t ≡ false → nextLine missing unformed form check t ≡ refused unformed
   unfolding nextLine pick
   next-open z h = rw (ne-eqb (length t) 0 z, h)
 
-  module _ (h : has newline t ≡ true) where
+  module _ (h : isClosed t ≡ true) where
     some : isEmpty t ≡ false
     some = ne-eqb (length t) 0 (λ q. omega (arith, ltb-true (before newline t) (length t) h))
 
-    pub next-malformed : form (upTo newline t) ≡ malformed → nextLine missing unformed form check t ≡ refused unformed
+    pub next-malformed : form (lineOf t) ≡ malformed → nextLine missing unformed form check t ≡ refused unformed
     unfolding nextLine pick onParsed
     next-malformed f = rw (some, h, f)
 
-    module _ (a : A) (f : form (upTo newline t) ≡ formed a) where
+    module _ (a : A) (f : form (lineOf t) ≡ formed a) where
       pub next-denied : (k : ℕ) → check a ≡ k → (k ≡ 0 → ⊥) → nextLine missing unformed form check t ≡ refused k
       unfolding nextLine pick onParsed
       next-denied k e z = rw (some, h, f, e, ne-eqb k 0 z)
 
-      pub next-read : check a ≡ 0 → nextLine missing unformed form check t ≡ read a (after newline t)
+      pub next-read : check a ≡ 0 → nextLine missing unformed form check t ≡ read a (restOf t)
       unfolding nextLine pick onParsed
       next-read e = rw (some, h, f, e)
 
   -- a law of the next line, from its case by each test
   pub by-tests : (P : NextLine A → Type 0) → P (refused missing) → P (refused unformed)
       → ((a : A) → (check a ≡ 0 → ⊥) → P (refused (check a)))
-      → ((a : A) → ReadAs form check t a (after newline t) → P (read a (after newline t)))
+      → ((a : A) → ReadAs form check t a (restOf t) → P (read a (restOf t)))
       → P (nextLine missing unformed form check t)
   by-tests P none other denied reads =
       by-test (eqb (length t) 0)
       (λ z. rw (next-missing (eqb-true (length t) 0 z)) none)
-      (λ z. by-test (has newline t)
-      (λ h. by-form (form (upTo newline t))
+      (λ z. by-test (isClosed t)
+      (λ h. by-form (form (lineOf t))
       (λ a f. by-test (eqb (check a) 0)
       (λ y. let e = eqb-true (check a) 0 y in rw (next-read h a f e) (reads a (record { closed = h; is = f; fine = e; left = refl })))
       (λ y. let n = eqb-false (check a) 0 y in rw (next-denied h a f (check a) refl n) (denied a n)))
@@ -88,7 +89,7 @@ module _ {A : Type 0} (missing unformed : ℕ) (form : List ℕ → Parsed A) (c
       (λ e. one-next a rest unformed (sym e))
       (λ b z e. one-next a rest (check b) (sym e))
       (λ b r e.
-      let q = same-read b a (after newline t) rest e in
+      let q = same-read b a (restOf t) rest e in
       record { closed = r .closed; is = r .is ∙ ap formed (q .0); fine = ap check (sym (q .0)) ∙ r .fine; left = sym (q .1) })
 
   -- what holds of both numbers and of every refusal of the check holds of the number of a refused line
@@ -99,19 +100,19 @@ module _ {A : Type 0} (missing unformed : ℕ) (form : List ℕ → Parsed A) (c
       (λ e. rw (← same-refused missing k e) none)
       (λ e. rw (← same-refused unformed k e) other)
       (λ a z e. rw (← same-refused (check a) k e) (denied a z))
-      (λ a r e. one-next a (after newline t) k e)
+      (λ a r e. one-next a (restOf t) k e)
 
   -- a refusal is not 0
   pub next-some : 0 < missing → 0 < unformed → (k : ℕ) → nextLine missing unformed form check t ≡ refused k → k ≡ 0 → ⊥
   next-some h j = next-number (λ k. k ≡ 0 → ⊥) (λ q. omega arith) (λ q. omega arith) (λ a z. z)
 
--- a line without byte 10 that is of its form and not refused is read, and then the rest
-pub next-forth : {A : Type 0} (missing unformed : ℕ) (form : List ℕ → Parsed A) (check : A → ℕ) (line rest : List ℕ) (a : A) → Without newline line
+-- a line without bytes 10 and 13 that is of its form and not refused is read, and then the rest
+pub next-forth : {A : Type 0} (missing unformed : ℕ) (form : List ℕ → Parsed A) (check : A → ℕ) (line rest : List ℕ) (a : A) → Unbroken line
     → form line ≡ formed a → check a ≡ 0 → nextLine missing unformed form check (line ++ (newline ∷ rest)) ≡ read a rest
 next-forth missing unformed form check line rest a w f e =
     let t = line ++ (newline ∷ rest) in
-    let g : form (upTo newline t) ≡ formed a = ap form (split-front newline rest line w) ∙ f in
-    next-read missing unformed form check t (split-found newline rest line w) a g e ∙ ap (read a) (split-rest newline rest line w)
+    let g : form (lineOf t) ≡ formed a = ap form (line-split line rest w) ∙ f in
+    next-read missing unformed form check t (split-found newline rest line (w .newlines)) a g e ∙ ap (read a) (split-rest newline rest line (w .newlines))
 
 -- a law of a reading that goes by the next line, from its case where the line is refused and where it is read
 pub on-next : {A B : Type 0} (P : B → Type 0) (n : NextLine A) (stops : ℕ → B) (goes : A → List ℕ → B)
@@ -137,7 +138,7 @@ pub same-check : {A : Type 0} (missing unformed : ℕ) (form : List ℕ → Pars
     → nextLine missing unformed form check t ≡ nextLine missing unformed form check′ t
 unfolding nextLine
 same-check missing unformed form check check′ t h =
-    let q = same-parsed (form (upTo newline t)) (refused unformed)
-    (λ a. pick (eqb (check a) accepted) (read a (after newline t)) (refused (check a)))
-    (λ a. pick (eqb (check′ a) accepted) (read a (after newline t)) (refused (check′ a))) (λ a. rw (h a)) in
+    let q = same-parsed (form (lineOf t)) (refused unformed)
+    (λ a. pick (eqb (check a) accepted) (read a (restOf t)) (refused (check a)))
+    (λ a. pick (eqb (check′ a) accepted) (read a (restOf t)) (refused (check′ a))) (λ a. rw (h a)) in
     rw q

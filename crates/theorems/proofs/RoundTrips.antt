@@ -10,13 +10,14 @@ use borrow.Author.Tests.{le-ltb}
 use Rattle.definitions.specs.Limits.{lentShort, maxControllers, maxRuleNodes, maxRuleBytes}
 use Rattle.definitions.specs.Bounded.{pick}
 use Rattle.definitions.specs.Tables.{Rule, nodesRefusal, ruleHeadingRefusal, ruleRefusal, ruleOf}
-use Rattle.definitions.specs.Lines.{newline, after}
+use Rattle.definitions.specs.Lines.{newline, carriageReturn, restOf, withNewlines}
 use Rattle.definitions.specs.RuleText.{RuleScan, scanRule, scanNodes, nodesText, ruleText}
 use Rattle.definitions.specs.Operations.{answer, tooShort, readRuleNumber, readRuleAnswer, readRuleNodes, textOf, writeRuleNumber, writeRuleAnswer, writeRuleText}
 use Rattle.theorems.proofs.Choice.{pick-other, pick-false}
 use Rattle.theorems.proofs.Inversions.{first-accepted}
 use Rattle.theorems.proofs.LentSpace.{left-accepted}
-use Rattle.theorems.proofs.SplitLaws.{join}
+use Rattle.theorems.proofs.SplitLaws.{Without}
+use Rattle.theorems.proofs.EndingLaws.{with-line, plain-same}
 use Rattle.theorems.proofs.NodeLaws.{accepted-heading, accepted-rule}
 use Rattle.theorems.proofs.RuleTextSteps.{headingText, rule-lines}
 use Rattle.theorems.proofs.RuleTextBack.{ReadNodes, nodes-back, FirstLine, first-line}
@@ -28,9 +29,9 @@ readRule t = ruleOf ((scanRule t) .controller) ((scanRule t) .count) ((scanRule 
 
 -- the rest of an accepted text is the text of its nodes
 read-nodes : (t : List ℕ) (f : FirstLine t) → (scanRule t) .number ≡ 0
-    → ReadNodes (f .heading .second) 0 (after newline t) ((scanNodes (f .heading .second) 0 (after newline t)) .words)
+    → ReadNodes (f .heading .second) 0 (restOf t) ((scanNodes (f .heading .second) 0 (restOf t)) .words)
 read-nodes t f e =
-    nodes-back (f .heading .second) 0 (after newline t)
+    nodes-back (f .heading .second) 0 (restOf t)
     (omega (arith, accepted-heading (f .heading .first) (f .heading .second) (f .fine) .1 .1)) (rw (f .scan) at e)
 
 -- a rule is accepted where its heading and its nodes are
@@ -49,11 +50,12 @@ read-accepted t e =
     let f = first-line t e in
     refusal-of (readRule t) (rw (f .scan) (f .fine)) (rw (f .scan) (read-nodes t f e .fine))
 
--- an accepted text is what is written of its table
-pub read-then-written : (t : List ℕ) → (scanRule t) .number ≡ 0 → ruleText ((scanRule t) .controller) ((scanRule t) .count) ((scanRule t) .words) ≡ t
+-- an accepted text, with byte 10 at each line, is what is written of its table
+pub read-then-written : (t : List ℕ) → (scanRule t) .number ≡ 0
+    → ruleText ((scanRule t) .controller) ((scanRule t) .count) ((scanRule t) .words) ≡ withNewlines t
 read-then-written t e =
     let f = first-line t e in
-    rw (f .scan) (rule-lines (f .heading .first) (f .heading .second) _ ∙ rw (f .line, read-nodes t f e .text) (join newline t (f .closed)))
+    rw (f .scan) (rule-lines (f .heading .first) (f .heading .second) _ ∙ rw (f .line, read-nodes t f e .text) (sym (with-line t (f .closed))))
 
 -- what is written of an accepted rule reads as that rule
 pub written-then-read : (r : Rule) → ruleRefusal r ≡ 0
@@ -122,9 +124,9 @@ read-words : (text nodes : List ℕ) → readRuleNumber text nodes ≡ 0 → (sc
     → take ((scanRule text) .count) (readRuleNodes text nodes) ≡ (scanRule text) .words
 read-words text nodes e z = rw (read-holds text nodes e) (take-at ((scanRule text) .words) _ ((scanRule text) .count) (read-count text z))
 
--- a rule that is read and written again leaves the text, its length, zeros and what was lent past 1,024 bytes
+-- a rule that is read and written again leaves the text with byte 10 at each line, its length, zeros and what was lent past 1,024 bytes
 pub accepted-text-comes-back : (text nodes buffer : List ℕ) → readRuleNumber text nodes ≡ 0 → maxRuleBytes ≤ length buffer
-    → Written (ruleOf ((scanRule text) .controller) ((scanRule text) .count) (readRuleNodes text nodes)) buffer text
+    → Written (ruleOf ((scanRule text) .controller) ((scanRule text) .count) (readRuleNodes text nodes)) buffer (withNewlines text)
 unfolding readRuleNumber
 accepted-text-comes-back text nodes buffer e h =
     let p = pick-other 0 (tooShort maxRuleNodes nodes) lentShort ((scanRule text) .number) e (λ q. omega arith) in
@@ -132,6 +134,13 @@ accepted-text-comes-back text nodes buffer e h =
     let t = read-words text nodes e (p .1) in
     let f = same-accepted (readRule text) (r .nodes) t (read-accepted text (p .1)) in
     subst (λ (x : List ℕ). Written r buffer x) (ap (ruleText (r .controller) (r .count)) t ∙ read-then-written text (p .1)) (written r buffer f h)
+
+-- a text without byte 13 comes back byte for byte
+pub plain-text-comes-back : (text nodes buffer : List ℕ) → Without carriageReturn text → readRuleNumber text nodes ≡ 0 → maxRuleBytes ≤ length buffer
+    → Written (ruleOf ((scanRule text) .controller) ((scanRule text) .count) (readRuleNodes text nodes)) buffer text
+plain-text-comes-back text nodes buffer w e h =
+    let r : Rule = ruleOf ((scanRule text) .controller) ((scanRule text) .count) (readRuleNodes text nodes) in
+    subst (λ (x : List ℕ). Written r buffer x) (plain-same text w) (accepted-text-comes-back text nodes buffer e h)
 
 -- a rule that is written and read again leaves its controller, its count and its nodes, zeros and what was lent past 64 nodes
 pub written-table-comes-back : (r : Rule) (buffer nodes : List ℕ) → writeRuleNumber r buffer ≡ 0 → maxRuleNodes ≤ length nodes → Read (textOf r) nodes r

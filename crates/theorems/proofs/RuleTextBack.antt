@@ -1,5 +1,5 @@
--- An accepted rule text is the text that is written of what was read, and its table is accepted.
-use mathlib.Core.Path.{_≡_, refl, ap, _∙_}
+-- An accepted rule text, with byte 10 at each line, is the text that is written of what was read, and its table is accepted.
+use mathlib.Core.Path.{_≡_, refl, ap, sym, _∙_}
 use Prim.Native.Nat.{ℕ, zero, suc, _+_, _<_, _≤_}
 use mathlib.Core.Bool.{true, false}
 use mathlib.Core.List.{List, [], _∷_}
@@ -11,11 +11,12 @@ use Rattle.definitions.specs.Limits.{ruleForm, ruleLines, maxRuleNodes}
 use Rattle.definitions.specs.Bounded.{pick}
 use Rattle.definitions.specs.Nodes.{Kind, Unknown, Node, node, operands, nodeWord, nodeOf}
 use Rattle.definitions.specs.Tables.{isUnknown, nodeRefusal, nodesRefusal, ruleHeadingRefusal}
-use Rattle.definitions.specs.Lines.{tab, newline, has, upTo, after, formed, malformed, decimal, Heading, headingForm, read, more}
+use Rattle.definitions.specs.Lines.{tab, has, upTo, after, isClosed, lineOf, restOf, withNewlines, formed, malformed, decimal, Heading, headingForm, read, more}
 use Rattle.definitions.specs.RuleText.{ruleWord, kindWord, wordKind, unknownForm, operandsForm, nodeForm, nodeLine, scanNodes, ruleHeading, ruleHeadingLine, ruleNodes, scanRule, nodeText, nodesText}
 use Rattle.theorems.proofs.Choice.{by-test, pick-must, pick-other}
 use Rattle.theorems.proofs.Inversions.{first-picked, second-picked, parsed-must, never-formed, formed-same, first-accepted}
 use Rattle.theorems.proofs.SplitLaws.{join, all-front}
+use Rattle.theorems.proofs.EndingLaws.{with-line}
 use Rattle.theorems.proofs.DecimalLaws.{read-prints}
 use Rattle.theorems.proofs.WordLaws.{kind-word}
 use Rattle.theorems.proofs.NodeWords.{node-of-word}
@@ -61,11 +62,11 @@ node-back s n e u =
 -- the first line of an accepted text: it is closed, it is the text of node i, and the other lines are read as node i + 1 and on
 record FirstNode (lines i : ℕ) (t : List ℕ) : Type 0 where
   item : Node
-  closed : has newline t ≡ true
-  line : nodeText item ≡ upTo newline t
+  closed : isClosed t ≡ true
+  line : nodeText item ≡ lineOf t
   fine : nodeRefusal false i (nodeOf (nodeWord item)) ≡ 0
   same-item : nodeOf (nodeWord item) ≡ item
-  scan : scanNodes (suc lines) i t ≡ more (nodeWord item) (scanNodes lines (i + 1) (after newline t))
+  scan : scanNodes (suc lines) i t ≡ more (nodeWord item) (scanNodes lines (i + 1) (restOf t))
 
 read-node : (lines i : ℕ) (t : List ℕ) (n : Node) (rest : List ℕ) → i < maxRuleNodes → nodeLine i t ≡ read n rest → FirstNode lines i t
 read-node lines i t n rest h e =
@@ -76,7 +77,7 @@ read-node lines i t n rest h e =
     record {
       item = n;
       closed = l .closed;
-      line = node-back (upTo newline t) n (l .is) (g .known);
+      line = node-back (lineOf t) n (l .is) (g .known);
       fine = rw w (l .fine);
       same-item = w;
       scan = nodes-step lines i t n rest e ∙ ap (λ (u : List ℕ). more (nodeWord n) (scanNodes lines (i + 1) u)) (l .left);
@@ -94,36 +95,36 @@ first-node lines i t h e =
 pub record ReadNodes (lines i : ℕ) (t words : List ℕ) : Type 0 where
   pub count : length words ≡ lines
   pub fine : nodesRefusal false i lines words ≡ 0
-  pub text : nodesText words ≡ t
+  pub text : nodesText words ≡ withNewlines t
 
 no-nodes : (i : ℕ) (t : List ℕ) → (scanNodes 0 i t) .number ≡ 0 → ReadNodes 0 i t ((scanNodes 0 i t) .words)
-unfolding scanNodes nodesRefusal nodesText pick
+unfolding scanNodes nodesRefusal nodesText withNewlines pick
 no-nodes i [] e = record { count = refl; fine = refl; text = refl }
 no-nodes i (x ∷ t) e = absurd (omega (arith, rw (ne-eqb (suc (length t)) 0 (λ q. omega arith)) at e))
 
-more-nodes : (lines i : ℕ) (t words : List ℕ) (f : FirstNode lines i t) → ReadNodes lines (i + 1) (after newline t) words
+more-nodes : (lines i : ℕ) (t words : List ℕ) (f : FirstNode lines i t) → ReadNodes lines (i + 1) (restOf t) words
     → ReadNodes (suc lines) i t (nodeWord (f .item) ∷ words)
 unfolding nodesRefusal nodesText
 more-nodes lines i t words f r = record {
   count = ap suc (r .count);
   fine = first-accepted _ _ (f .fine) ∙ r .fine;
-  text = rw (f .same-item, f .line, r .text) (join newline t (f .closed));
+  text = rw (f .same-item, f .line, r .text) (sym (with-line t (f .closed)));
 }
 
--- accepted node lines are the text of their words
+-- accepted node lines, with byte 10 at each, are the text of their words
 pub nodes-back : (lines i : ℕ) (t : List ℕ) → i + lines ≤ maxRuleNodes → (scanNodes lines i t) .number ≡ 0 → ReadNodes lines i t ((scanNodes lines i t) .words)
 nodes-back zero i t h e = no-nodes i t e
 nodes-back (suc lines) i t h e =
     let f = first-node lines i t (omega arith) e in
-    rw (f .scan) (more-nodes lines i t _ f (nodes-back lines (i + 1) (after newline t) (omega arith) (rw (f .scan) at e)))
+    rw (f .scan) (more-nodes lines i t _ f (nodes-back lines (i + 1) (restOf t) (omega arith) (rw (f .scan) at e)))
 
 -- the first line of an accepted rule text, and what follows it
 pub record FirstLine (t : List ℕ) : Type 0 where
   pub heading : Heading
-  pub closed : has newline t ≡ true
-  pub line : headingText (heading .first) (heading .second) ≡ upTo newline t
+  pub closed : isClosed t ≡ true
+  pub line : headingText (heading .first) (heading .second) ≡ lineOf t
   pub fine : ruleHeadingRefusal (heading .first) (heading .second) ≡ 0
-  pub scan : scanRule t ≡ ruleNodes heading (scanNodes (heading .second) 0 (after newline t))
+  pub scan : scanRule t ≡ ruleNodes heading (scanNodes (heading .second) 0 (restOf t))
 
 -- a first line is the text of its heading
 heading-back : (s : List ℕ) (h : Heading) → ruleHeading s ≡ formed h → headingText (h .first) (h .second) ≡ s
@@ -139,7 +140,7 @@ read-heading t h rest e =
     record {
       heading = h;
       closed = l .closed;
-      line = heading-back (upTo newline t) h (l .is);
+      line = heading-back (lineOf t) h (l .is);
       fine = l .fine;
       scan = rule-step t h rest e ∙ ap (λ (u : List ℕ). ruleNodes h (scanNodes (h .second) 0 u)) (l .left);
     }

@@ -11,10 +11,11 @@ use Rattle.definitions.specs.Limits.{ruleForm, ruleLines, maxRuleNodes}
 use Rattle.definitions.specs.Bounded.{pick}
 use Rattle.definitions.specs.Nodes.{Kind, Node, node, operands, nodeOf}
 use Rattle.definitions.specs.Tables.{isUnknown, unusedSet, nodeRefusal, nodesRefusal, ruleHeadingRefusal}
-use Rattle.definitions.specs.Lines.{tab, newline, upTo, formed, malformed, onParsed, decimal, Heading, headingForm, twoFields, digits, more}
+use Rattle.definitions.specs.Lines.{tab, newline, carriageReturn, upTo, formed, malformed, onParsed, decimal, Heading, headingForm, twoFields, digits, more}
 use Rattle.definitions.specs.RuleText.{ruleWord, kindWord, operandsForm, nodeForm, scanNodes, ruleHeading, ruleNodes, scanRule, nodeText, nodesText}
 use Rattle.theorems.proofs.Choice.{or-else-none}
 use Rattle.theorems.proofs.SplitLaws.{Without, without-cons, without-append, split-front, split-rest, split-found, all-front, without-whole}
+use Rattle.theorems.proofs.EndingLaws.{Unbroken}
 use Rattle.theorems.proofs.DecimalLaws.{digits-without, printed-reads, two-digits}
 use Rattle.theorems.proofs.NodeWords.{by-kind, word-of-node}
 use Rattle.theorems.proofs.WordLaws.{word-kind, kind-word-without, rule-word-without}
@@ -64,24 +65,38 @@ node-forth n h u =
     (λ z y. one-forth k h z (n .first) y ∙ same-node k (n .first) 0 (n .first) (n .second) refl (second-unused n u (omega arith)))
     (λ z y. two-forth k h z (n .first) (n .second) y)
 
--- no line has a byte 10
-tab-without : (t : List ℕ) → Without newline t → Without newline (tab ∷ t)
-tab-without t h = without-cons newline tab t (λ q. omega arith) h
+-- no line has a byte 10 or 13
+module _ (b : ℕ) (low : b < 48) (other : tab ≡ b → ⊥) where
+  tab-without : (t : List ℕ) → Without b t → Without b (tab ∷ t)
+  tab-without t h = without-cons b tab t other h
 
-fields-without : (word : List ℕ) (a b : ℕ) → Without newline word → Without newline (word ++ (tab ∷ (digits a ++ (tab ∷ digits b))))
-fields-without word a b w =
-    without-append newline word (tab ∷ (digits a ++ (tab ∷ digits b))) w
-    (tab-without (digits a ++ (tab ∷ digits b)) (without-append newline (digits a) (tab ∷ digits b) (digits-without newline a (omega arith))
-    (tab-without (digits b) (digits-without newline b (omega arith)))))
+  fields-without : (word : List ℕ) (m n : ℕ) → Without b word → Without b (word ++ (tab ∷ (digits m ++ (tab ∷ digits n))))
+  fields-without word m n w =
+      without-append b word (tab ∷ (digits m ++ (tab ∷ digits n))) w
+      (tab-without (digits m ++ (tab ∷ digits n)) (without-append b (digits m) (tab ∷ digits n) (digits-without b m low)
+      (tab-without (digits n) (digits-without b n low))))
 
-node-without : (n : Node) → Without newline (nodeText n)
-node-without n =
-    let w = kind-word-without newline (n .kind) (omega arith) in
-    let a = tab-without (digits (n .first)) (digits-without newline (n .first) (omega arith)) in
-    by-operands (λ t. Without newline t) n
-    (λ z. w)
-    (λ z y. without-append newline (kindWord (n .kind)) (tab ∷ digits (n .first)) w a)
-    (λ z y. fields-without (kindWord (n .kind)) (n .first) (n .second) w)
+  node-without : (n : Node) → Without b (nodeText n)
+  node-without n =
+      let w = kind-word-without b (n .kind) (omega arith) in
+      let a = tab-without (digits (n .first)) (digits-without b (n .first) low) in
+      by-operands (λ t. Without b t) n
+      (λ z. w)
+      (λ z y. without-append b (kindWord (n .kind)) (tab ∷ digits (n .first)) w a)
+      (λ z y. fields-without (kindWord (n .kind)) (n .first) (n .second) w)
+
+  heading-without : (c n : ℕ) → Without b (headingText c n)
+  unfolding headingText
+  heading-without c n = fields-without ruleWord c n (rule-word-without b (omega arith))
+
+unbroken : (line : List ℕ) → ((b : ℕ) → b < 48 → (tab ≡ b → ⊥) → Without b line) → Unbroken line
+unbroken line h = record { newlines = h newline (omega arith) (λ q. omega arith); returns = h carriageReturn (omega arith) (λ q. omega arith) }
+
+pub node-unbroken : (n : Node) → Unbroken (nodeText n)
+node-unbroken n = unbroken (nodeText n) (λ b l o. node-without b l o n)
+
+pub heading-unbroken : (c n : ℕ) → Unbroken (headingText c n)
+heading-unbroken c n = unbroken (headingText c n) (λ b l o. heading-without b l o c n)
 
 -- the line of an accepted node is read as its word, and then the rest
 node-read : (lines i w : ℕ) (rest : List ℕ) → nodeRefusal false i (nodeOf w) ≡ 0
@@ -89,7 +104,7 @@ node-read : (lines i w : ℕ) (rest : List ℕ) → nodeRefusal false i (nodeOf 
 node-read lines i w rest e =
     let n = nodeOf w in
     let g = accepted-node i n e in
-    let r = next-forth ruleLines ruleForm nodeForm (nodeRefusal false i) (nodeText n) rest n (node-without n) (node-forth n (g .known) (g .unused)) e in
+    let r = next-forth ruleLines ruleForm nodeForm (nodeRefusal false i) (nodeText n) rest n (node-unbroken n) (node-forth n (g .known) (g .unused)) e in
     nodes-step lines i (nodeText n ++ (newline ∷ rest)) n rest r ∙ rw (word-of-node w (g .known))
 
 -- the lines of accepted nodes read as their words, as many as the count
@@ -108,17 +123,13 @@ unfolding headingForm headingText
 heading-forth c n =
     worded-forth ruleWord _ (digits c ++ (tab ∷ digits n)) (rule-word-without tab (omega arith)) ∙ two-fields-forth _ c n
 
-heading-without : (c n : ℕ) → Without newline (headingText c n)
-unfolding headingText
-heading-without c n = fields-without ruleWord c n (rule-word-without newline (omega arith))
-
 -- the first line of an accepted rule is read, and then its nodes
 pub heading-read : (c n : ℕ) (rest : List ℕ) → ruleHeadingRefusal c n ≡ 0
     → scanRule (headingText c n ++ (newline ∷ rest)) ≡ ruleNodes (record { first = c; second = n }) (scanNodes n 0 rest)
 heading-read c n rest e =
     let h : Heading = record { first = c; second = n } in
     rule-step (headingText c n ++ (newline ∷ rest)) h rest
-    (next-forth ruleLines ruleForm ruleHeading (λ x. ruleHeadingRefusal (x .first) (x .second)) (headingText c n) rest h (heading-without c n) (heading-forth c n) e)
+    (next-forth ruleLines ruleForm ruleHeading (λ x. ruleHeadingRefusal (x .first) (x .second)) (headingText c n) rest h (heading-unbroken c n) (heading-forth c n) e)
 
 -- a line is at most eleven bytes and byte 10
 short-word : (k : Kind) → leb (length (kindWord k)) 5 ≡ true

@@ -18,11 +18,11 @@ abbrev pub Without : ℕ → List ℕ → Type 0
 Without b t = before b t ≡ length t
 
 module _ (b x : ℕ) (t : List ℕ) where
-  before-here : eqb x b ≡ true → before b (x ∷ t) ≡ 0
+  pub before-here : eqb x b ≡ true → before b (x ∷ t) ≡ 0
   unfolding before pick
   before-here e = rw (e, before)
 
-  before-later : eqb x b ≡ false → before b (x ∷ t) ≡ suc (before b t)
+  pub before-later : eqb x b ≡ false → before b (x ∷ t) ≡ suc (before b t)
   unfolding before pick
   before-later e = rw (e, before)
 
@@ -30,7 +30,7 @@ module _ (b x : ℕ) (t : List ℕ) where
   without-cons n h = before-later (ne-eqb x b n) ∙ ap suc h
 
   -- a text without b, from its second byte on
-  without-first : Without b (x ∷ t) → (eqb x b ≡ false) × Without b t
+  pub without-first : Without b (x ∷ t) → (eqb x b ≡ false) × Without b t
   without-first h = by-test (eqb x b) (λ e. absurd (omega (arith, before-here e))) (λ e. (e, omega (arith, before-later e)))
 
 pub without-none : (b : ℕ) → Without b []
@@ -63,7 +63,7 @@ module _ (b : ℕ) (ys : List ℕ) where
     split-found = lt-ltb (before b (xs ++ (b ∷ ys))) (length (xs ++ (b ∷ ys))) (omega (arith, before-seam xs h, length-append xs (b ∷ ys)))
 
 -- the byte that was found is b
-found-byte : (b : ℕ) (t : List ℕ) → before b t < length t → getD t (before b t) 0 ≡ b
+pub found-byte : (b : ℕ) (t : List ℕ) → before b t < length t → getD t (before b t) 0 ≡ b
 found-byte b [] h = absurd (omega arith)
 found-byte b (x ∷ t) h =
     by-test (eqb x b)

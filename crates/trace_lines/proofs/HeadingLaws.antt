@@ -10,7 +10,7 @@ use borrow.Author.Tests.{leb-true}
 use Rattle.definitions.specs.Bounded.{within}
 use Rattle.definitions.specs.Limits.{maxControllers, maxStates, recordingForm, recordingLines, recordingLimits}
 use Rattle.definitions.specs.Recordings.{recordingHeadingRefusal}
-use Rattle.definitions.specs.Lines.{newline, before, has, upTo, after, Heading, heading, headingForm, NextLine, refused, read}
+use Rattle.definitions.specs.Lines.{lineLength, lineOf, isClosed, restOf, Heading, heading, headingForm, NextLine, refused, read}
 use Rattle.definitions.specs.RecordingText.{recordingWord, recordingHeadingLine}
 use Rattle.theorems.proofs.Choice.{both-true, accept-yes}
 use Rattle.theorems.proofs.NextLines.{next-back}
@@ -19,9 +19,8 @@ use Rattle.lines.specs.Forms.{cappedPair}
 use Rattle.lines.specs.Reading.{endRefusal}
 use Rattle.lines.specs.declared.form.Pair.{Pair}
 use Rattle.lines.specs.declared.form.Pair.the-variants as pair
-use Rattle.fields.proofs.PartLaws.{part-laws, up-to-part}
 use Rattle.fields.proofs.FieldLaws.{cap-within-limits, cap-exact}
-use Rattle.lines.proofs.NextLaws.{next-unread, end-fine}
+use Rattle.lines.proofs.NextLaws.{line-part, line-part-laws, next-unread, end-fine}
 use Rattle.lines.proofs.HeadingLaws.{CapCheck, first-malformed, first-denied, first-read}
 use Rattle.trace_lines.specs.NextLines.{headingAnswer}
 use Rattle.trace_lines.specs.declared.HeadingRead.{HeadingRead}
@@ -60,12 +59,12 @@ module _ (t : List ℕ) (n : ℕ) (ns : n ≡ endRefusal recordingLines recordin
   pub heading-unread : (n ≡ 0 → ⊥) → first.Refused n ≡ headingAnswer (recordingHeadingLine t)
   heading-unread z = is-refused (recordingHeadingLine t) n (next-unread recordingLines recordingForm t n ns _ _ z)
 
-  module _ (z : n ≡ 0) (end : ℕ) (is : end ≡ before newline t) (r : Pair) (rs : r ≡ cappedPair (headingForm recordingWord (take end t))) where
-    closed : has newline t ≡ true
+  module _ (z : n ≡ 0) (len : ℕ) (is : len ≡ lineLength t) (r : Pair) (rs : r ≡ cappedPair (headingForm recordingWord (take len t))) where
+    closed : isClosed t ≡ true
     closed = end-fine recordingLines recordingForm t n ns (omega arith) (omega arith) z
 
-    line : r ≡ cappedPair (headingForm recordingWord (upTo newline t))
-    line = rw (up-to-part newline t end is) at rs
+    line : r ≡ cappedPair (headingForm recordingWord (lineOf t))
+    line = rw (line-part t len is) at rs
 
     pub heading-malformed : r ≡ pair.Malformed → first.Refused recordingForm ≡ headingAnswer (recordingHeadingLine t)
     heading-malformed x = is-refused (recordingHeadingLine t) recordingForm (first-malformed recordingLines recordingForm recordingWord recordingHeadingRefusal caps t closed r line x)
@@ -76,9 +75,9 @@ module _ (t : List ℕ) (n : ℕ) (ns : n ≡ endRefusal recordingLines recordin
 
       pub heading-read : k ≡ 0 → first.Heading c m ≡ headingAnswer (recordingHeadingLine t)
       heading-read y =
-          is-read (recordingHeadingLine t) (heading c m) (after newline t) (first-read recordingLines recordingForm recordingWord recordingHeadingRefusal caps t closed r line c m x (sym ks ∙ y))
+          is-read (recordingHeadingLine t) (heading c m) (restOf t) (first-read recordingLines recordingForm recordingWord recordingHeadingRefusal caps t closed r line c m x (sym ks ∙ y))
 
-pub ruleset heading-laws = (part-laws, heading-unread, heading-malformed, heading-refused, heading-read)
+pub ruleset heading-laws = (line-part-laws, heading-unread, heading-malformed, heading-refused, heading-read)
 
 -- ---- what a caller has of an answer
 answer-refused : (n : NextLine Heading) (r : HeadingRead) (k : ℕ) → r ≡ headingAnswer n → r ≡ first.Refused k → n ≡ refused k
@@ -104,8 +103,7 @@ answer-read (read h rest) r c m e x = record { rest = rest; is = ap (λ (g : Hea
 
 -- the first line is accepted, with C and N
 pub record Headed (t : List ℕ) (c m : ℕ) : Type 0 where
-  pub is : recordingHeadingLine t ≡ read (heading c m) (after newline t)
-  pub closed : has newline t ≡ true
+  pub is : recordingHeadingLine t ≡ read (heading c m) (restOf t)
   pub few : c ≤ maxControllers
   pub short : m ≤ maxStates
 
@@ -114,7 +112,7 @@ module _ (t : List ℕ) (r : HeadingRead) (rs : r ≡ headingAnswer (recordingHe
   headed c m x =
       let a = answer-read (recordingHeadingLine t) r c m rs x in
       let b = next-back recordingLines recordingForm (headingForm recordingWord) (λ h. recordingHeadingRefusal (h .first) (h .second)) t (heading c m) (a .rest) (a .is) in
-      record { is = a .is ∙ ap (read (heading c m)) (b .left); closed = b .closed; few = heading-within c m (b .fine) .0; short = heading-within c m (b .fine) .1 }
+      record { is = a .is ∙ ap (read (heading c m)) (b .left); few = heading-within c m (b .fine) .0; short = heading-within c m (b .fine) .1 }
 
   pub unheaded : (k : ℕ) → r ≡ first.Refused k → recordingHeadingLine t ≡ refused k
   unheaded k x = answer-refused (recordingHeadingLine t) r k rs x

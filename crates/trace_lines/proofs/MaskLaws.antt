@@ -6,16 +6,15 @@ use Prim.Native.Nat.{ℕ}
 use native.Mathlib.Omega.{arith}
 use lib.ListN.{take}
 use Rattle.definitions.specs.Limits.{recordingForm, recordingLines}
-use Rattle.definitions.specs.Lines.{newline, before, has, upTo, after, formed, worded, hexadecimal, NextLine, refused, read}
+use Rattle.definitions.specs.Lines.{lineLength, lineOf, isClosed, restOf, formed, worded, hexadecimal, NextLine, refused, read}
 use Rattle.definitions.specs.RecordingText.{ownsWord, wordDigits, maskForm}
 use Rattle.theorems.proofs.NextLines.{next-malformed, next-denied, next-read, next-back}
 use Rattle.fields.specs.Fields.{exact}
 use Rattle.lines.specs.Reading.{endRefusal}
 use Rattle.fields.specs.declared.number.Field.{Field}
 use Rattle.fields.specs.declared.number.Field.the-variants as field
-use Rattle.fields.proofs.PartLaws.{part-laws, up-to-part}
 use Rattle.fields.proofs.FieldLaws.{exact-number, exact-malformed}
-use Rattle.lines.proofs.NextLaws.{next-unread, end-fine}
+use Rattle.lines.proofs.NextLaws.{line-part, line-part-laws, next-unread, end-fine}
 use Rattle.traces.specs.Unions.{unionRefusal}
 use Rattle.trace_lines.specs.NextLines.{maskAnswer, seenLine}
 use Rattle.trace_lines.specs.declared.MaskRead.{MaskRead}
@@ -34,35 +33,34 @@ module _ (seen : ℕ) (t : List ℕ) (n : ℕ) (ns : n ≡ endRefusal recordingL
   pub mask-unread : (n ≡ 0 → ⊥) → mask.Refused n ≡ maskAnswer (seenLine seen t)
   mask-unread z = is-refused (seenLine seen t) n (next-unread recordingLines recordingForm t n ns _ _ z)
 
-  module _ (z : n ≡ 0) (end : ℕ) (is : end ≡ before newline t) (r : Field) (rs : r ≡ exact (worded ownsWord (hexadecimal wordDigits) (take end t))) where
-    closed : has newline t ≡ true
+  module _ (z : n ≡ 0) (len : ℕ) (is : len ≡ lineLength t) (r : Field) (rs : r ≡ exact (worded ownsWord (hexadecimal wordDigits) (take len t))) where
+    closed : isClosed t ≡ true
     closed = end-fine recordingLines recordingForm t n ns (omega arith) (omega arith) z
 
-    line : r ≡ exact (maskForm (upTo newline t))
+    line : r ≡ exact (maskForm (lineOf t))
     unfolding maskForm
-    line = rw (up-to-part newline t end is) at rs
+    line = rw (line-part t len is) at rs
 
     pub mask-malformed : r ≡ field.Malformed → mask.Refused recordingForm ≡ maskAnswer (seenLine seen t)
     mask-malformed x =
         is-refused (seenLine seen t) recordingForm
-        (next-malformed recordingLines recordingForm maskForm (unionRefusal seen) t closed (exact-malformed (maskForm (upTo newline t)) r line x))
+        (next-malformed recordingLines recordingForm maskForm (unionRefusal seen) t closed (exact-malformed (maskForm (lineOf t)) r line x))
 
     module _ (m : ℕ) (x : r ≡ field.Number m) (k : ℕ) (ks : k ≡ unionRefusal seen m) where
-      form : maskForm (upTo newline t) ≡ formed m
-      form = exact-number (maskForm (upTo newline t)) r m line x
+      form : maskForm (lineOf t) ≡ formed m
+      form = exact-number (maskForm (lineOf t)) r m line x
 
       pub mask-refused : (k ≡ 0 → ⊥) → mask.Refused k ≡ maskAnswer (seenLine seen t)
       mask-refused y = is-refused (seenLine seen t) k (next-denied recordingLines recordingForm maskForm (unionRefusal seen) t closed m form k (sym ks) y)
 
       pub mask-read : k ≡ 0 → mask.Mask m ≡ maskAnswer (seenLine seen t)
-      mask-read y = is-read (seenLine seen t) m (after newline t) (next-read recordingLines recordingForm maskForm (unionRefusal seen) t closed m form (sym ks ∙ y))
+      mask-read y = is-read (seenLine seen t) m (restOf t) (next-read recordingLines recordingForm maskForm (unionRefusal seen) t closed m form (sym ks ∙ y))
 
-pub ruleset mask-laws = (part-laws, mask-unread, mask-malformed, mask-refused, mask-read)
+pub ruleset mask-laws = (line-part-laws, mask-unread, mask-malformed, mask-refused, mask-read)
 
 -- ---- what a caller has of an answer
 pub record MaskIs (seen : ℕ) (t : List ℕ) (m : ℕ) : Type 0 where
-  pub is : seenLine seen t ≡ read m (after newline t)
-  pub closed : has newline t ≡ true
+  pub is : seenLine seen t ≡ read m (restOf t)
 
 record ReadWith (n : NextLine ℕ) (m : ℕ) : Type 0 where
   rest : List ℕ
@@ -83,7 +81,7 @@ module _ (seen : ℕ) (t : List ℕ) (r : MaskRead) (rs : r ≡ maskAnswer (seen
   mask-is m x =
       let a = answer-read (seenLine seen t) r m rs x in
       let b = next-back recordingLines recordingForm maskForm (unionRefusal seen) t m (a .rest) (a .is) in
-      record { is = a .is ∙ ap (read m) (b .left); closed = b .closed }
+      record { is = a .is ∙ ap (read m) (b .left) }
 
   pub mask-denied : (k : ℕ) → r ≡ mask.Refused k → seenLine seen t ≡ refused k
   mask-denied k x = answer-refused (seenLine seen t) r k rs x

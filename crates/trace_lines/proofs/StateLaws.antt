@@ -7,16 +7,15 @@ use native.Mathlib.Omega.{arith}
 use lib.ListN.{take}
 use Rattle.definitions.specs.Limits.{recordingForm, recordingLines}
 use Rattle.definitions.specs.Recordings.{stateOf, stateRefusal}
-use Rattle.definitions.specs.Lines.{newline, before, has, upTo, after, formed, malformed, onParsed, heading, worded, hexadecimal, twoFields, NextLine, refused, read}
+use Rattle.definitions.specs.Lines.{lineLength, lineOf, isClosed, restOf, formed, malformed, onParsed, heading, worded, hexadecimal, twoFields, NextLine, refused, read}
 use Rattle.definitions.specs.RecordingText.{atWord, wordDigits, markDigits, stateForm, stateLine}
 use Rattle.theorems.proofs.NextLines.{next-malformed, next-denied, next-read, next-back}
 use Rattle.lines.specs.Forms.{exactPair}
 use Rattle.lines.specs.Reading.{endRefusal}
 use Rattle.lines.specs.declared.form.Pair.{Pair}
 use Rattle.lines.specs.declared.form.Pair.the-variants as pair
-use Rattle.fields.proofs.PartLaws.{part-laws, up-to-part}
 use Rattle.lines.proofs.FormLaws.{worded-made, exact-pair, exact-pair-malformed}
-use Rattle.lines.proofs.NextLaws.{next-unread, end-fine}
+use Rattle.lines.proofs.NextLaws.{line-part, line-part-laws, next-unread, end-fine}
 use Rattle.trace_lines.specs.NextLines.{stateAnswer}
 use Rattle.trace_lines.specs.declared.StateRead.{StateRead}
 use Rattle.trace_lines.specs.declared.StateRead.the-variants as state
@@ -43,21 +42,21 @@ module _ (C : ℕ) (masks : List ℕ) (k prior : ℕ) (t : List ℕ) (n : ℕ) (
   pub state-unread : (n ≡ 0 → ⊥) → state.Refused n ≡ stateAnswer (stateLine C masks k prior t)
   state-unread z = is-refused (stateLine C masks k prior t) n (next-unread recordingLines recordingForm t n ns _ _ z)
 
-  module _ (z : n ≡ 0) (end : ℕ) (is : end ≡ before newline t) (r : Pair) (rs : r ≡ exactPair (worded atWord (twoFields (hexadecimal markDigits) (hexadecimal wordDigits) heading) (take end t))) where
-    closed : has newline t ≡ true
+  module _ (z : n ≡ 0) (len : ℕ) (is : len ≡ lineLength t) (r : Pair) (rs : r ≡ exactPair (worded atWord (twoFields (hexadecimal markDigits) (hexadecimal wordDigits) heading) (take len t))) where
+    closed : isClosed t ≡ true
     closed = end-fine recordingLines recordingForm t n ns (omega arith) (omega arith) z
 
-    line : r ≡ exactPair (worded atWord (twoFields (hexadecimal markDigits) (hexadecimal wordDigits) heading) (upTo newline t))
-    line = rw (up-to-part newline t end is) at rs
+    line : r ≡ exactPair (worded atWord (twoFields (hexadecimal markDigits) (hexadecimal wordDigits) heading) (lineOf t))
+    line = rw (line-part t len is) at rs
 
     pub state-malformed : r ≡ pair.Malformed → state.Refused recordingForm ≡ stateAnswer (stateLine C masks k prior t)
     state-malformed x =
         is-refused (stateLine C masks k prior t) recordingForm
-        (next-malformed recordingLines recordingForm stateForm (stateRefusal C masks k prior) t closed (state-not (upTo newline t) (exact-pair-malformed _ r line x)))
+        (next-malformed recordingLines recordingForm stateForm (stateRefusal C masks k prior) t closed (state-not (lineOf t) (exact-pair-malformed _ r line x)))
 
     module _ (a b : ℕ) (x : r ≡ pair.Numbers a b) (s : ℕ) (ss : s ≡ stateOf a b) (j : ℕ) (js : j ≡ stateRefusal C masks k prior s) where
-      form : stateForm (upTo newline t) ≡ formed s
-      form = state-formed (upTo newline t) a b (exact-pair _ r a b line x) ∙ ap formed (sym ss)
+      form : stateForm (lineOf t) ≡ formed s
+      form = state-formed (lineOf t) a b (exact-pair _ r a b line x) ∙ ap formed (sym ss)
 
       pub state-refused : (j ≡ 0 → ⊥) → state.Refused j ≡ stateAnswer (stateLine C masks k prior t)
       state-refused y =
@@ -65,15 +64,14 @@ module _ (C : ℕ) (masks : List ℕ) (k prior : ℕ) (t : List ℕ) (n : ℕ) (
 
       pub state-read : j ≡ 0 → state.State s ≡ stateAnswer (stateLine C masks k prior t)
       state-read y =
-          is-read (stateLine C masks k prior t) s (after newline t)
+          is-read (stateLine C masks k prior t) s (restOf t)
           (next-read recordingLines recordingForm stateForm (stateRefusal C masks k prior) t closed s form (sym js ∙ y))
 
-pub ruleset state-laws = (part-laws, state-unread, state-malformed, state-refused, state-read)
+pub ruleset state-laws = (line-part-laws, state-unread, state-malformed, state-refused, state-read)
 
 -- ---- what a caller has of an answer
 pub record StateIs (C : ℕ) (masks : List ℕ) (k prior : ℕ) (t : List ℕ) (s : ℕ) : Type 0 where
-  pub is : stateLine C masks k prior t ≡ read s (after newline t)
-  pub closed : has newline t ≡ true
+  pub is : stateLine C masks k prior t ≡ read s (restOf t)
 
 record ReadWith (n : NextLine ℕ) (s : ℕ) : Type 0 where
   rest : List ℕ
@@ -94,7 +92,7 @@ module _ (C : ℕ) (masks : List ℕ) (k prior : ℕ) (t : List ℕ) (r : StateR
   state-is s x =
       let a = answer-read (stateLine C masks k prior t) r s rs x in
       let b = next-back recordingLines recordingForm stateForm (stateRefusal C masks k prior) t s (a .rest) (a .is) in
-      record { is = a .is ∙ ap (read s) (b .left); closed = b .closed }
+      record { is = a .is ∙ ap (read s) (b .left) }
 
   pub state-denied : (j : ℕ) → r ≡ state.Refused j → stateLine C masks k prior t ≡ refused j
   state-denied j x = answer-refused (stateLine C masks k prior t) r j rs x

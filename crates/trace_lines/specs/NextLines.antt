@@ -3,7 +3,7 @@ use mathlib.Core.Path.{_≡_}
 use Prim.Native.Nat.{ℕ, _≤_}
 use mathlib.Core.List.{List}
 use Rattle.definitions.specs.Limits.{maxControllers, recordingForm, recordingLines}
-use Rattle.definitions.specs.Lines.{newline, before, Heading, NextLine, refused, read, nextLine}
+use Rattle.definitions.specs.Lines.{lineLength, Heading, NextLine, refused, read, nextLine}
 use Rattle.definitions.specs.RecordingText.{maskForm}
 use Rattle.traces.specs.Unions.{unionRefusal}
 use Rattle.trace_lines.specs.declared.HeadingRead.{HeadingRead}
@@ -33,6 +33,6 @@ abbrev pub seenLine : (seen : ℕ) → List ℕ → NextLine ℕ
 seenLine seen t = nextLine recordingLines recordingForm maskForm (unionRefusal seen) t
 
 -- what the line of a state asks of its caller
-pub record StateTurn (C end : ℕ) (t : List ℕ) : Type 0 where
+pub record StateTurn (C len : ℕ) (t : List ℕ) : Type 0 where
   pub few : C ≤ maxControllers
-  pub ends : end ≡ before newline t
+  pub ends : len ≡ lineLength t

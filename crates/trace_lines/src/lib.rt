@@ -1,8 +1,8 @@
 // The lines of a recording text: the next line, refused with a number or read as the first line, as a mask or as a state.
-// In each function `end` bytes of the text stand before its newline; nothing is kept of a line but what it gives.
+// In each function the line has `len` bytes; nothing is kept of a line but what it gives.
 ghost use mathlib.Core.Path.{_≡_};
 ghost use Rattle.definitions.specs.Recordings.{stateOf};
-ghost use Rattle.definitions.specs.Lines.{newline, before};
+ghost use Rattle.definitions.specs.Lines.{lineLength};
 ghost use Rattle.definitions.specs.RecordingText.{recordingHeadingLine, stateLine};
 ghost use Rattle.trace_lines.specs.NextLines.{headingAnswer, maskAnswer, stateAnswer, seenLine, StateTurn};
 use fields::number::Field;
@@ -37,15 +37,15 @@ const WORD_DIGITS: usize = 8;
 // The digits of run marks.
 const MARK_DIGITS: usize = 2;
 
-pub fn next_heading(t: &[u8], end: usize) -> HeadingRead
-    requires { ⌜ end ≡ before newline (now t) ⌝ }
+pub fn next_heading(t: &[u8], len: usize) -> HeadingRead
+    requires { ⌜ len ≡ lineLength (now t) ⌝ }
     ensures { λ r. ⌜ r ≡ headingAnswer (recordingHeadingLine (now (t .entry))) ⌝ }
 {
-    let unread = end_refusal(t, end, Refusal::RECORDING_LINES, Refusal::RECORDING_FORM);
+    let unread = end_refusal(t, len, Refusal::RECORDING_LINES, Refusal::RECORDING_FORM);
     if unread != Refusal::NONE {
         return HeadingRead::Refused(unread);
     }
-    let Pair::Numbers(controllers, count) = form::worded_decimals(&t[..end], b"recording") else {
+    let Pair::Numbers(controllers, count) = form::worded_decimals(&t[..len], b"recording") else {
         return HeadingRead::Refused(Refusal::RECORDING_FORM);
     };
     let refusal = check::heading_refusal(controllers as usize, count as usize);
@@ -56,15 +56,15 @@ pub fn next_heading(t: &[u8], end: usize) -> HeadingRead
 }
 
 // A mask against `seen`, the union of the earlier ones.
-pub fn next_mask(seen: u32, t: &[u8], end: usize) -> MaskRead
-    requires { ⌜ end ≡ before newline (now t) ⌝ }
+pub fn next_mask(seen: u32, t: &[u8], len: usize) -> MaskRead
+    requires { ⌜ len ≡ lineLength (now t) ⌝ }
     ensures { λ r. ⌜ r ≡ maskAnswer (seenLine seen (now (t .entry))) ⌝ }
 {
-    let unread = end_refusal(t, end, Refusal::RECORDING_LINES, Refusal::RECORDING_FORM);
+    let unread = end_refusal(t, len, Refusal::RECORDING_LINES, Refusal::RECORDING_FORM);
     if unread != Refusal::NONE {
         return MaskRead::Refused(unread);
     }
-    let Field::Number(mask) = form::worded_hexadecimal(&t[..end], b"owns", WORD_DIGITS) else {
+    let Field::Number(mask) = form::worded_hexadecimal(&t[..len], b"owns", WORD_DIGITS) else {
         return MaskRead::Refused(Refusal::RECORDING_FORM);
     };
     let refusal = masks::mask_refusal(seen, mask);
@@ -88,17 +88,17 @@ pub fn next_state(
     k: usize,
     prior: u64,
     t: &[u8],
-    end: usize,
+    len: usize,
 ) -> StateRead
-    requires { ⌜ StateTurn controllers end (now t) ⌝ }
+    requires { ⌜ StateTurn controllers len (now t) ⌝ }
     ensures { λ r. ⌜ r ≡ stateAnswer (stateLine controllers (now (masks .entry)) k prior (now (t .entry))) ⌝ }
 {
-    let unread = end_refusal(t, end, Refusal::RECORDING_LINES, Refusal::RECORDING_FORM);
+    let unread = end_refusal(t, len, Refusal::RECORDING_LINES, Refusal::RECORDING_FORM);
     if unread != Refusal::NONE {
         return StateRead::Refused(unread);
     }
     let Pair::Numbers(marks, word) = form::worded_hexadecimals(
-        &t[..end],
+        &t[..len],
         b"at",
         MARK_DIGITS,
         WORD_DIGITS,

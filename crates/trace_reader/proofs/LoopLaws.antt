@@ -12,11 +12,12 @@ use mir.Syntax.{w64}
 use mir.Val.{Fits}
 use Rattle.definitions.specs.Limits.{accepted, recordingLines, maxControllers, maxStates}
 use Rattle.definitions.specs.Bounded.{pick}
-use Rattle.definitions.specs.Lines.{newline, before, isEmpty, after, more}
+use Rattle.definitions.specs.Lines.{isEmpty, restOf, more}
 use Rattle.definitions.specs.RecordingText.{stateLine, scanMasks, scanStates}
 use Rattle.theorems.proofs.Choice.{by-test, pick-true, pick-false}
 use Rattle.traces.specs.Unions.{unionOf}
-use Rattle.lines.specs.Reading.{LinesScanned}
+use Rattle.lines.specs.Reading.{FirstLine, LinesScanned}
+use Rattle.lines.specs.declared.next.Line.{Line}
 use Rattle.fields.proofs.PartLaws.{part-to-end, empty-yes, empty-no}
 use Rattle.lines.proofs.LoopLaws.{Lines, lines-none, lines-stop, lines-next, after-line, line-inside}
 use Rattle.trace_lines.specs.NextLines.{maskAnswer, stateAnswer, seenLine}
@@ -46,11 +47,11 @@ module _ (C start : ℕ) (text o o′ : List ℕ) (at seen c : ℕ) (inv : Masks
       let z : C - c ≡ 0 = omega arith in
       lines-stop _ text o o′ at c _ (inv .lines) 0 (rw z (masks-end seen (drop at text))) (omega (arith, inv .within))
 
-  module _ (h : c < C) (end : ℕ) (is : end ≡ before newline (take (length text - at) (drop at text))) (r : MaskRead) (rs : r ≡ maskAnswer (seenLine seen (take (length text - at) (drop at text)))) where
+  module _ (h : c < C) (l : Line) (is : FirstLine (take (length text - at) (drop at text)) l) (r : MaskRead) (rs : r ≡ maskAnswer (seenLine seen (take (length text - at) (drop at text)))) where
     one-less : C - c ≡ suc (C - (c + 1))
     one-less = omega arith
 
-    ends : end ≡ before newline (drop at text)
+    ends : FirstLine (drop at text) l
     ends = rw (part-to-end text at) at is
 
     answer : r ≡ maskAnswer (seenLine seen (drop at text))
@@ -65,22 +66,19 @@ module _ (C start : ℕ) (text o o′ : List ℕ) (at seen c : ℕ) (inv : Masks
       given : MaskIs seen (drop at text) m
       given = mask-is seen (drop at text) r answer m e
 
-      pub mask-inside : at + end + 1 ≤ length text
-      mask-inside = line-inside text at end ends (inv .lines .inside) (given .closed)
+      mask-inside : at + l .next ≤ length text
+      mask-inside = line-inside text at l ends (inv .lines .inside)
 
-      pub mask-place-fits : length text < 2 ^ 64 → Fits w64 (at + end)
-      mask-place-fits l = record { fits = omega (arith, mask-inside) }
+      pub mask-next-fits : length text < 2 ^ 64 → Fits w64 (at + l .next)
+      mask-next-fits h = record { fits = omega (arith, mask-inside) }
 
-      pub mask-next-fits : length text < 2 ^ 64 → Fits w64 (at + end + 1)
-      mask-next-fits l = record { fits = omega (arith, mask-inside) }
+      mask-turn : seenMasks (C - c) seen (drop at text) ≡ more m (seenMasks (C - (c + 1)) (bitOr seen m) (drop (at + l .next) text))
+      mask-turn = rw (one-less, ← after-line text at l ends) (mask-step (C - (c + 1)) seen (drop at text) m (restOf (drop at text)) (given .is))
 
-      mask-turn : seenMasks (C - c) seen (drop at text) ≡ more m (seenMasks (C - (c + 1)) (bitOr seen m) (drop (at + end + 1) text))
-      mask-turn = rw (one-less, ← after-line text at end ends) (mask-step (C - (c + 1)) seen (drop at text) m (after newline (drop at text)) (given .is))
+      pub masks-next : MasksLeft C start text o (set o′ c m) (at + l .next) (bitOr seen m) (c + 1)
+      masks-next = record { within = omega arith; lines = lines-next _ text o o′ at c _ (inv .lines) m (at + l .next) _ mask-turn (omega arith) mask-inside }
 
-      pub masks-next : MasksLeft C start text o (set o′ c m) (at + end + 1) (bitOr seen m) (c + 1)
-      masks-next = record { within = omega arith; lines = lines-next _ text o o′ at c _ (inv .lines) m (at + end + 1) _ mask-turn (omega arith) mask-inside }
-
-pub ruleset scan-mask-laws = (needs, masks-start, masks-done, masks-refused, mask-place-fits, mask-next-fits, masks-next)
+pub ruleset scan-mask-laws = (needs, masks-start, masks-done, masks-refused, mask-next-fits, masks-next)
 
 -- ---- `scan_states`
 pub record StatesLeft (C N : ℕ) (masks : List ℕ) (start : ℕ) (text o o′ : List ℕ) (at prior k : ℕ) : Type 0 where
@@ -104,11 +102,11 @@ module _ (C N : ℕ) (masks : List ℕ) (start : ℕ) (text o o′ : List ℕ) (
       let z : N - k ≡ 0 = omega arith in
       lines-stop _ text o o′ at k _ (inv .lines) n (rw z (states-end C masks k prior n (drop at text) (last-line n e))) (omega (arith, inv .within))
 
-  module _ (h : k < N) (end : ℕ) (is : end ≡ before newline (take (length text - at) (drop at text))) (r : StateRead) (rs : r ≡ stateAnswer (stateLine C masks k prior (take (length text - at) (drop at text)))) where
+  module _ (h : k < N) (l : Line) (is : FirstLine (take (length text - at) (drop at text)) l) (r : StateRead) (rs : r ≡ stateAnswer (stateLine C masks k prior (take (length text - at) (drop at text)))) where
     one-fewer : N - k ≡ suc (N - (k + 1))
     one-fewer = omega arith
 
-    line-ends : end ≡ before newline (drop at text)
+    line-ends : FirstLine (drop at text) l
     line-ends = rw (part-to-end text at) at is
 
     answered : r ≡ stateAnswer (stateLine C masks k prior (drop at text))
@@ -123,19 +121,16 @@ module _ (C N : ℕ) (masks : List ℕ) (start : ℕ) (text o o′ : List ℕ) (
       got : StateIs C masks k prior (drop at text) s
       got = state-is C masks k prior (drop at text) r answered s e
 
-      pub state-inside : at + end + 1 ≤ length text
-      state-inside = line-inside text at end line-ends (inv .lines .inside) (got .closed)
+      state-inside : at + l .next ≤ length text
+      state-inside = line-inside text at l line-ends (inv .lines .inside)
 
-      pub state-place-fits : length text < 2 ^ 64 → Fits w64 (at + end)
-      state-place-fits l = record { fits = omega (arith, state-inside) }
+      pub state-next-fits : length text < 2 ^ 64 → Fits w64 (at + l .next)
+      state-next-fits h = record { fits = omega (arith, state-inside) }
 
-      pub state-next-fits : length text < 2 ^ 64 → Fits w64 (at + end + 1)
-      state-next-fits l = record { fits = omega (arith, state-inside) }
+      state-turn : scanStates C masks (N - k) k prior (drop at text) ≡ more s (scanStates C masks (N - (k + 1)) (k + 1) s (drop (at + l .next) text))
+      state-turn = rw (one-fewer, ← after-line text at l line-ends) (state-step C masks (N - (k + 1)) k prior (drop at text) s (restOf (drop at text)) (got .is))
 
-      state-turn : scanStates C masks (N - k) k prior (drop at text) ≡ more s (scanStates C masks (N - (k + 1)) (k + 1) s (drop (at + end + 1) text))
-      state-turn = rw (one-fewer, ← after-line text at end line-ends) (state-step C masks (N - (k + 1)) k prior (drop at text) s (after newline (drop at text)) (got .is))
+      pub states-next : StatesLeft C N masks start text o (set o′ k s) (at + l .next) s (k + 1)
+      states-next = record { within = omega arith; lines = lines-next _ text o o′ at k _ (inv .lines) s (at + l .next) _ state-turn (omega arith) state-inside }
 
-      pub states-next : StatesLeft C N masks start text o (set o′ k s) (at + end + 1) s (k + 1)
-      states-next = record { within = omega arith; lines = lines-next _ text o o′ at k _ (inv .lines) s (at + end + 1) _ state-turn (omega arith) state-inside }
-
-pub ruleset scan-state-laws = (needs, states-start, states-done, states-refused, state-place-fits, state-next-fits, states-next)
+pub ruleset scan-state-laws = (needs, states-start, states-done, states-refused, state-next-fits, states-next)

@@ -8,16 +8,17 @@ use lib.Dec.{eqb}
 use lib.ListN.{length, take, drop, length-drop}
 use lib.Seq.{take-at}
 use borrow.Author.Needs.{needs}
-use borrow.Author.Tests.{eq-eqb, ne-eqb, lt-ltb, le-ltb, ltb-true, eqb-true, eqb-false}
+use borrow.Author.Tests.{eq-eqb, ne-eqb, lt-ltb, le-ltb, eqb-true, eqb-false}
 use Rattle.definitions.specs.Limits.{lentShort, maxControllers, maxStates}
 use Rattle.definitions.specs.Bounded.{pick}
-use Rattle.definitions.specs.Lines.{newline, before, after, Heading, heading, refused, read, onNext, Scan}
+use Rattle.definitions.specs.Lines.{restOf, Heading, heading, refused, read, onNext, Scan}
 use Rattle.definitions.specs.RecordingText.{recordingHeadingLine, scanMasks, scanStates, RecordingScan, recordingStop, recordingMasks, recordingStates, scanRecording}
 use Rattle.definitions.specs.Operations.{answer, tooShort, readRecordingNumber, readRecordingAnswer, readRecordingMasks, readRecordingStates}
 use Rattle.theorems.proofs.Choice.{by-test, pick-true, pick-false}
 use Rattle.lent.specs.Space.{laid, cleared}
 use Rattle.lent.proofs.LeftLaws.{laid-past, laid-begins, left-untouched, left-zeroed, left-filled}
-use Rattle.lines.specs.Reading.{LinesScanned}
+use Rattle.lines.specs.Reading.{FirstLine, LinesScanned}
+use Rattle.lines.specs.declared.next.Line.{Line}
 use Rattle.lines.specs.declared.next.Stopped.{Stopped}
 use Rattle.lines.proofs.LoopLaws.{Counted}
 use Rattle.trace_lines.specs.NextLines.{headingAnswer}
@@ -81,7 +82,7 @@ module _ (t : List ℕ) where
   unfolding scanRecording onNext
   recording-step h rest e = rw e
 
-module _ (text masks states : List ℕ) (end : ℕ) (is : end ≡ before newline text) (r : HeadingRead) (rs : r ≡ headingAnswer (recordingHeadingLine text)) where
+module _ (text masks states : List ℕ) (l : Line) (is : FirstLine text l) (r : HeadingRead) (rs : r ≡ headingAnswer (recordingHeadingLine text)) where
   pub heading-refused : (k : ℕ) (v : Scanned) → r ≡ first.Refused k → v ≡ record { number = k; controllers = 0; count = 0; «rest_at» = 0 } → RecordingScanned text masks states v masks states
   heading-refused k v e w =
       let u = unheaded text r rs k e in
@@ -91,44 +92,43 @@ module _ (text masks states : List ℕ) (end : ℕ) (is : end ≡ before newline
     limits : Headed text C N
     limits = headed text r rs C N e
 
-    scan-is : scanRecording text ≡ recordingMasks C N (scanMasks C [] (drop (end + 1) text))
+    scan-is : scanRecording text ≡ recordingMasks C N (scanMasks C [] (drop (l .next) text))
     scan-is =
-        recording-step text (heading C N) (after newline text) (limits .is)
-        ∙ ap (λ (j : ℕ). recordingMasks C N (scanMasks C [] (drop (j + 1) text))) (sym is)
+        recording-step text (heading C N) (restOf text) (limits .is) ∙ ap (λ (u : List ℕ). recordingMasks C N (scanMasks C [] u)) (sym (is .rest))
 
-    pub mask-room : MaskRoom C (end + 1) text masks
-    mask-room = record { few = limits .few; inside = omega (arith, ltb-true (before newline text) (length text) (limits .closed)); room = room .masksRoom }
+    pub mask-room : MaskRoom C (l .next) text masks
+    mask-room = record { few = limits .few; inside = is .inside; room = room .masksRoom }
 
-    module _ (owned : Stopped) (masks′ : List ℕ) (m : LinesScanned (scanMasks C [] (drop (end + 1) text)) text masks owned masks′) where
-      masks-few : Counted C (scanMasks C [] (drop (end + 1) text))
-      masks-few = masks-counted C [] (drop (end + 1) text)
+    module _ (owned : Stopped) (masks′ : List ℕ) (m : LinesScanned (scanMasks C [] (drop (l .next) text)) text masks owned masks′) where
+      masks-few : Counted C (scanMasks C [] (drop (l .next) text))
+      masks-few = masks-counted C [] (drop (l .next) text)
 
       masks-past : drop maxControllers masks′ ≡ drop maxControllers masks
       masks-past =
-          laid-past maxControllers (scanMasks C [] (drop (end + 1) text) .words) masks masks′ (omega (arith, masks-few .most, limits .few)) (m .words)
+          laid-past maxControllers (scanMasks C [] (drop (l .next) text) .words) masks masks′ (omega (arith, masks-few .most, limits .few)) (m .words)
 
       pub masks-refused : (v : Scanned) → (owned .number ≡ 0 → ⊥) → v ≡ record { number = owned .number; controllers = 0; count = 0; «rest_at» = owned .at } → RecordingScanned text masks states v masks′ states
       masks-refused v z w =
-          let d : scanRecording text ≡ recordingStop (scanMasks C [] (drop (end + 1) text) .number) (scanMasks C [] (drop (end + 1) text) .rest)
-          = scan-is ∙ masks-denied C N (scanMasks C [] (drop (end + 1) text)) (λ q. z (m .number ∙ q)) in
+          let d : scanRecording text ≡ recordingStop (scanMasks C [] (drop (l .next) text) .number) (scanMasks C [] (drop (l .next) text) .rest)
+          = scan-is ∙ masks-denied C N (scanMasks C [] (drop (l .next) text)) (λ q. z (m .number ∙ q)) in
           rw w (stopped-scan text masks states masks′ (owned .number) (owned .at) _ (rw (m .number) d) (m .inside) (m .rest) z masks-past)
 
       module _ (z : owned .number ≡ 0) where
         pub state-room : StateRoom C N (owned .at) text states
         state-room = record { few = limits .few; short = limits .short; inside = m .inside; room = room .statesRoom }
 
-        all-masks : length (scanMasks C [] (drop (end + 1) text) .words) ≡ C
+        all-masks : length (scanMasks C [] (drop (l .next) text) .words) ≡ C
         all-masks = masks-few .all (sym (m .number) ∙ z)
 
         module _ (stopped : Stopped) (states′ : List ℕ) (s : LinesScanned (scanStates C masks′ N 0 0 (drop (owned .at) text)) text states stopped states′) where
           states-few : Counted N (scanStates C masks′ N 0 0 (drop (owned .at) text))
           states-few = states-counted C masks′ N 0 0 (drop (owned .at) text)
 
-          whole : scanRecording text ≡ recordingStates C N (scanMasks C [] (drop (end + 1) text) .words) (scanStates C masks′ N 0 0 (drop (owned .at) text))
+          whole : scanRecording text ≡ recordingStates C N (scanMasks C [] (drop (l .next) text) .words) (scanStates C masks′ N 0 0 (drop (owned .at) text))
           whole =
               scan-is
-              ∙ (masks-read C N (scanMasks C [] (drop (end + 1) text)) (sym (m .number) ∙ z)
-              ∙ ap (recordingStates C N (scanMasks C [] (drop (end + 1) text) .words)) (sym (states-of C N masks masks′ (scanMasks C [] (drop (end + 1) text) .words) (drop (owned .at) text) _ (m .words) all-masks (m .rest))))
+              ∙ (masks-read C N (scanMasks C [] (drop (l .next) text)) (sym (m .number) ∙ z)
+              ∙ ap (recordingStates C N (scanMasks C [] (drop (l .next) text) .words)) (sym (states-of C N masks masks′ (scanMasks C [] (drop (l .next) text) .words) (drop (owned .at) text) _ (m .words) all-masks (m .rest))))
 
           number-is : stopped .number ≡ (scanRecording text) .number
           number-is = s .number ∙ sym (ap (λ (q : RecordingScan). q .number) whole)
@@ -136,7 +136,7 @@ module _ (text masks states : List ℕ) (end : ℕ) (is : end ≡ before newline
           rest-is : drop (stopped .at) text ≡ (scanRecording text) .rest
           rest-is = s .rest ∙ sym (ap (λ (q : RecordingScan). q .rest) whole)
 
-          masks-are : (scanRecording text) .masks ≡ scanMasks C [] (drop (end + 1) text) .words
+          masks-are : (scanRecording text) .masks ≡ scanMasks C [] (drop (l .next) text) .words
           masks-are = ap (λ (q : RecordingScan). q .masks) whole
 
           states-are : (scanRecording text) .states ≡ scanStates C masks′ N 0 0 (drop (owned .at) text) .words

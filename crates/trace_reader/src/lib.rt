@@ -6,11 +6,11 @@ ghost use lib.ListN.{drop};
 ghost use Rattle.definitions.specs.RecordingText.{scanMasks, scanStates};
 ghost use Rattle.lines.specs.Reading.{LinesScanned};
 ghost use Rattle.trace_reader.specs.Reading.{Room, MaskRoom, StateRoom, RecordingScanned, ReadRecording};
-use fields::scan;
 use formulas::choice;
 use formulas::limits::Limits;
 use formulas::limits::Refusal;
 use lines::next::Stopped;
+use lines::next::first_line;
 use trace_lines::HeadingRead;
 use trace_lines::MaskRead;
 use trace_lines::StateRead;
@@ -42,12 +42,12 @@ fn scan_masks(text: &[u8], start: usize, controllers: usize, masks: &mut [u32]) 
     let mut c = 0;
     while c < controllers {
         let t = &text[at..];
-        let end = scan::until_byte(t, scan::NEWLINE);
-        match next_mask(seen, t, end) {
+        let line = first_line(t);
+        match next_mask(seen, t, line.len) {
             MaskRead::Mask(mask) => {
                 masks[c] = mask;
                 seen = seen | mask;
-                at = at + end + 1;
+                at = at + line.next;
                 c += 1;
             }
             MaskRead::Refused(number) => {
@@ -78,12 +78,12 @@ fn scan_states(
     let mut k = 0;
     while k < count {
         let t = &text[at..];
-        let end = scan::until_byte(t, scan::NEWLINE);
-        match next_state(controllers, masks, k, prior, t, end) {
+        let line = first_line(t);
+        match next_state(controllers, masks, k, prior, t, line.len) {
             StateRead::State(state) => {
                 states[k] = state;
                 prior = state;
-                at = at + end + 1;
+                at = at + line.next;
                 k += 1;
             }
             StateRead::Refused(number) => {
@@ -112,10 +112,10 @@ pub fn scan_recording(text: &[u8], masks: &mut [u32], states: &mut [u64]) -> Sca
     requires { ⌜ Room (now masks) (now states) ⌝ }
     ensures { λ r. ⌜ RecordingScanned (now (text .entry)) (now (masks .entry)) (now (states .entry)) r (now (masks .exit)) (now (states .exit)) ⌝ }
 {
-    let end = scan::until_byte(text, scan::NEWLINE);
-    match next_heading(text, end) {
+    let line = first_line(text);
+    match next_heading(text, line.len) {
         HeadingRead::Heading(controllers, count) => {
-            let owned = scan_masks(text, end + 1, controllers, masks);
+            let owned = scan_masks(text, line.next, controllers, masks);
             if owned.number != Refusal::NONE {
                 return unread(owned.number, owned.at);
             }

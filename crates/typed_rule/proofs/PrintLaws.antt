@@ -13,7 +13,7 @@ use Rattle.definitions.specs.Limits.{accepted, maxControllers, maxRuleNodes, ma
 use Rattle.definitions.specs.Bounded.{pick}
 use Rattle.definitions.specs.Nodes.{nodeWord}
 use Rattle.definitions.specs.Tables.{ruleRefusal, ruleOf}
-use Rattle.definitions.specs.Lines.{tab, newline, before, isEmpty, has, upTo, after, digits, onParsed, decimal}
+use Rattle.definitions.specs.Lines.{tab, newline, before, isEmpty, has, upTo, after, isClosed, lineOf, restOf, digits, onParsed, decimal}
 use Rattle.definitions.specs.Operations.{Answer, answer, tooShort, left, textOf, writeRuleNumber, writeRuleAnswer, writeRuleText}
 use Rattle.definitions.specs.Program.{refusedWord}
 use Rattle.definitions.specs.OneLineGrammar.{Tree}
@@ -30,6 +30,9 @@ use Rattle.fields.specs.declared.number.Field.{Field}
 use Rattle.fields.specs.declared.number.Field.the-variants.{Number, Malformed}
 use Rattle.printing.proofs.PrintLaws.{printed-seq}
 use Rattle.fields.proofs.PartLaws.{part-laws, has-yes, has-no, up-to-part, after-part}
+use Rattle.lines.specs.Reading.{FirstLine}
+use Rattle.lines.specs.declared.next.Line.{Line}
+use Rattle.lines.proofs.NextLaws.{line-part, line-part-laws, short-closed, whole-open}
 use Rattle.fields.proofs.FieldLaws.{cap-over, cap-within, cap-exact, Read, capped-read, capped-malformed}
 use Rattle.formula_reader.specs.Reading.{readAnswer}
 use Rattle.formula_writer.specs.Writing.{WroteRule, writeAnswer}
@@ -275,31 +278,35 @@ pub rule-long : (input : List ℕ) → maxInputBytes < length input → (k : ℕ
 unfolding ruleOutput
 rule-long input h k o p = rw (pick-true (ltb maxInputBytes (length input)) (refusalText inputLong) _ (lt-ltb maxInputBytes (length input) h)) p
 
-module _ (input : List ℕ) (few : length input ≤ maxInputBytes) (i : ℕ) (is : i ≡ before newline input) where
-  rule-short : ruleOutput input ≡ pick (has newline input && isEmpty (after newline input)) (typedOutput (upTo newline input)) (refusalText ruleForm)
+module _ (input : List ℕ) (few : length input ≤ maxInputBytes) (l : Line) (is : FirstLine input l) where
+  rule-short : ruleOutput input ≡ pick (isClosed input && isEmpty (restOf input)) (typedOutput (lineOf input)) (refusalText ruleForm)
   unfolding ruleOutput
   rule-short = pick-false (ltb maxInputBytes (length input)) (refusalText inputLong) _ (le-ltb maxInputBytes (length input) few)
 
-  pub rule-line : i + 1 ≡ length input → (k : ℕ) (o : List ℕ) → Prints (typedOutput (take i input)) k o → Prints (ruleOutput input) k o
+  rest-counts : length (restOf input) ≡ length input - l .next
+  rest-counts = ap length (sym (is .rest)) ∙ length-drop (l .next) input
+
+  pub rule-unclosed : l .len ≡ length input → (k : ℕ) (o : List ℕ) → Prints (refusalText ruleForm) k o → Prints (ruleOutput input) k o
   unfolding pick
-  rule-line h k o p =
-      let rest : after newline input ≡ [] = drop-of-length-le input {i = before newline input + 1} (omega arith) in
-      let closed : has newline input ≡ true = has-yes newline input i is (omega arith) in
-      let none : isEmpty (after newline input) ≡ true = eq-eqb (length (after newline input)) 0 (ap length rest) in
-      rw (rule-short, closed, none) (rw (up-to-part newline input i is) at p)
+  rule-unclosed h k o p = rw (rule-short, whole-open input (omega (arith, is .length-is))) p
 
-  not-one-line : (i + 1 ≡ length input → ⊥) → (has newline input && isEmpty (after newline input)) ≡ false
-  not-one-line n =
-      by-test (has newline input)
-      (λ e.
-      let h = ltb-true (before newline input) (length input) e in
-      rw (e, ne-eqb (length (after newline input)) 0 (λ z. n (omega (arith, length-drop (before newline input + 1) input)))))
-      (λ e. rw e)
+  module _ (c : l .len ≡ length input → ⊥) where
+    closed : isClosed input ≡ true
+    closed = short-closed input (omega (arith, is .length-is, is .within))
 
-  pub rule-form : (i + 1 ≡ length input → ⊥) → (k : ℕ) (o : List ℕ) → Prints (refusalText ruleForm) k o → Prints (ruleOutput input) k o
-  rule-form n k o p = rw (rule-short, pick-false _ (typedOutput (upTo newline input)) (refusalText ruleForm) (not-one-line n)) p
+    pub rule-line : l .next ≡ length input → (k : ℕ) (o : List ℕ) → Prints (typedOutput (take (l .len) input)) k o → Prints (ruleOutput input) k o
+    unfolding pick
+    rule-line h k o p =
+        let none : isEmpty (restOf input) ≡ true = eq-eqb (length (restOf input)) 0 (omega (arith, rest-counts)) in
+        rw (rule-short, closed, none) (rw (line-part input (l .len) (is .length-is)) at p)
 
-pub ruleset rule-laws = (needs, part-laws, rule-long, rule-line, rule-form)
+    pub rule-form : (l .next ≡ length input → ⊥) → (k : ℕ) (o : List ℕ) → Prints (refusalText ruleForm) k o → Prints (ruleOutput input) k o
+    unfolding pick
+    rule-form n k o p =
+        let some : isEmpty (restOf input) ≡ false = ne-eqb (length (restOf input)) 0 (λ z. n (omega (arith, rest-counts, is .inside))) in
+        rw (rule-short, closed, some) p
+
+pub ruleset rule-laws = (line-part-laws, rule-long, rule-unclosed, rule-line, rule-form)
 
 -- ---- what a caller uses: `&output[..r]` has as many bytes as it says
 pub printed-counts : (printed text : List ℕ) (r : ℕ) → Prints printed r text → r ≡ length (take r text)

@@ -15,6 +15,7 @@ use formula_writer::write_rule;
 use formulas::limits::Limits;
 use formulas::limits::Refusal;
 use line_text::read::read_line;
+use lines::next::first_line;
 
 // The word `refused` and the number.
 fn put_refusal(number: u8, text: &mut [u8]) -> usize
@@ -73,9 +74,12 @@ pub fn print_rule(input: &[u8], output: &mut [u8; Limits::RULE_BYTES]) -> usize
     if Limits::INPUT_BYTES < input.len() {
         return print_refusal(Refusal::INPUT_LONG, output);
     }
-    let end = scan::until_byte(input, scan::NEWLINE);
-    if end + 1 == input.len() {
-        return print_typed(&input[..end], output);
+    let line = first_line(input);
+    if line.len == input.len() {
+        return print_refusal(Refusal::RULE_FORM, output);
+    }
+    if line.next == input.len() {
+        return print_typed(&input[..line.len], output);
     }
     print_refusal(Refusal::RULE_FORM, output)
 }

@@ -22,8 +22,8 @@ part-t-start c = search loop-laws
 part-t-end : tie.Need-part-t-end Inv-loop μ-loop
 part-t-end c = search loop-laws
 
-until-byte-requires : tie.Need-until-byte-requires Inv-loop μ-loop
-until-byte-requires c κs = search loop-laws
+first-line-requires : tie.Need-first-line-requires Inv-loop μ-loop
+first-line-requires c κs = search loop-laws
 
 next-node-requires : tie.Need-next-node-requires Inv-loop μ-loop
 next-node-requires c κs = search loop-laws
@@ -39,9 +39,6 @@ slice-write-nodes c = search loop-laws
 
 add-at : tie.Need-add-at Inv-loop μ-loop
 add-at c = search loop-laws
-
-add-at-2 : tie.Need-add-at-2 Inv-loop μ-loop
-add-at-2 c = search loop-laws
 
 add-i : tie.Need-add-i Inv-loop μ-loop
 add-i c = search loop-laws
@@ -80,13 +77,12 @@ scan-nodes-spec =
     sub-t
     part-t-start
     part-t-end
-    until-byte-requires
+    first-line-requires
     next-node-requires
     enum-known-word
     mul-nodes
     slice-write-nodes
     add-at
-    add-at-2
     add-i
     loop-less
     loop-again

@@ -4,17 +4,14 @@ use borrow.Author.Needs.{needs}
 use Rattle.formula_reader.proofs.scan_rule.Statement.{statement}
 use Rattle.formula_reader.proofs.scan_rule.Tie as tie
 
-until-byte-requires : tie.Need-until-byte-requires
-until-byte-requires c κs = search needs
+first-line-requires : tie.Need-first-line-requires
+first-line-requires c κs = search needs
 
 next-heading-requires : tie.Need-next-heading-requires
 next-heading-requires c κs = search needs
 
 enum-known-controller : tie.Need-enum-known-controller
 enum-known-controller c = search needs
-
-add-scan-nodes : tie.Need-add-scan-nodes
-add-scan-nodes c = search needs
 
 scan-nodes-requires : tie.Need-scan-nodes-requires
 scan-nodes-requires c κs = search scan-laws
@@ -38,10 +35,9 @@ pub scan-rule-spec : {M : Type 1} → statement M
 scan-rule-spec =
     tie.close
     (tie.spec
-    until-byte-requires
+    first-line-requires
     next-heading-requires
     enum-known-controller
-    add-scan-nodes
     scan-nodes-requires
     enum-known-number
     unread-requires

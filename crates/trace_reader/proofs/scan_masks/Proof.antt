@@ -22,8 +22,8 @@ part-t-start c = search scan-mask-laws
 part-t-end : tie.Need-part-t-end Inv-loop μ-loop
 part-t-end c = search scan-mask-laws
 
-until-byte-requires : tie.Need-until-byte-requires Inv-loop μ-loop
-until-byte-requires c κs = search scan-mask-laws
+first-line-requires : tie.Need-first-line-requires Inv-loop μ-loop
+first-line-requires c κs = search scan-mask-laws
 
 next-mask-requires : tie.Need-next-mask-requires Inv-loop μ-loop
 next-mask-requires c κs = search scan-mask-laws
@@ -39,9 +39,6 @@ slice-write-masks c = search scan-mask-laws
 
 add-at : tie.Need-add-at Inv-loop μ-loop
 add-at c = search scan-mask-laws
-
-add-at-2 : tie.Need-add-at-2 Inv-loop μ-loop
-add-at-2 c = search scan-mask-laws
 
 add-c : tie.Need-add-c Inv-loop μ-loop
 add-c c = search scan-mask-laws
@@ -77,13 +74,12 @@ scan-masks-spec =
     sub-t
     part-t-start
     part-t-end
-    until-byte-requires
+    first-line-requires
     next-mask-requires
     enum-known-mask
     mul-masks
     slice-write-masks
     add-at
-    add-at-2
     add-c
     loop-less
     loop-again

@@ -4,17 +4,14 @@ use borrow.Author.Needs.{needs}
 use Rattle.trace_reader.proofs.scan_recording.Statement.{statement}
 use Rattle.trace_reader.proofs.scan_recording.Tie as tie
 
-until-byte-requires : tie.Need-until-byte-requires
-until-byte-requires c κs = search needs
+first-line-requires : tie.Need-first-line-requires
+first-line-requires c κs = search needs
 
 next-heading-requires : tie.Need-next-heading-requires
 next-heading-requires c κs = search needs
 
 enum-known-controllers : tie.Need-enum-known-controllers
 enum-known-controllers c = search needs
-
-add-scan-masks : tie.Need-add-scan-masks
-add-scan-masks c = search needs
 
 scan-masks-requires : tie.Need-scan-masks-requires
 scan-masks-requires c κs = search scan-laws
@@ -53,10 +50,9 @@ pub scan-recording-spec : {M : Type 1} → statement M
 scan-recording-spec =
     tie.close
     (tie.spec
-    until-byte-requires
+    first-line-requires
     next-heading-requires
     enum-known-controllers
-    add-scan-masks
     scan-masks-requires
     unread-requires
     same-length

@@ -22,8 +22,8 @@ part-t-start c = search scan-state-laws
 part-t-end : tie.Need-part-t-end Inv-loop μ-loop
 part-t-end c = search scan-state-laws
 
-until-byte-requires : tie.Need-until-byte-requires Inv-loop μ-loop
-until-byte-requires c κs = search scan-state-laws
+first-line-requires : tie.Need-first-line-requires Inv-loop μ-loop
+first-line-requires c κs = search scan-state-laws
 
 next-state-requires : tie.Need-next-state-requires Inv-loop μ-loop
 next-state-requires c κs = search scan-state-laws
@@ -39,9 +39,6 @@ slice-write-states c = search scan-state-laws
 
 add-at : tie.Need-add-at Inv-loop μ-loop
 add-at c = search scan-state-laws
-
-add-at-2 : tie.Need-add-at-2 Inv-loop μ-loop
-add-at-2 c = search scan-state-laws
 
 add-k : tie.Need-add-k Inv-loop μ-loop
 add-k c = search scan-state-laws
@@ -80,13 +77,12 @@ scan-states-spec =
     sub-t
     part-t-start
     part-t-end
-    until-byte-requires
+    first-line-requires
     next-state-requires
     enum-known-state
     mul-states
     slice-write-states
     add-at
-    add-at-2
     add-k
     loop-less
     loop-again

@@ -1,20 +1,20 @@
--- `refused_at` meets its contract: the line up to its byte 10 (JoinLaws).
+-- `refused_at` meets its contract: the line without its ending (JoinLaws).
 use Rattle.joint_text.proofs.JoinLaws.{part-laws}
 use borrow.Author.Needs.{needs}
 use Rattle.joint_text.proofs.joint.refused_at.Statement.{statement}
 use Rattle.joint_text.proofs.joint.refused_at.Tie as tie
 
-sub-until-byte : tie.Need-sub-until-byte
-sub-until-byte c = search needs
+sub-first-line : tie.Need-sub-first-line
+sub-first-line c = search needs
 
-part-until-byte-start : tie.Need-part-until-byte-start
-part-until-byte-start c = search needs
+part-first-line-start : tie.Need-part-first-line-start
+part-first-line-start c = search needs
 
-part-until-byte-end : tie.Need-part-until-byte-end
-part-until-byte-end c = search needs
+part-first-line-end : tie.Need-part-first-line-end
+part-first-line-end c = search needs
 
-until-byte-requires : tie.Need-until-byte-requires
-until-byte-requires c κs = search needs
+first-line-requires : tie.Need-first-line-requires
+first-line-requires c κs = search needs
 
 returns : tie.Need-returns
 returns c = search part-laws
@@ -22,4 +22,4 @@ returns c = search part-laws
 pub refused-at-spec : {M : Type 1} → statement M
 refused-at-spec =
     tie.close
-    (tie.spec sub-until-byte part-until-byte-start part-until-byte-end until-byte-requires returns)
+    (tie.spec sub-first-line part-first-line-start part-first-line-end first-line-requires returns)

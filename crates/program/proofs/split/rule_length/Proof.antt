@@ -14,20 +14,17 @@ abbrev μ-loop : tie.MeasureT-loop
 loop-holds : tie.Need-loop-holds Inv-loop μ-loop
 loop-holds c = search search-laws
 
-sub-until-byte : tie.Need-sub-until-byte Inv-loop μ-loop
-sub-until-byte c = search search-laws
+sub-t : tie.Need-sub-t Inv-loop μ-loop
+sub-t c = search search-laws
 
-part-until-byte-start : tie.Need-part-until-byte-start Inv-loop μ-loop
-part-until-byte-start c = search search-laws
+part-t-start : tie.Need-part-t-start Inv-loop μ-loop
+part-t-start c = search search-laws
 
-part-until-byte-end : tie.Need-part-until-byte-end Inv-loop μ-loop
-part-until-byte-end c = search search-laws
+part-t-end : tie.Need-part-t-end Inv-loop μ-loop
+part-t-end c = search search-laws
 
-until-byte-requires : tie.Need-until-byte-requires Inv-loop μ-loop
-until-byte-requires c κs = search search-laws
-
-add-end : tie.Need-add-end Inv-loop μ-loop
-add-end c = search search-laws
+first-line-requires : tie.Need-first-line-requires Inv-loop μ-loop
+first-line-requires c κs = search search-laws
 
 returns : tie.Need-returns Inv-loop μ-loop
 returns c = search search-laws
@@ -57,11 +54,10 @@ rule-length-spec =
     Inv-loop
     μ-loop
     loop-holds
-    sub-until-byte
-    part-until-byte-start
-    part-until-byte-end
-    until-byte-requires
-    add-end
+    sub-t
+    part-t-start
+    part-t-end
+    first-line-requires
     returns
     is-split-requires
     returns-2
