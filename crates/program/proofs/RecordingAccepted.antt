@@ -1,7 +1,7 @@
 -- The tables of an accepted recording text are accepted, and so are those of two texts that are accepted together.
 use mathlib.Core.Path.{_≡_, refl, sym, _∙_}
 use mathlib.Core.List.{List, [], _∷_}
-use Prim.Native.Nat.{ℕ, zero, suc, _+_, _≤_, _<_}
+use Prim.Native.Nat.{ℕ, zero, suc, _+_, _<_}
 use native.Mathlib.Omega.{arith}
 use lib.Dec.{eqb, ltb}
 use lib.ListN.{length, take}
@@ -16,7 +16,6 @@ use Rattle.definitions.specs.RecordingText.{recordingHeading, maskForm, stateFo
 use Rattle.definitions.specs.Program.{scanned}
 use Rattle.theorems.proofs.Choice.{by-test, accept-yes, none-or-else}
 use Rattle.theorems.proofs.Inversions.{must-pass, passes}
-use Rattle.theorems.proofs.Beginnings.{lowered, lowered-accepted}
 use Rattle.theorems.proofs.NextLines.{on-next, next-back, next-some}
 use Rattle.trace_reader.proofs.ScanLaws.{masks-counted, states-counted}
 
@@ -100,10 +99,6 @@ module _ (t : List ℕ) (n : (scanRecording t) .number ≡ 0) where
 
   pub states-count : length ((scanRecording t) .states) ≡ (scanRecording t) .count
   states-count = (all-read t n) .states
-
-  -- "Every beginning of an accepted recording, of one state or more and with N lowered, is then accepted itself" (document 02): of a text's tables
-  pub text-beginnings-accepted : (k : ℕ) → 0 < k → k ≤ (scanRecording t) .count → recordingRefusal (lowered (scanned (scanRecording t)) k) ≡ 0
-  text-beginnings-accepted k some few = lowered-accepted (scanned (scanRecording t)) k recording-fine some few
 
 -- ---- both texts are accepted
 pub record TextsAccepted (rule recording : List ℕ) : Type 0 where

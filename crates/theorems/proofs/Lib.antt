@@ -36,6 +36,7 @@ pub mod EndingReadings
 pub mod AcceptedEndings
 pub mod InputSplit
 pub mod ProgramEndings
+pub mod TextBeginnings
 pub mod Phrases
 pub mod PhraseUnique
 pub mod SentenceTrees
