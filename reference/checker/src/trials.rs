@@ -209,9 +209,8 @@ fn handed_back(
     Ok(())
 }
 
-/// Lines from the other system: either ending, line by line; 13 elsewhere; what
-/// is handed back.
-fn endings(check: &mut Check) -> Result<(), Difference> {
+/// Lines from the other system: the example with either ending, line by line.
+fn either_ending(check: &mut Check) -> Result<(), Difference> {
     let (rule, recording) = (rule_text(&example_rule()), recording_text(&recording_r()));
     let choices: [fn(usize) -> bool; 3] = [|_| true, |line| line % 2 == 0, |line| line == 3];
     for returned in choices {
@@ -222,6 +221,12 @@ fn endings(check: &mut Check) -> Result<(), Difference> {
         named(check, Input::read_recording(recording.clone()), 0, &[2, 5])?;
         named(check, Input::read_joint(rule, recording), 0, &accepted)?;
     }
+    Ok(())
+}
+
+/// 13 elsewhere, and what is handed back of a rule text.
+fn rule_endings(check: &mut Check) -> Result<(), Difference> {
+    let recording = recording_text(&recording_r());
     let rules: [(&[u8], u8, usize, &[u8]); 12] = [
         (b"rule\t0\t1\ntrue\r\r\n", 1, 9, b"true\r"),
         (b"rule\t0\t1\ntrue\r", 1, 9, b"true\r"),
@@ -239,6 +244,12 @@ fn endings(check: &mut Check) -> Result<(), Difference> {
     for (text, number, start, line) in rules {
         handed_back(check, [text, &recording], number, (0, start, line))?;
     }
+    Ok(())
+}
+
+/// The same of a recording text.
+fn recording_endings(check: &mut Check) -> Result<(), Difference> {
+    let rule = rule_text(&example_rule());
     let recordings: [(&[u8], u8, usize, &[u8]); 5] = [
         (b"recording\t1\t1\r\r\n", 5, 0, b"recording\t1\t1\r"),
         (b"recording\t1\t1\r\nowns\t00000001\r", 5, 15, b"owns\t00000001\r"),
@@ -366,7 +377,9 @@ pub fn jobs<'a>() -> Vec<Job<'a>> {
         Box::new(state_limit),
         Box::new(atom_limit),
         Box::new(joint_readings),
-        Box::new(endings),
+        Box::new(either_ending),
+        Box::new(rule_endings),
+        Box::new(recording_endings),
         Box::new(one_line),
         Box::new(traps),
         Box::new(mid_step),
