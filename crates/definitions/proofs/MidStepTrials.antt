@@ -38,6 +38,7 @@ pub record MidStep : Type 0 where
   pub runAndEnd : judgeRecordingAnswer (record { count = 2; nodes = nodeWord (node Run 0 0) ∷ nodeWord (node End 0 0) ∷ []; weakTop = 0; strongTop = 1 }) midZ 0
       (replicate maxRowWords 0) ≡ answer 0 (no ∷ yes ∷ [])
   -- the last state is that of the declared N, where more states are there: state 2 of R, with the mark of controller 0
+  pub loweredLength : projectAnswer (recordingOf 2 3 (1 ∷ 2 ∷ []) (R .states)) 0 (replicate maxStates 0) ≡ answer 0 (2 ∷ [])
   pub lowered : projectPlaces (recordingOf 2 3 (1 ∷ 2 ∷ []) (R .states)) 0 (replicate 129 7) ≡ 2 ∷ 1 ∷ (replicate 126 0 ++ (7 ∷ []))
   -- "the state as read still holds it"
   pub stillHeld : readRecordingStates (bytes "recording\t1\t1\nowns\t00000001\nat\t01\t00000000\n") (replicate maxControllers 7) (replicate 129 7)
@@ -55,6 +56,7 @@ midStep = record {
   nextAtLast = refl;
   foreignAtom = refl;
   runAndEnd = refl;
+  loweredLength = refl;
   lowered = refl;
   stillHeld = refl;
 }
