@@ -54,7 +54,7 @@ pub ruleset ending-laws = (needs, ending-none, ending-within, ending-return, end
 
 -- ---- `first_line`
 module _ (t : List ℕ) (end : ℕ) (is : Located newline t end) where
-  pub line-open : end ≡ length t → FirstLine t (record { len = end; next = end })
+  pub line-open : length t ≤ end → FirstLine t (record { len = end; next = end })
   line-open e = record {
     length-is = is .place ∙ sym (length-open t (omega (arith, is .place)));
     within = is .within;
@@ -62,18 +62,18 @@ module _ (t : List ℕ) (end : ℕ) (is : Located newline t end) where
     rest = drop-of-length-le t {i = end} (omega arith) ∙ sym (drop-of-length-le t {i = before newline t + 1} (omega (arith, is .place)));
   }
 
-  module _ (n : end ≡ length t → ⊥) where
+  module _ (h : end < length t) where
     pub line-ending : Ending t end
-    line-ending = record { stands = is .place; inside = omega (arith, is .within) }
+    line-ending = record { stands = is .place; inside = h }
 
     pub line-next-fits : length t < 2 ^ 64 → Fits w64 (end + 1)
-    line-next-fits h = record { fits = omega (arith, is .within) }
+    line-next-fits few = record { fits = omega arith }
 
     pub line-closed : (len : ℕ) → len ≡ lineLength t → FirstLine t (record { len = len; next = end + 1 })
     line-closed len e = record {
       length-is = e;
       within = omega (arith, length-le t);
-      inside = omega (arith, is .within);
+      inside = omega arith;
       rest = ap (λ (k : ℕ). drop (k + 1) t) (is .place);
     }
 

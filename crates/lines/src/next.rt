@@ -35,15 +35,15 @@ pub fn first_line(t: &[u8]) -> Line
     ensures { λ r. ⌜ FirstLine (now (t .entry)) r ⌝ }
 {
     let end = scan::until_byte(t, scan::NEWLINE);
-    if end == t.len() {
+    if end < t.len() {
         return Line {
-            len: end,
-            next: end,
+            len: before_ending(t, end),
+            next: end + 1,
         };
     }
     Line {
-        len: before_ending(t, end),
-        next: end + 1,
+        len: end,
+        next: end,
     }
 }
 
