@@ -33,8 +33,9 @@
  *
  * A recording is C controllers, 1 to 8, each with a mask of the atoms that it
  * owns, and N states, 1 to 128. A state is atoms + 4294967296 * run marks, bit
- * c for controller c. A mask and a place of a local trace are 32 atoms, bit a
- * for atom a.
+ * c for controller c. A mark in the last of the N states is a step whose result
+ * isn't there: it is read as no run, and the state as read still holds it. A
+ * mask and a place of a local trace are 32 atoms, bit a for atom a.
  *
  * Verdicts come in pairs. Weak: yes unless what is recorded breaks the rule.
  * Strong: yes if what is recorded shows the rule, however it would go on. So
@@ -58,7 +59,7 @@
 extern "C" {
 #endif
 
-/* Refusal numbers. */
+/* Refusal numbers; 9 is no longer given. */
 enum {
     RGV_ACCEPTED = 0,
     RGV_RULE_FORM = 1,         /* a rule line not closed by byte 10, or not of its form */
@@ -70,7 +71,6 @@ enum {
     RGV_RECORDING_LIMITS = 6,  /* a number outside its limits, a run mark at C or above */
     RGV_MASKS_MEET = 7,        /* a mask meets an earlier mask */
     RGV_RECORDING_LINES = 8,   /* a recording line, mask or state missing, or a line too many */
-    RGV_LAST_MARK = 9,         /* a run mark in the last state */
     RGV_OUTPUT_RULE = 10,      /* an own atom changed though its controller didn't run in the state before */
     RGV_NO_CONTROLLER = 11,    /* the controller is not below C */
     RGV_TOO_MANY_NODES = 12,   /* a rewritten table over 1,024 nodes */
@@ -132,7 +132,7 @@ uint8_t rgv_write_rule(size_t controller, size_t count,
 
 /*
  * Reads a recording text. Full sizes: masks RGV_MASKS, states RGV_STATES.
- * values: C, N. Refusals: 13, 5, 6, 7, 10, 9, 8.
+ * values: C, N. Refusals: 13, 5, 6, 7, 10, 8.
  */
 uint8_t rgv_read_recording(const uint8_t *text, size_t text_len,
                            uint32_t *masks, size_t masks_len,
@@ -159,7 +159,7 @@ uint8_t rgv_read_joint(const uint8_t *rule, size_t rule_len,
  * The local trace of controller c: the words of the states in which it runs,
  * then the state after the last of them with its own atoms only. Full size:
  * places RGV_PLACES.
- * values: local length. Refusals: 13, 6, 7, 10, 9, 8, 11.
+ * values: local length. Refusals: 13, 6, 7, 10, 8, 11.
  */
 uint8_t rgv_project(size_t controllers, size_t count,
                     const uint32_t *masks, size_t masks_len,
@@ -171,7 +171,7 @@ uint8_t rgv_project(size_t controllers, size_t count,
 /*
  * Judges a rule on its controller's local trace. Lends nothing.
  * values: weak verdict, strong verdict, 1 for yes.
- * Refusals: 2, 3, 4, 6, 7, 10, 9, 8, 11.
+ * Refusals: 2, 3, 4, 6, 7, 10, 8, 11.
  */
 uint8_t rgv_judge_local(size_t controller, size_t count,
                         const uint32_t *nodes, size_t nodes_len,
@@ -200,7 +200,7 @@ uint8_t rgv_rewrite_short(size_t controller, size_t count,
  * Judges the whole recording by a table of 1 to 1,024 nodes, run and end those
  * of controller c. Full size: rows RGV_ROW_WORDS, a row pair for each node.
  * values: weak verdict at weak_top, strong verdict at strong_top, 1 for yes.
- * Refusals: 13, 2, 3, 4, 2 (a top), 6, 7, 10, 9, 8, 11.
+ * Refusals: 13, 2, 3, 4, 2 (a top), 6, 7, 10, 8, 11.
  */
 uint8_t rgv_judge_recording(size_t count,
                             const uint32_t *nodes, size_t nodes_len,

@@ -255,7 +255,8 @@ fn texts_and_those_with_byte_10_alone_answer_the_same() {
         numbers[check_plain(&rule, &recording) as usize] += 1;
     }
     println!("{numbers:?}");
-    assert!(numbers.iter().all(|times| *times > 0));
+    // Every number but 9, which is no longer given.
+    assert!(numbers.iter().enumerate().all(|(number, times)| (*times > 0) == (number != 9)));
 }
 
 #[test]

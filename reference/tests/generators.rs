@@ -101,7 +101,7 @@ fn recording_tables_meet_every_number() {
         let recording = traces::recording(&mut random, limits::CONTROLLERS, limits::STATES);
         assert!(project(&recording, 0).is_ok());
     }
-    expect(&tally, &[0, 6, 7, 8, 9, 10, 11], 100);
+    expect(&tally, &[0, 6, 7, 8, 10, 11], 100);
 }
 
 #[test]
@@ -124,7 +124,7 @@ fn recording_texts_meet_every_number() {
         let text = texts::any_recording_text(&mut random, limits::CONTROLLERS, limits::STATES);
         count(&mut tally, read_recording(&text));
     }
-    expect(&tally, &[0, 5, 6, 7, 8, 9, 10], 100);
+    expect(&tally, &[0, 5, 6, 7, 8, 10], 100);
 }
 
 #[test]
@@ -158,10 +158,10 @@ fn program_inputs_meet_every_number() {
         *tally.entry(String::from_utf8_lossy(number).into_owned()).or_insert(0) += 1;
     }
     println!("{tally:?}");
-    for number in ["0", "1", "2", "3", "4", "5", "6", "7", "8", "9", "10", "11", "14"] {
+    for number in ["0", "1", "2", "3", "4", "5", "6", "7", "8", "10", "11", "14"] {
         assert!(tally.contains_key(number), "{number}");
     }
-    assert_eq!(tally.len(), 13);
+    assert_eq!(tally.len(), 12);
 }
 
 #[test]
@@ -180,6 +180,26 @@ fn schedules_differ_and_local_traces_do_not() {
     }
     println!("{differ:?}");
     assert!(differ.iter().all(|times| *times > 1000));
+}
+
+#[test]
+fn last_states_are_marked_and_unmarked() {
+    let mut random = Random::new(39);
+    let marked = |recording: &RecordingTable| recording.states[recording.length - 1] >> 32 != 0;
+    let mut tally = [0; 2];
+    for _ in 0..1000 {
+        let one = traces::recording(&mut random, limits::CONTROLLERS, limits::STATES);
+        let other = traces::rescheduled(&mut random, &one, 0);
+        tally[usize::from(marked(&one))] += 1;
+        tally[usize::from(marked(&other))] += 1;
+    }
+    println!("{tally:?}");
+    assert!(tally.iter().all(|times| *times > 300));
+    let all = exhaustive::recordings(2, 4);
+    for length in 1..=4 {
+        let of_length = || all.iter().filter(|recording| recording.length == length);
+        assert!(of_length().any(marked) && !of_length().all(marked));
+    }
 }
 
 #[test]
@@ -215,7 +235,9 @@ fn small_recordings_are_the_accepted_ones() {
     for controllers in 1..=2 {
         for length in 1..=4 {
             candidates(controllers, length, &mut |recording| {
-                accepted += usize::from(project(&recording, 0).is_ok());
+                let unmarked = recording.states[length - 1] < 1 << 32;
+                let counted = unmarked || length <= exhaustive::EVERY_LAST_MARK;
+                accepted += usize::from(counted && project(&recording, 0).is_ok());
             });
         }
     }

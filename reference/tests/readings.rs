@@ -42,13 +42,14 @@ impl Rows {
     }
 }
 
-/// Is the literal as recorded?
+/// Is the literal as recorded? A mark in the last state is no run.
 fn recorded(node: Node, recording: &RecordingTable, controller: usize, k: usize) -> bool {
-    let marked = |state: &u64| state >> (32 + controller) & 1 == 1;
+    let last = recording.length - 1;
+    let runs = |j: usize| j < last && recording.states[j] >> (32 + controller) & 1 == 1;
     match node.kind {
         ATOM => recording.states[k] >> node.first & 1 == 1,
-        RUN => marked(&recording.states[k]),
-        END => !recording.states[k..].iter().any(marked),
+        RUN => runs(k),
+        END => !(k..=last).any(runs),
         _ => unreachable!(),
     }
 }

@@ -40,8 +40,8 @@ pub record RefusedLines : Type 0 where
   pub masksMeet : afterTrue "recording\t3\t1\nowns\t00000001\nowns\t00000002\nowns\t00000005\n" ≡ bytes "refused\t7\towns\t00000005\n"
   -- "10 output rule broken by the state before": "the refused line" is the later state's
   pub outputBroken : afterTrue "recording\t1\t2\nowns\t00000001\nat\t00\t00000000\nat\t00\t00000001\n" ≡ bytes "refused\t10\tat\t00\t00000001\n"
-  -- "9 run mark in the last state"
-  pub lastMark : afterTrue "recording\t1\t1\nowns\t00000001\nat\t01\t00000000\n" ≡ bytes "refused\t9\tat\t01\t00000000\n"
+  -- "Number 9 is no longer given" (document 02): a run mark in the last state
+  pub lastMark : afterTrue "recording\t1\t1\nowns\t00000001\nat\t01\t00000000\n" ≡ bytes "local\t1\nown\tyes\tyes\nplain\t20\tyes\tyes\nshort\t12\tyes\tyes\n"
   -- "8 a line missing or one too many"
   pub stateMissing : afterTrue "recording\t1\t2\nowns\t00000001\nat\t00\t00000000\n" ≡ bytes "refused\t8\t\n"
   -- "for 11 the rule's first line"
@@ -80,8 +80,7 @@ pub record RefusedTables : Type 0 where
   -- 10 of a controller that doesn't run, none of one that runs, and foreign atoms change freely
   pub outputBroken : recordingRefusal (recorded (1 ∷ 2 ∷ []) (stateOf 1 0 ∷ stateOf 0 2 ∷ [])) ≡ 10
   pub outputOfStep : recordingRefusal (recorded (1 ∷ 2 ∷ []) (stateOf 2 0 ∷ stateOf 0 6 ∷ [])) ≡ 0
-  -- 9, and the order 6, 10, 9
-  pub lastMark : recordingRefusal (recorded (1 ∷ []) (stateOf 1 0 ∷ [])) ≡ 9
+  -- the order 6, 10
   pub outputFirst : recordingRefusal (recorded (1 ∷ []) (stateOf 0 0 ∷ stateOf 1 1 ∷ [])) ≡ 10
   pub markFirst : recordingRefusal (recorded (1 ∷ []) (stateOf 0 0 ∷ stateOf 2 1 ∷ [])) ≡ 6
   -- 11 of each operation that takes a controller
@@ -100,7 +99,6 @@ refusedTables = record {
   masksMeet = refl;
   outputBroken = refl;
   outputOfStep = refl;
-  lastMark = refl;
   outputFirst = refl;
   markFirst = refl;
   projected = refl;

@@ -77,9 +77,7 @@ masksMeet = 7
 abbrev pub recordingLines : ℕ
 recordingLines = 8
 
--- "9 run mark in the last state"
-abbrev pub lastMark : ℕ
-lastMark = 9
+-- "Number 9 is no longer given" (document 02, recordings that stop in mid step)
 
 -- "10 output rule broken by the state before"
 abbrev pub outputRule : ℕ

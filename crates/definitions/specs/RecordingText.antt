@@ -49,8 +49,8 @@ abbrev pub maskLine : (earlier : List ℕ) → List ℕ → NextLine ℕ
 maskLine earlier t = nextLine recordingLines recordingForm maskForm (maskRefusal earlier) t
 
 -- the next line, as the `at` line of state k; `prior` is the state before it
-abbrev pub stateLine : (C N : ℕ) (masks : List ℕ) (k prior : ℕ) → List ℕ → NextLine ℕ
-stateLine C N masks k prior t = nextLine recordingLines recordingForm stateForm (stateRefusal C N masks k prior) t
+abbrev pub stateLine : (C : ℕ) (masks : List ℕ) (k prior : ℕ) → List ℕ → NextLine ℕ
+stateLine C masks k prior t = nextLine recordingLines recordingForm stateForm (stateRefusal C masks k prior) t
 
 -- so many `owns` lines
 unfoldable pub scanMasks : (lines : ℕ) (earlier : List ℕ) → List ℕ → Scan
@@ -59,10 +59,10 @@ scanMasks (suc lines) earlier t =
     onNext (maskLine earlier t) (λ number. stop number t) (λ m rest. more m (scanMasks lines (m ∷ earlier) rest))
 
 -- so many `at` lines, from state k on, and then the end: "a line missing or one too many"
-unfoldable pub scanStates : (C N : ℕ) (masks : List ℕ) (lines k prior : ℕ) → List ℕ → Scan
-scanStates C N masks zero k prior t = stop (pick (isEmpty t) accepted recordingLines) t
-scanStates C N masks (suc lines) k prior t =
-    onNext (stateLine C N masks k prior t) (λ number. stop number t) (λ s rest. more s (scanStates C N masks lines (k + 1) s rest))
+unfoldable pub scanStates : (C : ℕ) (masks : List ℕ) (lines k prior : ℕ) → List ℕ → Scan
+scanStates C masks zero k prior t = stop (pick (isEmpty t) accepted recordingLines) t
+scanStates C masks (suc lines) k prior t =
+    onNext (stateLine C masks k prior t) (λ number. stop number t) (λ s rest. more s (scanStates C masks lines (k + 1) s rest))
 
 -- what reading a recording text gives: the refusal or 0, C, N, masks and states, and the text from the refused line on
 pub record RecordingScan : Type 0 where
@@ -84,7 +84,7 @@ recordingStates C N masks s = record { number = s .number; controllers = C; coun
 -- what the `owns` lines gave, and then the `at` lines
 abbrev pub recordingMasks : (C N : ℕ) (m : Scan) → RecordingScan
 recordingMasks C N m =
-    pick (eqb (m .number) accepted) (recordingStates C N (m .words) (scanStates C N (m .words) N 0 0 (m .rest))) (recordingStop (m .number) (m .rest))
+    pick (eqb (m .number) accepted) (recordingStates C N (m .words) (scanStates C (m .words) N 0 0 (m .rest))) (recordingStop (m .number) (m .rest))
 
 -- reading a recording text
 unfoldable pub scanRecording : List ℕ → RecordingScan

@@ -1,11 +1,11 @@
 -- "The recording": states and masks in lent space, the output rule, and the check.
-use Prim.Native.Nat.{ℕ, _+_, _*_, _/_, _%_, _^_}
+use Prim.Native.Nat.{ℕ, suc, _+_, _*_, _/_, _%_, _^_}
 use mathlib.Core.Bool.{Bool, false, not, _&&_, _||_}
 use mathlib.Core.List.{List, [], _∷_}
 use lib.ListN.{length, take, getD}
 use lib.Dec.{eqb, ltb, leb}
 use lib.Bits.{bitAnd}
-use Rattle.definitions.specs.Limits.{maxControllers, maxStates, atomCount, recordingLimits, masksMeet, recordingLines, lastMark, outputRule, noController, accepted}
+use Rattle.definitions.specs.Limits.{maxControllers, maxStates, atomCount, recordingLimits, masksMeet, recordingLines, outputRule, noController, accepted}
 use Rattle.definitions.specs.Bounded.{pick, some, bitOf, within, orElse}
 
 -- a recording as tables: C, N, "a mask of own atoms" for each controller, and the states, one word each
@@ -55,9 +55,10 @@ stateAt R k = getD (statesOf R) k 0
 abbrev pub wordAt : Recording → ℕ → ℕ
 wordAt R k = atomsOf (stateAt R k)
 
--- c runs in state k
+-- c runs in state k: "a mark in the last state is read as no run: by projection, by `end`, by run in a rewritten rule; the state as read still
+-- holds it" (document 02)
 abbrev pub runsAt : (R : Recording) (c k : ℕ) → Bool
-runsAt R c k = marked c (stateAt R k)
+runsAt R c k = ltb (suc k) (R .count) && marked c (stateAt R k)
 
 -- "masks are disjoint": a mask meets one of the earlier masks
 abbrev pub meets : (earlier : List ℕ) (m : ℕ) → Bool
@@ -69,12 +70,10 @@ abbrev pub outputBroken : (C : ℕ) (masks : List ℕ) (prior s : ℕ) → Bool
 outputBroken C masks prior s =
     some 0 C (λ c. not (marked c prior) && not (eqb (bitAnd (atomsOf prior) (getD masks c 0)) (bitAnd (atomsOf s) (getD masks c 0))))
 
--- state k against the prior state: "a run mark at C or above", "output rule broken by the state before", "run mark in the last state"
-unfoldable pub stateRefusal : (C N : ℕ) (masks : List ℕ) (k prior s : ℕ) → ℕ
-stateRefusal C N masks k prior s =
-    pick (leb (2 ^ C) (marksOf s)) recordingLimits
-    (pick (ltb 0 k && outputBroken C masks prior s) outputRule
-    (pick (eqb (k + 1) N && not (eqb (marksOf s) 0)) lastMark accepted))
+-- state k against the prior state: "a run mark at C or above", "output rule broken by the state before"
+unfoldable pub stateRefusal : (C : ℕ) (masks : List ℕ) (k prior s : ℕ) → ℕ
+stateRefusal C masks k prior s =
+    pick (leb (2 ^ C) (marksOf s)) recordingLimits (pick (ltb 0 k && outputBroken C masks prior s) outputRule accepted)
 
 -- "6 a number outside its limits": C and N
 unfoldable pub recordingHeadingRefusal : (C N : ℕ) → ℕ
@@ -90,9 +89,9 @@ masksRefusal earlier [] = accepted
 masksRefusal earlier (m ∷ ms) = orElse (maskRefusal earlier m) (masksRefusal (m ∷ earlier) ms)
 
 -- the states from state k on
-unfoldable pub statesRefusal : (C N : ℕ) (masks : List ℕ) (k prior : ℕ) (ss : List ℕ) → ℕ
-statesRefusal C N masks k prior [] = accepted
-statesRefusal C N masks k prior (s ∷ ss) = orElse (stateRefusal C N masks k prior s) (statesRefusal C N masks (k + 1) s ss)
+unfoldable pub statesRefusal : (C : ℕ) (masks : List ℕ) (k prior : ℕ) (ss : List ℕ) → ℕ
+statesRefusal C masks k prior [] = accepted
+statesRefusal C masks k prior (s ∷ ss) = orElse (stateRefusal C masks k prior s) (statesRefusal C masks (k + 1) s ss)
 
 -- "masks or states, with fewer entries than its count has a line missing"
 unfoldable pub recordingLinesRefusal : Recording → ℕ
@@ -103,7 +102,7 @@ unfoldable pub recordingRefusal : Recording → ℕ
 recordingRefusal R =
     orElse (recordingHeadingRefusal (R .controllers) (R .count))
     (orElse (masksRefusal [] (masksOf R))
-    (orElse (statesRefusal (R .controllers) (R .count) (masksOf R) 0 0 (statesOf R)) (recordingLinesRefusal R)))
+    (orElse (statesRefusal (R .controllers) (masksOf R) 0 0 (statesOf R)) (recordingLinesRefusal R)))
 
 -- "a controller not below C is 11"
 unfoldable pub controllerRefusal : (C c : ℕ) → ℕ

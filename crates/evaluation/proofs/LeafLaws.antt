@@ -1,11 +1,13 @@
 -- One law for each return of a leaf's rows.
-use mathlib.Core.Path.{_≡_, refl, ap, ap₂, _∙_}
+use mathlib.Core.Path.{_≡_, refl, sym, ap, ap₂, _∙_}
 use mathlib.Core.Bool.{Bool, true, false, not, _&&_}
 use mathlib.Core.List.{List, []}
 use Prim.Native.Nat.{ℕ, zero, suc, _+_, _-_, _/_, _%_, _^_, _<_, _≤_}
 use native.Mathlib.Nat.{zero-add}
 use native.Mathlib.Omega.{arith}
-use lib.ListN.{getD}
+use lib.Dec.{ltb}
+use lib.ListN.{take, getD}
+use lib.Seq.{getD-take}
 use borrow.Author.Needs.{needs}
 use borrow.Author.Tests.{eq-eqb, ne-eqb}
 use Rattle.definitions.specs.Limits.{atomCount}
@@ -14,6 +16,7 @@ use Rattle.definitions.specs.Nodes.{node, kindOf}
 use Rattle.definitions.specs.Projection.{endAt}
 use Rattle.definitions.specs.Readings.{nodeRows, untilAt}
 use Rattle.mark_words.specs.Marks.{markAt, lastAt}
+use Rattle.mark_words.proofs.WordLaws.{bit-shr}
 use Rattle.rows.specs.Marks.{marks, Made}
 use Rattle.rows.specs.declared.row.Row.{Row}
 use Rattle.theorems.proofs.Tabulations.{tabulate-at, tabulate-same}
@@ -70,13 +73,31 @@ module _ (states : List ℕ) (n own a : ℕ) where
             (last-on column s n (tabulate n columnAt) false ms m) (foreign-same false foreign);
       }
 
+-- ---- run
+
+last-unmarked : (z x : Bool) → pick z x false ≡ (z && x)
+unfolding pick
+last-unmarked true x = refl
+last-unmarked false x = refl
+
+pub run-row : (states : List ℕ) (n c : ℕ) (column r : Row) → Made column n (tabulate n (λ k. bitOf (getD states k 0) (atomCount + c)))
+    → Made r (column .count) (tabulate (column .count) (lastAt false (column .count) (markAt (marks column))))
+    → Made r n (tabulate n (stateRun states n c))
+run-row states n c column r m mr =
+    let marked : ℕ → Bool = λ k. bitOf (getD states k 0) (atomCount + c) in
+    made-same r n (tabulate n (lastAt false n (markAt (tabulate n marked)))) (tabulate n (stateRun states n c))
+    (last-on column r n (tabulate n marked) false mr m)
+    (tabulate-same n (lastAt false n (markAt (tabulate n marked))) (stateRun states n c)
+    (λ i h. last-unmarked (ltb (suc i) n) (markAt (tabulate n marked) i)
+    ∙ ap (λ (b : Bool). ltb (suc i) n && b) (marks-of n marked i h ∙ sym (bit-shr c atomCount (getD (take n states) i 0) ∙ rw (getD-take n states i 0 h)))))
+
 -- ---- end
 
 some-no : (n k : ℕ) (q p : ℕ → Bool) → ((j : ℕ) → k ≤ j → j < k + n → q j ≡ false) → someOf n k (λ j. q j && p j) ≡ false
 some-no zero k q p h = refl
 some-no (suc n) k q p h = rw (h k (omega arith) (omega arith)) (some-no n (suc k) q p (λ j lo hi. h j (omega arith) (omega arith)))
 
-pub every-same : (n k : ℕ) (f g : ℕ → Bool) → ((j : ℕ) → k ≤ j → j < k + n → f j ≡ g j) → everyOf n k f ≡ everyOf n k g
+every-same : (n k : ℕ) (f g : ℕ → Bool) → ((j : ℕ) → k ≤ j → j < k + n → f j ≡ g j) → everyOf n k f ≡ everyOf n k g
 every-same zero k f g h = refl
 every-same (suc n) k f g h =
     ap₂ _&&_ (h k (omega arith) (omega arith)) (every-same n (suc k) f g (λ j lo hi. h j (omega arith) (omega arith)))
@@ -90,21 +111,21 @@ end-is n p q run hp hq i h =
       every-same (n - i) i p (λ j. not (run j)) (λ j lo hi. hp j (omega arith)),
     )
 
-pub end-row : (states : List ℕ) (n c : ℕ) (row idle none r : Row) → Made row n (tabulate n (stateRun states c))
+pub end-row : (states : List ℕ) (n c : ℕ) (row idle none r : Row) → Made row n (tabulate n (stateRun states n c))
     → Made idle (row .count) (tabulate (row .count) (λ k. not (markAt (marks row) k)))
     → Made none n (tabulate n (λ k. false))
     → Made r (idle .count) (tabulate (idle .count) (untilAt true (idle .count) (markAt (marks idle)) (markAt (marks none))))
-    → Made r n (tabulate n (endAt (stateRun states c) n))
+    → Made r n (tabulate n (endAt (stateRun states n c) n))
 end-row states n c row idle none r m i z u =
-    let run : List Bool = tabulate n (stateRun states c) in
+    let run : List Bool = tabulate n (stateRun states n c) in
     let nots : List Bool = tabulate n (λ k. not (markAt run k)) in
     let blank : List Bool = tabulate n (λ k. false) in
     let until : Made r n (tabulate n (untilAt true n (markAt nots) (markAt blank))) =
     until-on idle none r n nots blank true u (not-on row idle n run i m) z in
-    made-same r n (tabulate n (untilAt true n (markAt nots) (markAt blank))) (tabulate n (endAt (stateRun states c) n)) until
-    (tabulate-same n (untilAt true n (markAt nots) (markAt blank)) (endAt (stateRun states c) n)
-    (end-is n (markAt nots) (markAt blank) (stateRun states c)
-    (λ j h. marks-of n (λ k. not (markAt run k)) j h ∙ ap not (marks-of n (stateRun states c) j h))
+    made-same r n (tabulate n (untilAt true n (markAt nots) (markAt blank))) (tabulate n (endAt (stateRun states n c) n)) until
+    (tabulate-same n (untilAt true n (markAt nots) (markAt blank)) (endAt (stateRun states n c) n)
+    (end-is n (markAt nots) (markAt blank) (stateRun states n c)
+    (λ j h. marks-of n (λ k. not (markAt run k)) j h ∙ ap not (marks-of n (stateRun states n c) j h))
     (λ j h. marks-of n (λ k. false) j h)))
 
 -- ---- all leaves
@@ -119,14 +140,14 @@ module _ (kind a : ℕ) (states : List ℕ) (n c own : ℕ) where
   pub leaf-atom : kind ≡ 1 → (p : Pair) → PairMade p n (atomRows states n own a) → LeafMade kind a states n c own p
   leaf-atom e p m = rw (e, kind-atom) m
 
-  pub leaf-run : kind ≡ 8 → (r : Row) → Made r n (tabulate n (stateRun states c)) → LeafMade kind a states n c own (pairOf r r)
+  pub leaf-run : kind ≡ 8 → (r : Row) → Made r n (tabulate n (stateRun states n c)) → LeafMade kind a states n c own (pairOf r r)
   leaf-run e r m = rw (e, kind-run) (record { weak = m; strong = m })
 
-  pub leaf-end : kind ≡ 9 → (r : Row) → Made r n (tabulate n (endAt (stateRun states c) n)) → LeafMade kind a states n c own (pairOf r r)
+  pub leaf-end : kind ≡ 9 → (r : Row) → Made r n (tabulate n (endAt (stateRun states n c) n)) → LeafMade kind a states n c own (pairOf r r)
   leaf-end e r m = rw (e, kind-end) (record { weak = m; strong = m })
 
   pub leaf-true : LeafReady kind a states n c → (kind ≡ 1 → ⊥) → (kind ≡ 8 → ⊥) → (kind ≡ 9 → ⊥) → (r : Row) → Made r n (tabulate n (λ k. true))
       → LeafMade kind a states n c own (pairOf r r)
   leaf-true ready n1 n8 n9 r m = rw (kind-left kind n1 n8 n9 (ready .leaf) (ready .known)) (record { weak = m; strong = m })
 
-pub ruleset leaf-laws = (needs, own-atom, foreign-atom, end-row, atom-low, leaf-atom, leaf-run, leaf-end, leaf-true)
+pub ruleset leaf-laws = (needs, own-atom, foreign-atom, run-row, end-row, atom-low, leaf-atom, leaf-run, leaf-end, leaf-true)

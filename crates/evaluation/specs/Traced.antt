@@ -1,11 +1,12 @@
 -- The trace that state words are: one trace serves both judges.
-use Prim.Native.Nat.{ℕ, suc, _+_, _-_, _^_}
+use Prim.Native.Nat.{ℕ, suc, _-_, _^_}
 use mathlib.Core.Bool.{Bool, true, false}
-use mathlib.Core.List.{List}
+use mathlib.Core.List.{List, []}
 use lib.ListN.{getD}
 use lib.Dec.{ltb}
 use Rattle.definitions.specs.Limits.{atomCount}
 use Rattle.definitions.specs.Bounded.{pick, tabulate, bitOf}
+use Rattle.definitions.specs.Recordings.{recordingOf, runsAt}
 use Rattle.definitions.specs.Projection.{endAt}
 use Rattle.definitions.specs.Readings.{Trace, Rows}
 
@@ -13,17 +14,17 @@ use Rattle.definitions.specs.Readings.{Trace, Rows}
 abbrev pub stateAtom : List ℕ → ℕ → ℕ → ℕ → Bool → ℕ → Bool
 stateAtom states n own a weak i = pick (bitOf own a) (bitOf (getD states i 0) a) (pick (ltb (suc i) n) (bitOf (getD states i 0) a) weak)
 
--- c is marked in state i
-abbrev pub stateRun : List ℕ → ℕ → ℕ → Bool
-stateRun states c i = bitOf (getD states i 0) (atomCount + c)
+-- c runs in state i of the n: a mark in the last one is no run
+abbrev pub stateRun : List ℕ → ℕ → ℕ → ℕ → Bool
+stateRun states n c i = runsAt (recordingOf 0 n [] states) c i
 
 -- the trace of the first n states, for controller c that owns the atoms of `own`
 abbrev pub traceOf : List ℕ → ℕ → ℕ → ℕ → Trace
 traceOf states n c own = record {
   places = n;
   atom = stateAtom states n own;
-  run = stateRun states c;
-  end = endAt (stateRun states c) n;
+  run = stateRun states n c;
+  end = endAt (stateRun states n c) n;
 }
 
 -- the mask of all 32 atoms: over the whole recording none is foreign

@@ -33,17 +33,19 @@ fn atom(a: usize, states: &[u64], n: usize, own: u32) -> Pair
     }
 }
 
+// The marks, but for the last state's: a step whose result isn't there is no run.
 fn run(states: &[u64], n: usize, c: usize) -> Row
     requires { ⌜ (Gathered (now states) n) × (c < maxControllers) ⌝ }
-    ensures { λ r. ⌜ Made r n (tabulate n (stateRun (now (states .entry)) c)) ⌝ }
+    ensures { λ r. ⌜ Made r n (tabulate n (stateRun (now (states .entry)) n c)) ⌝ }
 {
-    Row::column(states, n, Limits::ATOMS + c)
+    let marks = Row::column(states, n, Limits::ATOMS + c);
+    marks.with_last(false)
 }
 
 // No run from here on: no run until a place that never comes.
 fn end(states: &[u64], n: usize, c: usize) -> Row
     requires { ⌜ (Gathered (now states) n) × (c < maxControllers) ⌝ }
-    ensures { λ r. ⌜ Made r n (tabulate n (endAt (stateRun (now (states .entry)) c) n)) ⌝ }
+    ensures { λ r. ⌜ Made r n (tabulate n (endAt (stateRun (now (states .entry)) n c) n)) ⌝ }
 {
     let idle = run(states, n, c).not();
     idle.until(Row::none(n), true)

@@ -47,8 +47,6 @@ impl Refusal {
 
     pub const RECORDING_LINES: u8 = 8;
 
-    pub const LAST_MARK: u8 = 9;
-
     pub const OUTPUT_RULE: u8 = 10;
 
     pub const NO_CONTROLLER: u8 = 11;

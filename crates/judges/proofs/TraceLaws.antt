@@ -1,6 +1,6 @@
 -- The rows over the trace of state words are the rows over the whole recording, and over a local trace.
 use mathlib.Core.Path.{_≡_, refl, ap, ap₂, _∙_}
-use mathlib.Core.Bool.{Bool, true, false, not, true≢false}
+use mathlib.Core.Bool.{Bool, true, false, true≢false}
 use mathlib.Core.List.{List, [], _∷_, _++_}
 use Prim.Native.Nat.{ℕ, _-_, _^_, _<_}
 use native.Mathlib.Omega.{arith}
@@ -14,9 +14,8 @@ use Rattle.definitions.specs.Recordings.{Recording, wordAt, runsAt}
 use Rattle.definitions.specs.Projection.{endAt}
 use Rattle.definitions.specs.Readings.{Trace, local, whole, reading, readFrom, Rows, nodeRows, rowsAfter, rowsOf, marksWord}
 use Rattle.theorems.proofs.Tabulations.{tabulate-same}
-use Rattle.mark_words.proofs.WordLaws.{bit-low, bit-shr, word-bit, word-full}
+use Rattle.mark_words.proofs.WordLaws.{bit-low, word-bit, word-full}
 use Rattle.evaluation.specs.Traced.{stateAtom, stateRun, traceOf, everyAtom}
-use Rattle.evaluation.proofs.LeafLaws.{every-same}
 use Rattle.judges.proofs.CheckedNodes.{Each, each-node, node-fit, rule-kind}
 
 abbrev pub traceFrom : ℕ → (ℕ → Bool → ℕ → Bool) → (ℕ → Bool) → (ℕ → Bool) → Trace
@@ -92,12 +91,6 @@ module _ (R : Recording) (c : ℕ) where
   atom-recorded a h weak i l =
       bit-low (getD (take (R .count) states) i 0) atomCount a h ∙ rw (every-own a h, getD-take (R .count) states i 0 l)
 
-  run-recorded : (i : ℕ) → i < R .count → runsAt R c i ≡ stateRun states c i
-  run-recorded i l = bit-shr c atomCount (getD (take (R .count) states) i 0) ∙ rw (getD-take (R .count) states i 0 l)
-
-  end-recorded : (i : ℕ) → i < R .count → endAt (runsAt R c) (R .count) i ≡ endAt (stateRun states c) (R .count) i
-  end-recorded i l = every-same (R .count - i) i (λ j. not (runsAt R c j)) (λ j. not (stateRun states c j)) (λ j lo hi. ap not (run-recorded j (omega arith)))
-
   leaf-recorded : (k : Kind) (a : ℕ) → (k ≡ Atom → a < atomCount) → LeafAgrees (whole R c) (traceOf states (R .count) c everyAtom) k a
   leaf-recorded True a h = tt
   leaf-recorded Atom a h = atom-recorded a (h refl)
@@ -107,14 +100,14 @@ module _ (R : Recording) (c : ℕ) where
   leaf-recorded Until a h = tt
   leaf-recorded Prev a h = tt
   leaf-recorded Since a h = tt
-  leaf-recorded Run a h = run-recorded
-  leaf-recorded End a h = end-recorded
+  leaf-recorded Run a h = λ i l. refl
+  leaf-recorded End a h = λ i l. refl
   leaf-recorded Unknown a h = tt
 
   pub whole-rows : (count : ℕ) (nodes : List ℕ) → nodesRefusal true 0 count nodes ≡ 0
       → rowsOf (whole R c) (nodesIn count nodes) ≡ rowsOf (traceOf states (R .count) c everyAtom) (nodesIn count nodes)
   whole-rows count nodes h =
-      rows-agree (R .count) (λ a weak k. bitOf (wordAt R k) a) (stateAtom states (R .count) everyAtom) (runsAt R c) (stateRun states c) (endAt (runsAt R c) (R .count)) (endAt (stateRun states c) (R .count)) (nodesIn count nodes)
+      rows-agree (R .count) (λ a weak k. bitOf (wordAt R k) a) (stateAtom states (R .count) everyAtom) (runsAt R c) (stateRun states (R .count) c) (endAt (runsAt R c) (R .count)) (endAt (stateRun states (R .count) c) (R .count)) (nodesIn count nodes)
       (each-node true (λ x. LeafAgrees (whole R c) (traceOf states (R .count) c everyAtom) (x .kind) (x .first))
       (λ i x e. leaf-recorded (x .kind) (x .first) ((node-fit true i x e) .atom)) 0 count nodes h)
 
@@ -140,6 +133,6 @@ module _ (mask c : ℕ) (ws rest : List ℕ) where
   pub local-rows : (count : ℕ) (nodes : List ℕ) → nodesRefusal false 0 count nodes ≡ 0
       → rowsOf (local mask ws) (nodesIn count nodes) ≡ rowsOf (traceOf (ws ++ rest) (length ws) c mask) (nodesIn count nodes)
   local-rows count nodes h =
-      rows-agree (length ws) ((local mask ws) .atom) (stateAtom (ws ++ rest) (length ws) mask) (λ i. false) (stateRun (ws ++ rest) c) (λ i. false) (endAt (stateRun (ws ++ rest) c) (length ws)) (nodesIn count nodes)
+      rows-agree (length ws) ((local mask ws) .atom) (stateAtom (ws ++ rest) (length ws) mask) (λ i. false) (stateRun (ws ++ rest) (length ws) c) (λ i. false) (endAt (stateRun (ws ++ rest) (length ws) c) (length ws)) (nodesIn count nodes)
       (each-node false (λ x. LeafAgrees (local mask ws) (traceOf (ws ++ rest) (length ws) c mask) (x .kind) (x .first))
       (λ i x e. leaf-placed (x .kind) (x .first) (rule-kind i x e)) 0 count nodes h)

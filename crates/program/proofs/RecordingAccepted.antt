@@ -32,18 +32,18 @@ masks-fine (suc lines) earlier t =
     (λ m rest e n. none-or-else (maskRefusal earlier m) _
     (next-back recordingLines recordingForm maskForm (maskRefusal earlier) t m rest e .fine) (masks-fine lines (m ∷ earlier) rest n))
 
-module _ (C N : ℕ) (masks : List ℕ) where
+module _ (C : ℕ) (masks : List ℕ) where
   abbrev StatesFine : ℕ → ℕ → Scan → Type 0
-  StatesFine k prior s = s .number ≡ 0 → statesRefusal C N masks k prior (s .words) ≡ 0
+  StatesFine k prior s = s .number ≡ 0 → statesRefusal C masks k prior (s .words) ≡ 0
 
-  states-fine : (lines k prior : ℕ) (t : List ℕ) → StatesFine k prior (scanStates C N masks lines k prior t)
+  states-fine : (lines k prior : ℕ) (t : List ℕ) → StatesFine k prior (scanStates C masks lines k prior t)
   unfolding scanStates statesRefusal
   states-fine zero k prior t = λ n. refl
   states-fine (suc lines) k prior t =
-      on-next (StatesFine k prior) (stateLine C N masks k prior t) _ _
-      (λ j e n. absurd (next-some recordingLines recordingForm stateForm (stateRefusal C N masks k prior) t (omega arith) (omega arith) j e n))
-      (λ s rest e n. none-or-else (stateRefusal C N masks k prior s) _
-      (next-back recordingLines recordingForm stateForm (stateRefusal C N masks k prior) t s rest e .fine) (states-fine lines (k + 1) s rest n))
+      on-next (StatesFine k prior) (stateLine C masks k prior t) _ _
+      (λ j e n. absurd (next-some recordingLines recordingForm stateForm (stateRefusal C masks k prior) t (omega arith) (omega arith) j e n))
+      (λ s rest e n. none-or-else (stateRefusal C masks k prior s) _
+      (next-back recordingLines recordingForm stateForm (stateRefusal C masks k prior) t s rest e .fine) (states-fine lines (k + 1) s rest n))
 
 -- ---- the whole text: an accepted recording, with as many masks and states as its heading says
 record Read (s : RecordingScan) : Type 0 where
@@ -54,14 +54,14 @@ record Read (s : RecordingScan) : Type 0 where
 abbrev Accepts : RecordingScan → Type 0
 Accepts s = s .number ≡ 0 → Read s
 
-tables-fine : (C N : ℕ) (masks states : List ℕ) → recordingHeadingRefusal C N ≡ 0 → masksRefusal [] masks ≡ 0 → statesRefusal C N masks 0 0 states ≡ 0 →
+tables-fine : (C N : ℕ) (masks states : List ℕ) → recordingHeadingRefusal C N ≡ 0 → masksRefusal [] masks ≡ 0 → statesRefusal C masks 0 0 states ≡ 0 →
     length masks ≡ C → length states ≡ N → recordingRefusal (recordingOf C N masks states) ≡ 0
 unfolding recordingRefusal recordingLinesRefusal pick
 tables-fine C N masks states h m s c n =
     let a : take C masks ≡ masks = take-all C masks (omega arith) in
     let b : take N states ≡ states = take-all N states (omega arith) in
     rw (a, b, le-ltb (length masks) C (omega arith), le-ltb (length states) N (omega arith))
-    (none-or-else (recordingHeadingRefusal C N) _ h (none-or-else (masksRefusal [] masks) _ m (none-or-else (statesRefusal C N masks 0 0 states) 0 s refl)))
+    (none-or-else (recordingHeadingRefusal C N) _ h (none-or-else (masksRefusal [] masks) _ m (none-or-else (statesRefusal C masks 0 0 states) 0 s refl)))
 
 by-number : (P : RecordingScan → Type 0) (n : ℕ) (a b : RecordingScan) → (n ≡ 0 → P a) → ((n ≡ 0 → ⊥) → P b) → P (pick (eqb n 0) a b)
 unfolding pick
@@ -70,13 +70,13 @@ by-number P n a b f g = by-test (eqb n 0) (λ z. rw z (f (eqb-true n 0 z))) (λ 
 masks-read : (C N : ℕ) (t : List ℕ) → recordingHeadingRefusal C N ≡ 0 → Accepts (recordingMasks C N (scanMasks C [] t))
 masks-read C N t h =
     let m : Scan = scanMasks C [] t in
-    let s : Scan = scanStates C N (m .words) N 0 0 (m .rest) in
+    let s : Scan = scanStates C (m .words) N 0 0 (m .rest) in
     by-number Accepts (m .number) (recordingStates C N (m .words) s) (recordingStop (m .number) (m .rest))
     (λ e n.
     let c : length (m .words) ≡ C = (masks-counted C [] t) .all e in
-    let d : length (s .words) ≡ N = (states-counted C N (m .words) N 0 0 (m .rest)) .all n in
+    let d : length (s .words) ≡ N = (states-counted C (m .words) N 0 0 (m .rest)) .all n in
     record {
-      fine = tables-fine C N (m .words) (s .words) h (masks-fine C [] t e) (states-fine C N (m .words) N 0 0 (m .rest) n) c d;
+      fine = tables-fine C N (m .words) (s .words) h (masks-fine C [] t e) (states-fine C (m .words) N 0 0 (m .rest) n) c d;
       masks = c;
       states = d;
     })

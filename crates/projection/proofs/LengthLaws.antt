@@ -1,6 +1,6 @@
 -- The local length is one more than the ones of the run marks' row.
 use mathlib.Core.Path.{_≡_, refl, sym, ap, _∙_}
-use Prim.Native.Nat.{ℕ, zero, suc, _+_, _<_}
+use Prim.Native.Nat.{ℕ, zero, suc, _+_, _-_, _<_}
 use native.Mathlib.Omega.{arith}
 use mathlib.Core.Bool.{Bool, true, false}
 use mathlib.Core.List.{List, [], _∷_, _++_, map, append-nil}
@@ -8,16 +8,18 @@ use lib.Bits.{bitAnd}
 use lib.ListN.{length, take, getD, length-append, length-map}
 use lib.Seq.{getD-take}
 use borrow.Author.Needs.{needs}
+use borrow.Author.Tests.{lt-ltb}
 use Rattle.definitions.specs.Limits.{atomCount}
 use Rattle.definitions.specs.Bounded.{pick, bit, bitOf, tabulate, tabulateFrom}
-use Rattle.definitions.specs.Recordings.{Recording, maskOf, atomsOf, marked}
+use Rattle.definitions.specs.Recordings.{Recording, maskOf, wordAt, runsAt}
 use Rattle.definitions.specs.Projection.{runStates, afterLast, localTrace}
 use Rattle.theorems.proofs.Tabulations.{tabulate-same}
+use Rattle.theorems.proofs.LastMarks.{last-adds-none}
 use Rattle.mark_words.specs.Marks.{yesMarks}
 use Rattle.rows.specs.Marks.{marks, Made}
 use Rattle.rows.specs.declared.row.Row.{Row}
 use Rattle.mark_words.proofs.WordLaws.{bit-shr}
-use Rattle.projection.specs.Places.{runsIn, placesIn}
+use Rattle.projection.specs.Places.{statesOnly, runsIn, placesIn, Countable}
 
 yes-snoc : (l : List Bool) (b : Bool) → yesMarks (l ++ (b ∷ [])) ≡ yesMarks l + bit b
 yes-snoc [] b = omega arith
@@ -38,22 +40,22 @@ run-marks run (suc n) =
     go true = omega (arith, length-append (runStates run n) (n ∷ []))
     go false = rw append-nil (omega arith)
 
--- the column of the run marks is where the component runs
+-- the column of the run marks before the last state is where the component runs
 run-column : (N c : ℕ) (states : List ℕ) →
-    tabulate N (λ k. bitOf (getD states k 0) (atomCount + c)) ≡ tabulate N (λ k. marked c (getD (take N states) k 0))
+    tabulate (N - 1) (λ k. bitOf (getD states k 0) (atomCount + c)) ≡ tabulate (N - 1) (runsAt (statesOnly N states) c)
 run-column N c states =
-    tabulate-same N (λ k. bitOf (getD states k 0) (atomCount + c)) (λ k. marked c (getD (take N states) k 0))
-    (λ i less. sym (bit-shr c atomCount (getD (take N states) i 0) ∙ rw (getD-take N states i 0 less)))
+    tabulate-same (N - 1) (λ k. bitOf (getD states k 0) (atomCount + c)) (runsAt (statesOnly N states) c)
+    (λ i less. rw (lt-ltb (suc i) N (omega arith)) (sym (bit-shr c atomCount (getD (take N states) i 0) ∙ rw (getD-take N states i 0 (omega arith)))))
 
-pub length-is : (N c r : ℕ) (states : List ℕ) (row : Row) → Made row N (tabulate N (λ k. bitOf (getD states k 0) (atomCount + c))) →
+pub length-is : (N c r : ℕ) (states : List ℕ) (row : Row) → Countable N c states → Made row (N - 1) (tabulate (N - 1) (λ k. bitOf (getD states k 0) (atomCount + c))) →
     r ≡ yesMarks (marks row) → r + 1 ≡ length (runsIn N c states) + 1
-length-is N c r states row m e =
-    rw (e, m .marked, run-column N c states, run-marks (λ k. marked c (getD (take N states) k 0)) N)
+length-is N c r states row few m e =
+    rw (e, m .marked, run-column N c states, run-marks (runsAt (statesOnly N states) c) (N - 1), last-adds-none (statesOnly N states) c (few .someState))
 
 pub length-of : (N c mask : ℕ) (states : List ℕ) → length (placesIn N mask c states) ≡ length (runsIn N c states) + 1
 unfolding placesIn
 length-of N c mask states =
-    let w : ℕ → ℕ = λ k. atomsOf (getD (take N states) k 0) in
+    let w : ℕ → ℕ = wordAt (statesOnly N states) in
     omega (
       arith,
       length-append (map w (runsIn N c states)) (bitAnd (w (afterLast (runsIn N c states))) mask ∷ []),

@@ -9,14 +9,16 @@ use lib.Bits.{bitAnd}
 use lib.ListN.{length, take, drop, getD, set, length-append, length-map, length-set, length-take}
 use lib.Seq.{getD-take, set-split, take-suc-set, take-set-le, drop-set-lt, drop-drop}
 use borrow.Author.Needs.{needs}
+use borrow.Author.Tests.{lt-ltb}
 use Rattle.definitions.specs.Limits.{maxStates}
 use Rattle.definitions.specs.Bounded.{pick}
-use Rattle.definitions.specs.Recordings.{Recording, atomsOf, marked, maskOf, recordingRefusal}
+use Rattle.definitions.specs.Recordings.{Recording, atomsOf, marked, maskOf, wordAt, runsAt, recordingRefusal}
 use Rattle.definitions.specs.Projection.{runStates, afterLast, placesOf, localTrace}
 use Rattle.theorems.proofs.Choice.{by-test}
-use Rattle.theorems.proofs.RecordingLaws.{Checked, checked, Recorded, recorded}
+use Rattle.theorems.proofs.RecordingLaws.{Checked, checked}
+use Rattle.theorems.proofs.LastMarks.{last-adds-none}
 use Rattle.lent.specs.Space.{laid}
-use Rattle.projection.specs.Places.{runsIn, placesIn, Projectable, Countable}
+use Rattle.projection.specs.Places.{statesOnly, runsIn, placesIn, Projectable, Countable}
 
 -- ---- the states in which a component runs, one state more
 module _ (run : ℕ → Bool) where
@@ -52,33 +54,20 @@ module _ (run : ℕ → Bool) where
       go true h = rw (after-snoc (runStates run k) k) (omega arith)
       go false h = rw append-nil (omega arith)
 
-  -- where the last state is idle, the last place is a state, and there are at most as many places as states
-  last-is-off : (k : ℕ) → run k ≡ false → runStates run (suc k) ≡ runStates run k
-  unfolding pick
-  last-is-off k r = rw (r, append-nil)
-
-  after-in : (N : ℕ) → 0 < N → run (N - 1) ≡ false → afterLast (runStates run N) < N
-  after-in zero h r = absurd (omega arith)
-  after-in (suc k) h r =
-      let e : suc k - 1 ≡ k = omega arith in
-      rw (last-is-off k (rw e at r)) (omega (arith, after-near k))
-
-  runs-in : (N : ℕ) → 0 < N → run (N - 1) ≡ false → length (runStates run N) < N
-  runs-in zero h r = absurd (omega arith)
-  runs-in (suc k) h r =
-      let e : suc k - 1 ≡ k = omega arith in
-      rw (last-is-off k (rw e at r)) (omega (arith, few-runs run k))
-
 -- ---- the loop
 abbrev runIn : ℕ → ℕ → List ℕ → ℕ → Bool
-runIn N c states k = marked c (getD (take N states) k 0)
+runIn N c states k = runsAt (statesOnly N states) c k
 
 abbrev wordIn : ℕ → List ℕ → ℕ → ℕ
-wordIn N states k = atomsOf (getD (take N states) k 0)
+wordIn N states k = wordAt (statesOnly N states) k
 
--- before state k: the places of the runs so far are laid, and only the place after them was touched besides
+-- the last state adds no run
+all-runs : (N c : ℕ) (states : List ℕ) → 0 < N → runsIn N c states ≡ runStates (runIn N c states) (N - 1)
+all-runs N c states h = last-adds-none (statesOnly N states) c h
+
+-- before state k, the last one at most: the places of the runs so far are laid, and only the place after them was touched besides
 pub record Walked (N c : ℕ) (states entry places : List ℕ) (here next k : ℕ) : Type 0 where
-  pub within : k ≤ N
+  pub within : k < N
   pub few : here ≤ k
   pub kept : length places ≡ length entry
   pub count : here ≡ length (runStates (runIn N c states) k)
@@ -86,9 +75,9 @@ pub record Walked (N c : ℕ) (states entry places : List ℕ) (here next k : �
   pub laid : take here places ≡ map (wordIn N states) (runStates (runIn N c states) k)
   pub rest : drop (here + 1) places ≡ drop (here + 1) entry
 
-pub walk-start : (N c : ℕ) (states entry : List ℕ) → Walked N c states entry entry 0 0 0
-walk-start N c states entry = record {
-  within = omega arith;
+pub walk-start : (N c : ℕ) (states entry : List ℕ) → Projectable N c states entry → Walked N c states entry entry 0 0 0
+walk-start N c states entry P = record {
+  within = P .someState;
   few = omega arith;
   kept = refl;
   count = refl;
@@ -101,7 +90,7 @@ module _ (N c : ℕ) (states entry places : List ℕ) (here next k : ℕ) (inv :
   pub walk-keeps : length places ≡ length entry
   walk-keeps = inv .kept
 
-  module _ (h : k < N) (room : here < length places) (w : ℕ) (ws : w ≡ wordIn N states k) where
+  module _ (h : suc k < N) (room : here < length places) (w : ℕ) (ws : w ≡ wordIn N states k) where
     walk-run : runIn N c states k ≡ true → Walked N c states entry (set places here w) (here + 1) (k + 1) (k + 1)
     walk-run r =
         let e : runStates (runIn N c states) (k + 1) ≡ runStates (runIn N c states) k ++ (k ∷ []) = runs-on (runIn N c states) k r in
@@ -129,50 +118,46 @@ module _ (N c : ℕ) (states entry places : List ℕ) (here next k : ℕ) (inv :
           rest = drop-set-lt (here + 1) places here w (omega arith) ∙ inv .rest;
         }
 
-  pub walk-next : Projectable N c states entry → k < N → (w : ℕ) → w ≡ atomsOf (getD states k 0) → (ran : Bool) → ran ≡ marked c (getD states k 0) →
+  pub walk-next : Projectable N c states entry → k < N - 1 → (w : ℕ) → w ≡ atomsOf (getD states k 0) → (ran : Bool) → ran ≡ marked c (getD states k 0) →
       (here′ : ℕ) → here′ ≡ pick ran (here + 1) here → (next′ : ℕ) → next′ ≡ pick ran (k + 1) next →
       Walked N c states entry (set places here w) here′ next′ (k + 1)
   unfolding pick
   walk-next P h w ws ran rs here′ p next′ n =
-      let same : getD (take N states) k 0 ≡ getD states k 0 = getD-take N states k 0 h in
+      let more : suc k < N = omega arith in
+      let same : getD (take N states) k 0 ≡ getD states k 0 = getD-take N states k 0 (omega arith) in
       let room : here < length places = omega (arith, inv .kept, inv .few, P .fewStates, P .room) in
       let word : w ≡ wordIn N states k = ws ∙ ap atomsOf (sym same) in
-      let run : ran ≡ runIn N c states k = rs ∙ ap (marked c) (sym same) in
+      let run : ran ≡ runIn N c states k = rw (lt-ltb (suc k) N more) (rs ∙ ap (marked c) (sym same)) in
       by-test ran
-      (λ t. let p₁ : here′ ≡ here + 1 = rw t at p in let n₁ : next′ ≡ k + 1 = rw t at n in rw (p₁, n₁) (walk-run h room w word (sym run ∙ t)))
-      (λ t. let p₁ : here′ ≡ here = rw t at p in let n₁ : next′ ≡ next = rw t at n in rw (p₁, n₁) (walk-idle h room w word (sym run ∙ t)))
+      (λ t. let p₁ : here′ ≡ here + 1 = rw t at p in let n₁ : next′ ≡ k + 1 = rw t at n in rw (p₁, n₁) (walk-run more room w word (sym run ∙ t)))
+      (λ t. let p₁ : here′ ≡ here = rw t at p in let n₁ : next′ ≡ next = rw t at n in rw (p₁, n₁) (walk-idle more room w word (sym run ∙ t)))
 
-  module _ (P : Projectable N c states entry) (over : N ≤ k) where
-    whole : k ≡ N
-    whole = omega (arith, inv .within)
-
-    idle : runIn N c states (N - 1) ≡ false
-    idle = rw (getD-take N states (N - 1) 0 (omega (arith, P .someState))) (P .lastIdle)
+  module _ (P : Projectable N c states entry) (over : N - 1 ≤ k) where
+    whole : runStates (runIn N c states) k ≡ runsIn N c states
+    whole =
+        let e : k ≡ N - 1 = omega (arith, inv .within) in
+        ap (λ (j : ℕ). runStates (runIn N c states) j) e ∙ sym (all-runs N c states (P .someState))
 
     next-counted : next < N
-    next-counted =
-        let e : next ≡ afterLast (runStates (runIn N c states) N) = inv .after ∙ ap (λ (j : ℕ). afterLast (runStates (runIn N c states) j)) whole in
-        omega (arith, after-in (runIn N c states) N (P .someState) idle)
+    next-counted = omega (arith, inv .after, after-near (runIn N c states) k, inv .within)
 
     pub next-in : next < length states
     next-in = omega (arith, next-counted, P .allThere)
 
     pub last-place : here ≡ length (runsIn N c states)
-    last-place = inv .count ∙ ap (λ (j : ℕ). length (runStates (runIn N c states) j)) whole
+    last-place = inv .count ∙ ap length whole
 
     pub place-in : here < length places
-    place-in =
-        let e : here ≡ length (runsIn N c states) = last-place in
-        omega (arith, runs-in (runIn N c states) N (P .someState) idle, P .fewStates, P .room, inv .kept)
+    place-in = omega (arith, inv .few, inv .within, P .fewStates, P .room, inv .kept)
 
     pub walk-end : (mask w : ℕ) → w ≡ atomsOf (getD states next 0) →
         set places here (bitAnd w mask) ≡ laid (placesIn N mask c states) entry
     unfolding placesIn
     walk-end mask w ws =
-        let rs : List ℕ = runStates (runIn N c states) N in
-        let n : next ≡ afterLast rs = inv .after ∙ ap (λ (j : ℕ). afterLast (runStates (runIn N c states) j)) whole in
+        let rs : List ℕ = runsIn N c states in
+        let n : next ≡ afterLast rs = inv .after ∙ ap afterLast whole in
         let m : here ≡ length rs = last-place in
-        let l : take here places ≡ map (wordIn N states) rs = inv .laid ∙ ap (λ (j : ℕ). map (wordIn N states) (runStates (runIn N c states) j)) whole in
+        let l : take here places ≡ map (wordIn N states) rs = inv .laid ∙ ap (map (wordIn N states)) whole in
         let v : w ≡ wordIn N states (afterLast rs) = ws ∙ (ap atomsOf (sym (getD-take N states next 0 next-counted)) ∙ ap (wordIn N states) n) in
         let size : here + 1 ≡ length (placesOf (wordIn N states) mask rs)
         = omega (arith, length-append (map (wordIn N states) rs) (bitAnd (wordIn N states (afterLast rs)) mask ∷ []), length-map rs (wordIn N states)) in
@@ -187,21 +172,19 @@ pub projectable : (R : Recording) (c : ℕ) (places : List ℕ) → recordingRef
     Projectable (R .count) c (R .states) places
 projectable R c places h l room =
     let K : Checked R = checked R h in
-    let D : Recorded (runIn (R .count) c (R .states)) (wordIn (R .count) (R .states)) (maskOf R c) (R .count) = recorded R c h l in
-    let i : R .count - 1 < R .count = omega (arith, K .someState) in
     record {
       someState = K .someState;
       fewStates = K .fewStates;
       allThere = omega (arith, K .states, length-take (R .count) (R .states));
       room = room;
       controller = omega (arith, K .fewControllers);
-      lastIdle = ap (marked c) (sym (getD-take (R .count) (R .states) (R .count - 1) 0 i)) ∙ D .lastIdle (R .count - 1) (omega (arith, K .someState));
     }
 
 pub countable : (R : Recording) (c : ℕ) → recordingRefusal R ≡ 0 → c < R .controllers → Countable (R .count) c (R .states)
 countable R c h l =
     let K : Checked R = checked R h in
     record {
+      someState = K .someState;
       fewStates = K .fewStates;
       allThere = omega (arith, K .states, length-take (R .count) (R .states));
       controller = omega (arith, K .fewControllers);
@@ -212,7 +195,5 @@ unfolding placesIn
 local-places R c = refl
 
 -- an accepted recording has fewer runs of a component than states
-pub few-local : (N c : ℕ) (states places : List ℕ) → Projectable N c states places → length (runStates (runIn N c states) N) < N
-few-local N c states places P =
-    let i : N - 1 < N = omega (arith, P .someState) in
-    runs-in (runIn N c states) N (P .someState) (ap (marked c) (getD-take N states (N - 1) 0 i) ∙ P .lastIdle)
+pub few-local : (N c : ℕ) (states places : List ℕ) → Projectable N c states places → length (runsIn N c states) < N
+few-local N c states places P = rw (all-runs N c states (P .someState)) (omega (arith, few-runs (runIn N c states) (N - 1), P .someState))

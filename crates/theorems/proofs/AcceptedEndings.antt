@@ -129,21 +129,21 @@ masks-plain (suc lines) earlier t e w =
     (λ k r z y. refused-not maskForm (maskRefusal earlier) t k r z)
     (λ m rest r z y. read-plain maskForm (maskRefusal earlier) t m rest r (λ s f. mask-plain s m f) (masks-plain lines (m ∷ earlier) rest z y)) e w
 
-states-plain : (C N : ℕ) (masks : List ℕ) (lines k prior : ℕ) (t : List ℕ) → (scanStates C N masks lines k prior t) .number ≡ 0 → Without carriageReturn (withNewlines t)
+states-plain : (C : ℕ) (masks : List ℕ) (lines k prior : ℕ) (t : List ℕ) → (scanStates C masks lines k prior t) .number ≡ 0 → Without carriageReturn (withNewlines t)
 unfolding scanStates withNewlines pick
-states-plain C N masks zero k prior [] e = without-none carriageReturn
-states-plain C N masks zero k prior (x ∷ t) e = absurd (omega (arith, rw (ne-eqb (suc (length t)) 0 (λ q. omega arith)) at e))
-states-plain C N masks (suc lines) k prior t e =
-    on-next (λ (s : Scan). s .number ≡ 0 → Without carriageReturn (withNewlines t)) (stateLine C N masks k prior t) _ _
-    (λ j r z. refused-not stateForm (stateRefusal C N masks k prior) t j r z)
-    (λ v rest r z. read-plain stateForm (stateRefusal C N masks k prior) t v rest r (λ s f. state-plain s v f) (states-plain C N masks lines (k + 1) v rest z)) e
+states-plain C masks zero k prior [] e = without-none carriageReturn
+states-plain C masks zero k prior (x ∷ t) e = absurd (omega (arith, rw (ne-eqb (suc (length t)) 0 (λ q. omega arith)) at e))
+states-plain C masks (suc lines) k prior t e =
+    on-next (λ (s : Scan). s .number ≡ 0 → Without carriageReturn (withNewlines t)) (stateLine C masks k prior t) _ _
+    (λ j r z. refused-not stateForm (stateRefusal C masks k prior) t j r z)
+    (λ v rest r z. read-plain stateForm (stateRefusal C masks k prior) t v rest r (λ s f. state-plain s v f) (states-plain C masks lines (k + 1) v rest z)) e
 
 masked-plain : (C N : ℕ) (t : List ℕ) → (recordingMasks C N (scanMasks C [] t)) .number ≡ 0 → Without carriageReturn (withNewlines t)
 masked-plain C N t e =
     let m = scanMasks C [] t in
     let z : m .number ≡ 0 = must-pass {A = RecordingScan} (λ s. s .number) (m .number) _ (recordingStop (m .number) (m .rest)) refl e in
-    let s = passes {A = RecordingScan} (m .number) (recordingStates C N (m .words) (scanStates C N (m .words) N 0 0 (m .rest))) (recordingStop (m .number) (m .rest)) z in
-    masks-plain C [] t z (states-plain C N (m .words) N 0 0 (m .rest) (rw s at e))
+    let s = passes {A = RecordingScan} (m .number) (recordingStates C N (m .words) (scanStates C (m .words) N 0 0 (m .rest))) (recordingStop (m .number) (m .rest)) z in
+    masks-plain C [] t z (states-plain C (m .words) N 0 0 (m .rest) (rw s at e))
 
 recording-plain : (t : List ℕ) → (scanRecording t) .number ≡ 0 → Without carriageReturn (withNewlines t)
 unfolding scanRecording

@@ -29,15 +29,15 @@ module _ (x : ℕ) (t : List ℕ) where
   not-return n = rw (ne-eqb x carriageReturn n)
 
   -- the first line, by its first byte
-  length-here : eqb x newline ≡ true → lineLength (x ∷ t) ≡ 0
+  pub length-here : eqb x newline ≡ true → lineLength (x ∷ t) ≡ 0
   unfolding lineLength pick
   length-here e = rw e
 
-  length-return : isReturn x t ≡ true → lineLength (x ∷ t) ≡ 0
+  pub length-return : isReturn x t ≡ true → lineLength (x ∷ t) ≡ 0
   unfolding lineLength pick
   length-return e = by-test (eqb x newline) (λ z. rw z) (λ z. rw (z, e))
 
-  length-later : eqb x newline ≡ false → isReturn x t ≡ false → lineLength (x ∷ t) ≡ suc (lineLength t)
+  pub length-later : eqb x newline ≡ false → isReturn x t ≡ false → lineLength (x ∷ t) ≡ suc (lineLength t)
   unfolding lineLength pick
   length-later e f = rw (e, f)
 

@@ -147,13 +147,13 @@ masks-same (suc lines) earlier t p =
     reads-same t p recordingLines recordingForm maskForm (maskRefusal earlier) renewed (λ number. stop number t) (λ number. stop number (withNewlines t))
     (λ m rest. more m (scanMasks lines (m ∷ earlier) rest)) (λ k. refl) (λ m rest q. ap (more m) (masks-same lines (m ∷ earlier) rest q))
 
-states-same : (C N : ℕ) (masks : List ℕ) (lines k prior : ℕ) (t : List ℕ) → Settled t
-    → scanStates C N masks lines k prior (withNewlines t) ≡ renewed (scanStates C N masks lines k prior t)
+states-same : (C : ℕ) (masks : List ℕ) (lines k prior : ℕ) (t : List ℕ) → Settled t
+    → scanStates C masks lines k prior (withNewlines t) ≡ renewed (scanStates C masks lines k prior t)
 unfolding scanStates
-states-same C N masks zero k prior t p = rw (empty-same t)
-states-same C N masks (suc lines) k prior t p =
-    reads-same t p recordingLines recordingForm stateForm (stateRefusal C N masks k prior) renewed (λ number. stop number t) (λ number. stop number (withNewlines t))
-    (λ s rest. more s (scanStates C N masks lines (k + 1) s rest)) (λ j. refl) (λ s rest q. ap (more s) (states-same C N masks lines (k + 1) s rest q))
+states-same C masks zero k prior t p = rw (empty-same t)
+states-same C masks (suc lines) k prior t p =
+    reads-same t p recordingLines recordingForm stateForm (stateRefusal C masks k prior) renewed (λ number. stop number t) (λ number. stop number (withNewlines t))
+    (λ s rest. more s (scanStates C masks lines (k + 1) s rest)) (λ j. refl) (λ s rest q. ap (more s) (states-same C masks lines (k + 1) s rest q))
 
 -- ---- the two texts
 abbrev pub renewedRule : RuleScan → RuleScan
@@ -172,7 +172,7 @@ rule-same t p =
 masked-same : (C N : ℕ) (m : Scan) → Settled (m .rest) → recordingMasks C N (renewed m) ≡ renewedRecording (recordingMasks C N m)
 unfolding pick
 masked-same C N m p =
-    rw (states-same C N (m .words) N 0 0 (m .rest) p)
+    rw (states-same C (m .words) N 0 0 (m .rest) p)
     (by-test (eqb (m .number) accepted) (λ e. rw (e, pick)) (λ e. rw (e, pick)))
 
 pub recording-same : (t : List ℕ) → Settled t → scanRecording (withNewlines t) ≡ renewedRecording (scanRecording t)

@@ -17,6 +17,8 @@ pub mod Terms
 pub mod Images
 pub mod Faithful
 pub mod RecordingLaws
+pub mod Beginnings
+pub mod LastMarks
 pub mod ProjectionLaws
 pub mod ScheduleIndependence
 pub mod SplitLaws
@@ -34,6 +36,7 @@ pub mod EndingReadings
 pub mod AcceptedEndings
 pub mod InputSplit
 pub mod ProgramEndings
+pub mod TextBeginnings
 pub mod Phrases
 pub mod PhraseUnique
 pub mod SentenceTrees

@@ -1,22 +1,17 @@
 -- What the acceptance of a recording says of each of its states.
-use mathlib.Core.Path.{_≡_, refl}
-use Prim.Native.Nat.{ℕ, zero, suc, _+_, _-_, _/_, _^_, _≤_, _<_}
+use mathlib.Core.Path.{_≡_}
+use Prim.Native.Nat.{ℕ, zero, suc, _+_, _-_, _^_, _≤_, _<_}
 use native.Mathlib.Omega.{arith}
-use native.Mathlib.Nat.{zero-div}
 use mathlib.Core.Bool.{Bool, false, not, _&&_, _||_}
 use mathlib.Core.List.{List, [], _∷_}
-use lib.ListN.{length, take, getD, length-take, List·getD-eq-default}
+use lib.ListN.{length, take, getD, length-take}
 use lib.Dec.{eqb, ltb, leb}
 use lib.Bits.{bitAnd}
-use borrow.Author.Tests.{ltb-false, leb-true, eqb-true, lt-ltb, eq-eqb, not-false}
-use Rattle.definitions.specs.Limits.{maxControllers, maxStates, recordingLimits, recordingLines, outputRule, lastMark, accepted}
-use Rattle.definitions.specs.Bounded.{pick, bitOf, within, orElse}
-use Rattle.definitions.specs.Recordings.{Recording, atomsOf, marksOf, marked, masksOf, statesOf, maskOf, wordAt, runsAt, outputBroken, stateRefusal, recordingHeadingRefusal, masksRefusal, statesRefusal, recordingLinesRefusal, recordingRefusal}
+use borrow.Author.Tests.{ltb-false, leb-true, eqb-true, lt-ltb, le-ltb, not-false}
+use Rattle.definitions.specs.Limits.{maxControllers, maxStates, recordingLimits, recordingLines, outputRule, accepted}
+use Rattle.definitions.specs.Bounded.{pick, within, orElse}
+use Rattle.definitions.specs.Recordings.{Recording, atomsOf, marksOf, marked, masksOf, statesOf, maskOf, stateAt, wordAt, runsAt, outputBroken, stateRefusal, recordingHeadingRefusal, masksRefusal, statesRefusal, recordingLinesRefusal, recordingRefusal}
 use Rattle.theorems.proofs.Choice.{both-true, both-false, refuse-no, accept-yes, or-else-none, some-no}
-
-pub bit-zero : (a : ℕ) → bitOf 0 a ≡ false
-unfolding bitOf
-bit-zero a = rw zero-div
 
 -- the parts of the check
 pub record Checked (R : Recording) : Type 0 where
@@ -26,7 +21,8 @@ pub record Checked (R : Recording) : Type 0 where
   pub fewStates : R .count ≤ maxStates
   pub masks : length (masksOf R) ≡ R .controllers
   pub states : length (statesOf R) ≡ R .count
-  pub eachState : statesRefusal (R .controllers) (R .count) (masksOf R) 0 0 (statesOf R) ≡ 0
+  pub eachMask : masksRefusal [] (masksOf R) ≡ 0
+  pub eachState : statesRefusal (R .controllers) (masksOf R) 0 0 (statesOf R) ≡ 0
 
 taken : (n : ℕ) (l : List ℕ) → ltb (length l) n ≡ false → length (take n l) ≡ n
 taken n l h = simp length-take (omega (arith, ltb-false (length l) n h))
@@ -36,9 +32,9 @@ unfolding recordingRefusal recordingHeadingRefusal recordingLinesRefusal
 checked R h =
     let C : ℕ = R .controllers in
     let N : ℕ = R .count in
-    let (heading, more) = or-else-none (recordingHeadingRefusal C N) (orElse (masksRefusal [] (masksOf R)) (orElse (statesRefusal C N (masksOf R) 0 0 (statesOf R)) (recordingLinesRefusal R))) h in
-    let (ms, others) = or-else-none (masksRefusal [] (masksOf R)) (orElse (statesRefusal C N (masksOf R) 0 0 (statesOf R)) (recordingLinesRefusal R)) more in
-    let (ss, count) = or-else-none (statesRefusal C N (masksOf R) 0 0 (statesOf R)) (recordingLinesRefusal R) others in
+    let (heading, more) = or-else-none (recordingHeadingRefusal C N) (orElse (masksRefusal [] (masksOf R)) (orElse (statesRefusal C (masksOf R) 0 0 (statesOf R)) (recordingLinesRefusal R))) h in
+    let (ms, others) = or-else-none (masksRefusal [] (masksOf R)) (orElse (statesRefusal C (masksOf R) 0 0 (statesOf R)) (recordingLinesRefusal R)) more in
+    let (ss, count) = or-else-none (statesRefusal C (masksOf R) 0 0 (statesOf R)) (recordingLinesRefusal R) others in
     let limits = accept-yes (within 1 maxControllers C && within 1 maxStates N) recordingLimits (omega arith) heading in
     let (cs, ns) = both-true (within 1 maxControllers C) (within 1 maxStates N) limits in
     let c = both-true (leb 1 C) (leb C maxControllers) cs in
@@ -52,48 +48,38 @@ checked R h =
       fewStates = leb-true N maxStates (n .1);
       masks = taken C (R .masks) (enough .0);
       states = taken N (R .states) (enough .1);
+      eachMask = ms;
       eachState = ss;
     }
 
 -- each state met no row, against the state before it
-state-accepted : (C N : ℕ) (masks ss : List ℕ) (k prior : ℕ) → statesRefusal C N masks k prior ss ≡ 0 → (j : ℕ) → j < length ss →
-    stateRefusal C N masks (k + j) (getD (prior ∷ ss) j 0) (getD ss j 0) ≡ 0
+state-accepted : (C : ℕ) (masks ss : List ℕ) (k prior : ℕ) → statesRefusal C masks k prior ss ≡ 0 → (j : ℕ) → j < length ss →
+    stateRefusal C masks (k + j) (getD (prior ∷ ss) j 0) (getD ss j 0) ≡ 0
 unfolding statesRefusal
-state-accepted C N masks [] k prior h j l = absurd (omega arith)
-state-accepted C N masks (s ∷ ss) k prior h zero l =
+state-accepted C masks [] k prior h j l = absurd (omega arith)
+state-accepted C masks (s ∷ ss) k prior h zero l =
     let e : k + 0 ≡ k = omega arith in
-    rw e ((or-else-none (stateRefusal C N masks k prior s) (statesRefusal C N masks (k + 1) s ss) h) .0)
-state-accepted C N masks (s ∷ ss) k prior h (suc j) l =
+    rw e ((or-else-none (stateRefusal C masks k prior s) (statesRefusal C masks (k + 1) s ss) h) .0)
+state-accepted C masks (s ∷ ss) k prior h (suc j) l =
     let e : k + suc j ≡ (k + 1) + j = omega arith in
-    rw e (state-accepted C N masks ss (k + 1) s ((or-else-none (stateRefusal C N masks k prior s) (statesRefusal C N masks (k + 1) s ss) h) .1) j (omega arith))
+    rw e (state-accepted C masks ss (k + 1) s ((or-else-none (stateRefusal C masks k prior s) (statesRefusal C masks (k + 1) s ss) h) .1) j (omega arith))
 
-module _ (C N : ℕ) (masks : List ℕ) (k prior s : ℕ) (h : stateRefusal C N masks k prior s ≡ 0) where
-  -- the tests of a state, from the last one on
-  lastTest : Bool
-  lastTest = eqb (k + 1) N && not (eqb (marksOf s) 0)
-
+module _ (C : ℕ) (masks : List ℕ) (k prior s : ℕ) (h : stateRefusal C masks k prior s ≡ 0) where
+  -- the test of a state against the prior one
   outputTest : Bool
   outputTest = ltb 0 k && outputBroken C masks prior s
 
-  tests : (outputTest ≡ false) × (lastTest ≡ false)
-  unfolding stateRefusal outputTest lastTest
-  tests =
-      let more = (refuse-no (leb (2 ^ C) (marksOf s)) recordingLimits (pick (ltb 0 k && outputBroken C masks prior s) outputRule (pick (eqb (k + 1) N && not (eqb (marksOf s) 0)) lastMark accepted)) (omega arith) h) .1 in
-      let two = refuse-no (ltb 0 k && outputBroken C masks prior s) outputRule (pick (eqb (k + 1) N && not (eqb (marksOf s) 0)) lastMark accepted) (omega arith) more in
-      (two .0, (refuse-no (eqb (k + 1) N && not (eqb (marksOf s) 0)) lastMark accepted (omega arith) (two .1)) .0)
-
-  -- the last state has no mark
-  last-unmarked : k + 1 ≡ N → marksOf s ≡ 0
-  unfolding lastTest
-  last-unmarked e =
-      let u : not (eqb (marksOf s) 0) ≡ false = rw (eq-eqb (k + 1) N e) at (tests .1) in
-      eqb-true (marksOf s) 0 (not-false (eqb (marksOf s) 0) u)
+  output-fine : outputTest ≡ false
+  unfolding stateRefusal outputTest
+  output-fine =
+      let more = (refuse-no (leb (2 ^ C) (marksOf s)) recordingLimits (pick (ltb 0 k && outputBroken C masks prior s) outputRule accepted) (omega arith) h) .1 in
+      (refuse-no (ltb 0 k && outputBroken C masks prior s) outputRule accepted (omega arith) more) .0
 
   -- the output rule holds for each controller
   output-kept : 0 < k → (c : ℕ) → c < C → marked c prior ≡ false → bitAnd (atomsOf prior) (getD masks c 0) ≡ bitAnd (atomsOf s) (getD masks c 0)
   unfolding outputTest
   output-kept p c l m =
-      let t : outputBroken C masks prior s ≡ false = rw (lt-ltb 0 k p) at (tests .0) in
+      let t : outputBroken C masks prior s ≡ false = rw (lt-ltb 0 k p) at output-fine in
       let u = some-no (λ (c : ℕ). not (marked c prior) && not (eqb (bitAnd (atomsOf prior) (getD masks c 0)) (bitAnd (atomsOf s) (getD masks c 0)))) (C - 0) 0 c t (omega arith) (omega arith) in
       let v : not (eqb (bitAnd (atomsOf prior) (getD masks c 0)) (bitAnd (atomsOf s) (getD masks c 0))) ≡ false = rw m at u in
       eqb-true (bitAnd (atomsOf prior) (getD masks c 0)) (bitAnd (atomsOf s) (getD masks c 0)) (not-false (eqb (bitAnd (atomsOf prior) (getD masks c 0)) (bitAnd (atomsOf s) (getD masks c 0))) v)
@@ -108,14 +94,12 @@ pub record Recorded (run : ℕ → Bool) (word : ℕ → ℕ) (mask N : ℕ) : T
 pub recorded : (R : Recording) (c : ℕ) → recordingRefusal R ≡ 0 → c < R .controllers → Recorded (runsAt R c) (wordAt R) (maskOf R c) (R .count)
 recorded R c h l =
     let K : Checked R = checked R h in
-    let each = state-accepted (R .controllers) (R .count) (masksOf R) (statesOf R) 0 0 (K .eachState) in
+    let each = state-accepted (R .controllers) (masksOf R) (statesOf R) 0 0 (K .eachState) in
     record {
       some = K .someState;
-      off = λ k b. let past : length (statesOf R) ≤ k = omega (arith, K .states) in
-          let z : 0 / 2 ^ 32 ≡ 0 = refl in rw (List·getD-eq-default (statesOf R) 0 past) (bit-zero c);
-      lastIdle = λ k e. let i : k < length (statesOf R) = omega (arith, K .states) in
-          let n : (0 + k) + 1 ≡ R .count = omega arith in
-          rw (last-unmarked (R .controllers) (R .count) (masksOf R) (0 + k) (getD (0 ∷ statesOf R) k 0) (getD (statesOf R) k 0) (each k i) n) (bit-zero c);
+      off = λ k b. rw (le-ltb (suc k) (R .count) (omega arith));
+      lastIdle = λ k e. rw (le-ltb (suc k) (R .count) (omega arith));
       output = λ k b r. let i : suc k < length (statesOf R) = omega (arith, K .states) in
-          output-kept (R .controllers) (R .count) (masksOf R) (0 + suc k) (getD (0 ∷ statesOf R) (suc k) 0) (getD (statesOf R) (suc k) 0) (each (suc k) i) (omega arith) c l r;
+          let unmarked : marked c (stateAt R k) ≡ false = rw (lt-ltb (suc k) (R .count) b) at r in
+          output-kept (R .controllers) (masksOf R) (0 + suc k) (getD (0 ∷ statesOf R) (suc k) 0) (getD (statesOf R) (suc k) 0) (each (suc k) i) (omega arith) c l unmarked;
     }

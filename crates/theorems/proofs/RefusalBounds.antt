@@ -1,23 +1,30 @@
--- No check of a table or a recording refuses with 12 or above: 13 is for lent space alone.
+-- No check of a table or a recording refuses with 12 or above: 13 is for lent space alone. None of a recording refuses with 9.
+use mathlib.Core.Path.{_≡_}
 use Prim.Native.Nat.{ℕ, zero, suc, _+_, _<_}
 use native.Mathlib.Omega.{arith}
 use mathlib.Core.Bool.{Bool, true, false}
 use mathlib.Core.List.{List, [], _∷_}
 use lib.Dec.{eqb}
-use Rattle.definitions.specs.Limits.{ruleLimits, ruleOperand, recordingLimits, masksMeet, recordingLines, lastMark, outputRule, noController, tooManyNodes, accepted}
+use Rattle.definitions.specs.Limits.{ruleLimits, ruleOperand, recordingLimits, masksMeet, recordingLines, outputRule, noController, tooManyNodes, accepted}
 use Rattle.definitions.specs.Bounded.{pick, orElse}
 use Rattle.definitions.specs.Nodes.{Node, nodeOf}
 use Rattle.definitions.specs.Tables.{Rule, Table, nodeRefusal, nodesRefusal, ruleHeadingRefusal, ruleRefusal, topsRefusal, tableRefusal}
 use Rattle.definitions.specs.Recordings.{Recording, masksOf, statesOf, stateRefusal, recordingHeadingRefusal, maskRefusal, masksRefusal, statesRefusal, recordingLinesRefusal, recordingRefusal, controllerRefusal}
 
-pub pick-low : (z : Bool) (a b n : ℕ) → a < n → b < n → pick z a b < n
+pick-of : (P : ℕ → Type 0) (z : Bool) (a b : ℕ) → P a → P b → P (pick z a b)
 unfolding pick
-pick-low true a b n p q = p
-pick-low false a b n p q = q
+pick-of P true a b p q = p
+pick-of P false a b p q = q
+
+or-else-of : (P : ℕ → Type 0) (a b : ℕ) → P a → P b → P (orElse a b)
+unfolding orElse
+or-else-of P a b p q = pick-of P (eqb a 0) b a q p
+
+pub pick-low : (z : Bool) (a b n : ℕ) → a < n → b < n → pick z a b < n
+pick-low z a b n p q = pick-of (λ m. m < n) z a b p q
 
 pub or-else-low : (a b n : ℕ) → a < n → b < n → orElse a b < n
-unfolding orElse
-or-else-low a b n p q = pick-low (eqb a 0) b a n q p
+or-else-low a b n p q = or-else-of (λ m. m < n) a b p q
 
 node-low : (rewritten : Bool) (i : ℕ) (n : Node) → nodeRefusal rewritten i n < tooManyNodes
 unfolding nodeRefusal
@@ -45,28 +52,36 @@ table-low t =
     or-else-low _ _ tooManyNodes (pick-low _ accepted ruleLimits tooManyNodes (omega arith) (omega arith))
     (or-else-low _ _ tooManyNodes (nodes-low true 0 (t .count) (t .nodes)) (pick-low _ accepted ruleLimits tooManyNodes (omega arith) (omega arith)))
 
-masks-low : (earlier ms : List ℕ) → masksRefusal earlier ms < tooManyNodes
-unfolding masksRefusal maskRefusal
-masks-low earlier [] = omega arith
-masks-low earlier (m ∷ ms) =
-    or-else-low _ _ tooManyNodes (pick-low _ masksMeet accepted tooManyNodes (omega arith) (omega arith)) (masks-low (m ∷ earlier) ms)
+-- what holds of 0, 6, 7, 8 and 10 holds of the number of every recording
+module _ (P : ℕ → Type 0) (none : P accepted) where
+  masks-number : P masksMeet → (earlier ms : List ℕ) → P (masksRefusal earlier ms)
+  unfolding masksRefusal maskRefusal
+  masks-number meet earlier [] = none
+  masks-number meet earlier (m ∷ ms) = or-else-of P _ _ (pick-of P _ masksMeet accepted meet none) (masks-number meet (m ∷ earlier) ms)
 
-states-low : (C N : ℕ) (masks : List ℕ) (k prior : ℕ) (ss : List ℕ) → statesRefusal C N masks k prior ss < tooManyNodes
-unfolding statesRefusal stateRefusal
-states-low C N masks k prior [] = omega arith
-states-low C N masks k prior (s ∷ ss) =
-    or-else-low _ _ tooManyNodes
-    (pick-low _ recordingLimits _ tooManyNodes (omega arith)
-    (pick-low _ outputRule _ tooManyNodes (omega arith) (pick-low _ lastMark accepted tooManyNodes (omega arith) (omega arith))))
-    (states-low C N masks (k + 1) s ss)
+  module _ (limits : P recordingLimits) (output : P outputRule) where
+    pub state-number : (C : ℕ) (masks : List ℕ) (k prior s : ℕ) → P (stateRefusal C masks k prior s)
+    unfolding stateRefusal
+    state-number C masks k prior s = pick-of P _ recordingLimits _ limits (pick-of P _ outputRule accepted output none)
+
+    states-number : (C : ℕ) (masks : List ℕ) (k prior : ℕ) (ss : List ℕ) → P (statesRefusal C masks k prior ss)
+    unfolding statesRefusal
+    states-number C masks k prior [] = none
+    states-number C masks k prior (s ∷ ss) = or-else-of P _ _ (state-number C masks k prior s) (states-number C masks (k + 1) s ss)
+
+    pub recording-number : P masksMeet → P recordingLines → (R : Recording) → P (recordingRefusal R)
+    unfolding recordingRefusal recordingHeadingRefusal recordingLinesRefusal
+    recording-number meet lines R =
+        or-else-of P _ _ (pick-of P _ accepted recordingLimits none limits)
+        (or-else-of P _ _ (masks-number meet [] (masksOf R))
+        (or-else-of P _ _ (states-number (R .controllers) (masksOf R) 0 0 (statesOf R)) (pick-of P _ recordingLines accepted lines none)))
 
 pub recording-low : (R : Recording) → recordingRefusal R < tooManyNodes
-unfolding recordingRefusal recordingHeadingRefusal recordingLinesRefusal
-recording-low R =
-    or-else-low _ _ tooManyNodes (pick-low _ accepted recordingLimits tooManyNodes (omega arith) (omega arith))
-    (or-else-low _ _ tooManyNodes (masks-low [] (masksOf R))
-    (or-else-low _ _ tooManyNodes (states-low (R .controllers) (R .count) (masksOf R) 0 0 (statesOf R))
-    (pick-low _ recordingLines accepted tooManyNodes (omega arith) (omega arith))))
+recording-low = recording-number (λ n. n < tooManyNodes) (omega arith) (omega arith) (omega arith) (omega arith) (omega arith)
+
+-- "Number 9 is no longer given" (document 02)
+pub recording-not-nine : (R : Recording) → recordingRefusal R ≡ 9 → ⊥
+recording-not-nine = recording-number (λ n. n ≡ 9 → ⊥) (λ e. omega arith) (λ e. omega arith) (λ e. omega arith) (λ e. omega arith) (λ e. omega arith)
 
 pub controller-low : (C c : ℕ) → controllerRefusal C c < tooManyNodes
 unfolding controllerRefusal

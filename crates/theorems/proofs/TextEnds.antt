@@ -66,18 +66,18 @@ masks-end (suc lines) earlier t =
     on-next (λ (s : Scan). EndOf t (s .rest)) (maskLine earlier t) _ _ (λ k e. end-whole t)
     (λ m rest e. end-later t rest _ (next-end recordingLines recordingForm maskForm (maskRefusal earlier) t m rest e) (masks-end lines (m ∷ earlier) rest))
 
-states-end : (C N : ℕ) (masks : List ℕ) (lines k prior : ℕ) (t : List ℕ) → EndOf t ((scanStates C N masks lines k prior t) .rest)
+states-end : (C : ℕ) (masks : List ℕ) (lines k prior : ℕ) (t : List ℕ) → EndOf t ((scanStates C masks lines k prior t) .rest)
 unfolding scanStates
-states-end C N masks zero k prior t = end-whole t
-states-end C N masks (suc lines) k prior t =
-    on-next (λ (s : Scan). EndOf t (s .rest)) (stateLine C N masks k prior t) _ _ (λ j e. end-whole t)
-    (λ s rest e. end-later t rest _ (next-end recordingLines recordingForm stateForm (stateRefusal C N masks k prior) t s rest e) (states-end C N masks lines (k + 1) s rest))
+states-end C masks zero k prior t = end-whole t
+states-end C masks (suc lines) k prior t =
+    on-next (λ (s : Scan). EndOf t (s .rest)) (stateLine C masks k prior t) _ _ (λ j e. end-whole t)
+    (λ s rest e. end-later t rest _ (next-end recordingLines recordingForm stateForm (stateRefusal C masks k prior) t s rest e) (states-end C masks lines (k + 1) s rest))
 
 masked-end : (C N : ℕ) (m : Scan) (t : List ℕ) → EndOf t (m .rest) → EndOf t ((recordingMasks C N m) .rest)
 unfolding pick
 masked-end C N m t e =
     by-test (eqb (m .number) accepted)
-    (λ z. rw z (end-later t (m .rest) _ e (states-end C N (m .words) N 0 0 (m .rest))))
+    (λ z. rw z (end-later t (m .rest) _ e (states-end C (m .words) N 0 0 (m .rest))))
     (λ z. rw z e)
 
 pub recording-end : (t : List ℕ) → EndOf t ((scanRecording t) .rest)

@@ -38,9 +38,9 @@ unfolding stateForm onParsed
 state-formed s a b e = worded-made stateOf (hexadecimal markDigits) (hexadecimal wordDigits) atWord s ∙ rw e
 
 -- ---- `next_state`
-module _ (C N : ℕ) (masks : List ℕ) (k prior : ℕ) (t : List ℕ) (n : ℕ) (ns : n ≡ endRefusal recordingLines recordingForm t) where
-  pub state-unread : (n ≡ 0 → ⊥) → state.Refused n ≡ stateAnswer (stateLine C N masks k prior t)
-  state-unread z = is-refused (stateLine C N masks k prior t) n (next-unread recordingLines recordingForm t n ns _ _ z)
+module _ (C : ℕ) (masks : List ℕ) (k prior : ℕ) (t : List ℕ) (n : ℕ) (ns : n ≡ endRefusal recordingLines recordingForm t) where
+  pub state-unread : (n ≡ 0 → ⊥) → state.Refused n ≡ stateAnswer (stateLine C masks k prior t)
+  state-unread z = is-refused (stateLine C masks k prior t) n (next-unread recordingLines recordingForm t n ns _ _ z)
 
   module _ (z : n ≡ 0) (len : ℕ) (is : len ≡ lineLength t) (r : Pair) (rs : r ≡ exactPair (worded atWord (twoFields (hexadecimal markDigits) (hexadecimal wordDigits) heading) (take len t))) where
     closed : isClosed t ≡ true
@@ -49,29 +49,29 @@ module _ (C N : ℕ) (masks : List ℕ) (k prior : ℕ) (t : List ℕ) (n : ℕ)
     line : r ≡ exactPair (worded atWord (twoFields (hexadecimal markDigits) (hexadecimal wordDigits) heading) (lineOf t))
     line = rw (line-part t len is) at rs
 
-    pub state-malformed : r ≡ pair.Malformed → state.Refused recordingForm ≡ stateAnswer (stateLine C N masks k prior t)
+    pub state-malformed : r ≡ pair.Malformed → state.Refused recordingForm ≡ stateAnswer (stateLine C masks k prior t)
     state-malformed x =
-        is-refused (stateLine C N masks k prior t) recordingForm
-        (next-malformed recordingLines recordingForm stateForm (stateRefusal C N masks k prior) t closed (state-not (lineOf t) (exact-pair-malformed _ r line x)))
+        is-refused (stateLine C masks k prior t) recordingForm
+        (next-malformed recordingLines recordingForm stateForm (stateRefusal C masks k prior) t closed (state-not (lineOf t) (exact-pair-malformed _ r line x)))
 
-    module _ (a b : ℕ) (x : r ≡ pair.Numbers a b) (s : ℕ) (ss : s ≡ stateOf a b) (j : ℕ) (js : j ≡ stateRefusal C N masks k prior s) where
+    module _ (a b : ℕ) (x : r ≡ pair.Numbers a b) (s : ℕ) (ss : s ≡ stateOf a b) (j : ℕ) (js : j ≡ stateRefusal C masks k prior s) where
       form : stateForm (lineOf t) ≡ formed s
       form = state-formed (lineOf t) a b (exact-pair _ r a b line x) ∙ ap formed (sym ss)
 
-      pub state-refused : (j ≡ 0 → ⊥) → state.Refused j ≡ stateAnswer (stateLine C N masks k prior t)
+      pub state-refused : (j ≡ 0 → ⊥) → state.Refused j ≡ stateAnswer (stateLine C masks k prior t)
       state-refused y =
-          is-refused (stateLine C N masks k prior t) j (next-denied recordingLines recordingForm stateForm (stateRefusal C N masks k prior) t closed s form j (sym js) y)
+          is-refused (stateLine C masks k prior t) j (next-denied recordingLines recordingForm stateForm (stateRefusal C masks k prior) t closed s form j (sym js) y)
 
-      pub state-read : j ≡ 0 → state.State s ≡ stateAnswer (stateLine C N masks k prior t)
+      pub state-read : j ≡ 0 → state.State s ≡ stateAnswer (stateLine C masks k prior t)
       state-read y =
-          is-read (stateLine C N masks k prior t) s (restOf t)
-          (next-read recordingLines recordingForm stateForm (stateRefusal C N masks k prior) t closed s form (sym js ∙ y))
+          is-read (stateLine C masks k prior t) s (restOf t)
+          (next-read recordingLines recordingForm stateForm (stateRefusal C masks k prior) t closed s form (sym js ∙ y))
 
 pub ruleset state-laws = (line-part-laws, state-unread, state-malformed, state-refused, state-read)
 
 -- ---- what a caller has of an answer
-pub record StateIs (C N : ℕ) (masks : List ℕ) (k prior : ℕ) (t : List ℕ) (s : ℕ) : Type 0 where
-  pub is : stateLine C N masks k prior t ≡ read s (restOf t)
+pub record StateIs (C : ℕ) (masks : List ℕ) (k prior : ℕ) (t : List ℕ) (s : ℕ) : Type 0 where
+  pub is : stateLine C masks k prior t ≡ read s (restOf t)
 
 record ReadWith (n : NextLine ℕ) (s : ℕ) : Type 0 where
   rest : List ℕ
@@ -87,12 +87,12 @@ unfolding stateAnswer
 answer-refused (refused j) r k e x = let q : j ≡ k = cc in ap refused q
 answer-refused (read a rest) r k e x = let z : _≡_ {A = ℕ} 0 1 = cc in absurd (omega arith)
 
-module _ (C N : ℕ) (masks : List ℕ) (k prior : ℕ) (t : List ℕ) (r : StateRead) (rs : r ≡ stateAnswer (stateLine C N masks k prior t)) where
-  pub state-is : (s : ℕ) → r ≡ state.State s → StateIs C N masks k prior t s
+module _ (C : ℕ) (masks : List ℕ) (k prior : ℕ) (t : List ℕ) (r : StateRead) (rs : r ≡ stateAnswer (stateLine C masks k prior t)) where
+  pub state-is : (s : ℕ) → r ≡ state.State s → StateIs C masks k prior t s
   state-is s x =
-      let a = answer-read (stateLine C N masks k prior t) r s rs x in
-      let b = next-back recordingLines recordingForm stateForm (stateRefusal C N masks k prior) t s (a .rest) (a .is) in
+      let a = answer-read (stateLine C masks k prior t) r s rs x in
+      let b = next-back recordingLines recordingForm stateForm (stateRefusal C masks k prior) t s (a .rest) (a .is) in
       record { is = a .is ∙ ap (read s) (b .left) }
 
-  pub state-denied : (j : ℕ) → r ≡ state.Refused j → stateLine C N masks k prior t ≡ refused j
-  state-denied j x = answer-refused (stateLine C N masks k prior t) r j rs x
+  pub state-denied : (j : ℕ) → r ≡ state.Refused j → stateLine C masks k prior t ≡ refused j
+  state-denied j x = answer-refused (stateLine C masks k prior t) r j rs x

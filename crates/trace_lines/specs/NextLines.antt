@@ -1,12 +1,11 @@
 -- What the code answers of the next line of a recording text.
 use mathlib.Core.Path.{_≡_}
-use Prim.Native.Nat.{ℕ}
+use Prim.Native.Nat.{ℕ, _≤_}
 use mathlib.Core.List.{List}
-use Rattle.definitions.specs.Limits.{recordingForm, recordingLines}
+use Rattle.definitions.specs.Limits.{maxControllers, recordingForm, recordingLines}
 use Rattle.definitions.specs.Lines.{lineLength, Heading, NextLine, refused, read, nextLine}
 use Rattle.definitions.specs.RecordingText.{maskForm}
 use Rattle.traces.specs.Unions.{unionRefusal}
-use Rattle.traces.specs.Turns.{InTurn}
 use Rattle.trace_lines.specs.declared.HeadingRead.{HeadingRead}
 use Rattle.trace_lines.specs.declared.HeadingRead.the-variants as first
 use Rattle.trace_lines.specs.declared.MaskRead.{MaskRead}
@@ -33,7 +32,7 @@ stateAnswer (read s rest) = state.State s
 abbrev pub seenLine : (seen : ℕ) → List ℕ → NextLine ℕ
 seenLine seen t = nextLine recordingLines recordingForm maskForm (unionRefusal seen) t
 
--- what the line of state k asks of its caller
-pub record StateTurn (C N k len : ℕ) (t : List ℕ) : Type 0 where
-  pub turn : InTurn C N k
+-- what the line of a state asks of its caller
+pub record StateTurn (C len : ℕ) (t : List ℕ) : Type 0 where
+  pub few : C ≤ maxControllers
   pub ends : len ≡ lineLength t

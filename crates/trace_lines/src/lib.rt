@@ -84,15 +84,14 @@ fn state_of(marks: u32, word: u32) -> u64
 // State k against `prior`, the state before it.
 pub fn next_state(
     controllers: usize,
-    count: usize,
     masks: &[u32],
     k: usize,
     prior: u64,
     t: &[u8],
     len: usize,
 ) -> StateRead
-    requires { ⌜ StateTurn controllers count k len (now t) ⌝ }
-    ensures { λ r. ⌜ r ≡ stateAnswer (stateLine controllers count (now (masks .entry)) k prior (now (t .entry))) ⌝ }
+    requires { ⌜ StateTurn controllers len (now t) ⌝ }
+    ensures { λ r. ⌜ r ≡ stateAnswer (stateLine controllers (now (masks .entry)) k prior (now (t .entry))) ⌝ }
 {
     let unread = end_refusal(t, len, Refusal::RECORDING_LINES, Refusal::RECORDING_FORM);
     if unread != Refusal::NONE {
@@ -107,7 +106,7 @@ pub fn next_state(
         return StateRead::Refused(Refusal::RECORDING_FORM);
     };
     let state = state_of(marks, word);
-    let refusal = check::state_refusal(controllers, count, masks, k, prior, state);
+    let refusal = check::state_refusal(controllers, masks, k, prior, state);
     if refusal != Refusal::NONE {
         return StateRead::Refused(refusal);
     }

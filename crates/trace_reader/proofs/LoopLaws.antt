@@ -83,7 +83,7 @@ pub ruleset scan-mask-laws = (needs, masks-start, masks-done, masks-refused, mas
 -- ---- `scan_states`
 pub record StatesLeft (C N : ℕ) (masks : List ℕ) (start : ℕ) (text o o′ : List ℕ) (at prior k : ℕ) : Type 0 where
   pub within : k ≤ N
-  pub lines : Lines (scanStates C N masks N 0 0 (drop start text)) text o o′ at k (scanStates C N masks (N - k) k prior (drop at text))
+  pub lines : Lines (scanStates C masks N 0 0 (drop start text)) text o o′ at k (scanStates C masks (N - k) k prior (drop at text))
 
 pub states-start : (C N : ℕ) (masks : List ℕ) (start : ℕ) (text o : List ℕ) → start ≤ length text → StatesLeft C N masks start text o o start 0 0
 states-start C N masks start text o h =
@@ -97,29 +97,29 @@ module _ (C N : ℕ) (masks : List ℕ) (start : ℕ) (text o o′ : List ℕ) (
       (λ y. e ∙ (pick-true _ _ _ y ∙ sym (pick-false _ _ _ (empty-no (drop at text) (λ q. omega (arith, length-drop at text, ltb-true at (length text) y))))))
       (λ y. e ∙ (pick-false _ _ _ y ∙ sym (pick-true _ _ _ (empty-yes (drop at text) (omega (arith, length-drop at text, ltb-false at (length text) y))))))
 
-  pub states-done : (n : ℕ) → n ≡ pick (ltb at (length text)) recordingLines accepted → N ≤ k → LinesScanned (scanStates C N masks N 0 0 (drop start text)) text o (record { number = n; at = at }) o′
+  pub states-done : (n : ℕ) → n ≡ pick (ltb at (length text)) recordingLines accepted → N ≤ k → LinesScanned (scanStates C masks N 0 0 (drop start text)) text o (record { number = n; at = at }) o′
   states-done n e h =
       let z : N - k ≡ 0 = omega arith in
-      lines-stop _ text o o′ at k _ (inv .lines) n (rw z (states-end C N masks k prior n (drop at text) (last-line n e))) (omega (arith, inv .within))
+      lines-stop _ text o o′ at k _ (inv .lines) n (rw z (states-end C masks k prior n (drop at text) (last-line n e))) (omega (arith, inv .within))
 
-  module _ (h : k < N) (l : Line) (is : FirstLine (take (length text - at) (drop at text)) l) (r : StateRead) (rs : r ≡ stateAnswer (stateLine C N masks k prior (take (length text - at) (drop at text)))) where
+  module _ (h : k < N) (l : Line) (is : FirstLine (take (length text - at) (drop at text)) l) (r : StateRead) (rs : r ≡ stateAnswer (stateLine C masks k prior (take (length text - at) (drop at text)))) where
     one-fewer : N - k ≡ suc (N - (k + 1))
     one-fewer = omega arith
 
     line-ends : FirstLine (drop at text) l
     line-ends = rw (part-to-end text at) at is
 
-    answered : r ≡ stateAnswer (stateLine C N masks k prior (drop at text))
+    answered : r ≡ stateAnswer (stateLine C masks k prior (drop at text))
     answered = rw (part-to-end text at) at rs
 
-    pub states-refused : (n : ℕ) → r ≡ state.Refused n → LinesScanned (scanStates C N masks N 0 0 (drop start text)) text o (record { number = n; at = at }) o′
+    pub states-refused : (n : ℕ) → r ≡ state.Refused n → LinesScanned (scanStates C masks N 0 0 (drop start text)) text o (record { number = n; at = at }) o′
     states-refused n e =
         lines-stop _ text o o′ at k _ (inv .lines) n
-        (rw one-fewer (state-stop C N masks (N - (k + 1)) k prior (drop at text) n (state-denied C N masks k prior (drop at text) r answered n e))) (omega (arith, inv .within))
+        (rw one-fewer (state-stop C masks (N - (k + 1)) k prior (drop at text) n (state-denied C masks k prior (drop at text) r answered n e))) (omega (arith, inv .within))
 
     module _ (s : ℕ) (e : r ≡ state.State s) where
-      got : StateIs C N masks k prior (drop at text) s
-      got = state-is C N masks k prior (drop at text) r answered s e
+      got : StateIs C masks k prior (drop at text) s
+      got = state-is C masks k prior (drop at text) r answered s e
 
       state-inside : at + l .next ≤ length text
       state-inside = line-inside text at l line-ends (inv .lines .inside)
@@ -127,8 +127,8 @@ module _ (C N : ℕ) (masks : List ℕ) (start : ℕ) (text o o′ : List ℕ) (
       pub state-next-fits : length text < 2 ^ 64 → Fits w64 (at + l .next)
       state-next-fits h = record { fits = omega (arith, state-inside) }
 
-      state-turn : scanStates C N masks (N - k) k prior (drop at text) ≡ more s (scanStates C N masks (N - (k + 1)) (k + 1) s (drop (at + l .next) text))
-      state-turn = rw (one-fewer, ← after-line text at l line-ends) (state-step C N masks (N - (k + 1)) k prior (drop at text) s (restOf (drop at text)) (got .is))
+      state-turn : scanStates C masks (N - k) k prior (drop at text) ≡ more s (scanStates C masks (N - (k + 1)) (k + 1) s (drop (at + l .next) text))
+      state-turn = rw (one-fewer, ← after-line text at l line-ends) (state-step C masks (N - (k + 1)) k prior (drop at text) s (restOf (drop at text)) (got .is))
 
       pub states-next : StatesLeft C N masks start text o (set o′ k s) (at + l .next) s (k + 1)
       states-next = record { within = omega arith; lines = lines-next _ text o o′ at k _ (inv .lines) s (at + l .next) _ state-turn (omega arith) state-inside }

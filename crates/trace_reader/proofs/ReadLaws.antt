@@ -62,15 +62,15 @@ unfolding pick
 masks-denied C N m z = rw (ne-eqb (m .number) 0 z)
 
 -- the masks were read
-masks-read : (C N : ℕ) (m : Scan) → m .number ≡ 0 → recordingMasks C N m ≡ recordingStates C N (m .words) (scanStates C N (m .words) N 0 0 (m .rest))
+masks-read : (C N : ℕ) (m : Scan) → m .number ≡ 0 → recordingMasks C N m ≡ recordingStates C N (m .words) (scanStates C (m .words) N 0 0 (m .rest))
 unfolding pick
 masks-read C N m e = rw (eq-eqb (m .number) 0 e)
 
 -- the states, with the masks in lent space
-states-of : (C N : ℕ) (masks masks′ words : List ℕ) (t rest : List ℕ) → masks′ ≡ laid words masks → length words ≡ C → t ≡ rest → scanStates C N masks′ N 0 0 t ≡ scanStates C N words N 0 0 rest
+states-of : (C N : ℕ) (masks masks′ words : List ℕ) (t rest : List ℕ) → masks′ ≡ laid words masks → length words ≡ C → t ≡ rest → scanStates C masks′ N 0 0 t ≡ scanStates C words N 0 0 rest
 states-of C N masks masks′ words t rest e l d =
     let q : take C masks′ ≡ words = rw e (take-at words (drop (length words) masks) C l) in
-    scan-own C N masks′ N 0 0 t ∙ rw (q, d)
+    scan-own C masks′ N 0 0 t ∙ rw (q, d)
 
 -- the first line was refused, or read
 module _ (t : List ℕ) where
@@ -120,11 +120,11 @@ module _ (text masks states : List ℕ) (l : Line) (is : FirstLine text l) (r : 
         all-masks : length (scanMasks C [] (drop (l .next) text) .words) ≡ C
         all-masks = masks-few .all (sym (m .number) ∙ z)
 
-        module _ (stopped : Stopped) (states′ : List ℕ) (s : LinesScanned (scanStates C N masks′ N 0 0 (drop (owned .at) text)) text states stopped states′) where
-          states-few : Counted N (scanStates C N masks′ N 0 0 (drop (owned .at) text))
-          states-few = states-counted C N masks′ N 0 0 (drop (owned .at) text)
+        module _ (stopped : Stopped) (states′ : List ℕ) (s : LinesScanned (scanStates C masks′ N 0 0 (drop (owned .at) text)) text states stopped states′) where
+          states-few : Counted N (scanStates C masks′ N 0 0 (drop (owned .at) text))
+          states-few = states-counted C masks′ N 0 0 (drop (owned .at) text)
 
-          whole : scanRecording text ≡ recordingStates C N (scanMasks C [] (drop (l .next) text) .words) (scanStates C N masks′ N 0 0 (drop (owned .at) text))
+          whole : scanRecording text ≡ recordingStates C N (scanMasks C [] (drop (l .next) text) .words) (scanStates C masks′ N 0 0 (drop (owned .at) text))
           whole =
               scan-is
               ∙ (masks-read C N (scanMasks C [] (drop (l .next) text)) (sym (m .number) ∙ z)
@@ -139,7 +139,7 @@ module _ (text masks states : List ℕ) (l : Line) (is : FirstLine text l) (r : 
           masks-are : (scanRecording text) .masks ≡ scanMasks C [] (drop (l .next) text) .words
           masks-are = ap (λ (q : RecordingScan). q .masks) whole
 
-          states-are : (scanRecording text) .states ≡ scanStates C N masks′ N 0 0 (drop (owned .at) text) .words
+          states-are : (scanRecording text) .states ≡ scanStates C masks′ N 0 0 (drop (owned .at) text) .words
           states-are = ap (λ (q : RecordingScan). q .states) whole
 
           pub recording-scanned : RecordingScanned text masks states (record { number = stopped .number; controllers = C; count = N; «rest_at» = stopped .at }) masks′ states′
@@ -159,7 +159,7 @@ module _ (text masks states : List ℕ) (l : Line) (is : FirstLine text l) (r : 
             statesLaid = s .words ∙ ap (λ (l : List ℕ). laid l states) (sym states-are);
             statesCount = λ q. ap length states-are ∙ states-few .all (sym (s .number) ∙ q);
             statesPast =
-                laid-past maxStates (scanStates C N masks′ N 0 0 (drop (owned .at) text) .words) states states′ (omega (arith, states-few .most, limits .short)) (s .words);
+                laid-past maxStates (scanStates C masks′ N 0 0 (drop (owned .at) text) .words) states states′ (omega (arith, states-few .most, limits .short)) (s .words);
           }
 
 pub ruleset scan-laws = (needs, heading-refused, mask-room, masks-refused, state-room, recording-scanned)

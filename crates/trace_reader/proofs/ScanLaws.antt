@@ -48,37 +48,37 @@ unfolding seenMasks
 masks-end seen t = refl
 
 -- ---- the state lines
-module _ (C N : ℕ) (masks : List ℕ) (lines k prior : ℕ) (t : List ℕ) where
-  pub state-step : (s : ℕ) (rest : List ℕ) → stateLine C N masks k prior t ≡ read s rest → scanStates C N masks (suc lines) k prior t ≡ more s (scanStates C N masks lines (k + 1) s rest)
+module _ (C : ℕ) (masks : List ℕ) (lines k prior : ℕ) (t : List ℕ) where
+  pub state-step : (s : ℕ) (rest : List ℕ) → stateLine C masks k prior t ≡ read s rest → scanStates C masks (suc lines) k prior t ≡ more s (scanStates C masks lines (k + 1) s rest)
   unfolding scanStates onNext
   state-step s rest e = rw e
 
-  pub state-stop : (r : ℕ) → stateLine C N masks k prior t ≡ refused r → scanStates C N masks (suc lines) k prior t ≡ stop r t
+  pub state-stop : (r : ℕ) → stateLine C masks k prior t ≡ refused r → scanStates C masks (suc lines) k prior t ≡ stop r t
   unfolding scanStates onNext
   state-stop r e = rw e
 
-pub states-end : (C N : ℕ) (masks : List ℕ) (k prior n : ℕ) (t : List ℕ) → n ≡ pick (isEmpty t) accepted recordingLines → scanStates C N masks 0 k prior t ≡ stop n t
+pub states-end : (C : ℕ) (masks : List ℕ) (k prior n : ℕ) (t : List ℕ) → n ≡ pick (isEmpty t) accepted recordingLines → scanStates C masks 0 k prior t ≡ stop n t
 unfolding scanStates
-states-end C N masks k prior n t e = rw e
+states-end C masks k prior n t e = rw e
 
 -- only the masks of the controllers are read
-pub scan-own : (C N : ℕ) (masks : List ℕ) (lines k prior : ℕ) (t : List ℕ) → scanStates C N masks lines k prior t ≡ scanStates C N (take C masks) lines k prior t
+pub scan-own : (C : ℕ) (masks : List ℕ) (lines k prior : ℕ) (t : List ℕ) → scanStates C masks lines k prior t ≡ scanStates C (take C masks) lines k prior t
 unfolding scanStates
-scan-own C N masks zero k prior t = refl
-scan-own C N masks (suc lines) k prior t =
-    same-next (stateLine C N masks k prior t) (stateLine C N (take C masks) k prior t) _ _ _
-    (same-check recordingLines recordingForm stateForm (stateRefusal C N masks k prior) (stateRefusal C N (take C masks) k prior) t (state-own C N masks k prior))
-    (λ s rest. ap (more s) (scan-own C N masks lines (k + 1) s rest))
+scan-own C masks zero k prior t = refl
+scan-own C masks (suc lines) k prior t =
+    same-next (stateLine C masks k prior t) (stateLine C (take C masks) k prior t) _ _ _
+    (same-check recordingLines recordingForm stateForm (stateRefusal C masks k prior) (stateRefusal C (take C masks) k prior) t (state-own C masks k prior))
+    (λ s rest. ap (more s) (scan-own C masks lines (k + 1) s rest))
 
 -- ---- how many words, and which refusals
 mask-low : (earlier : List ℕ) (m : ℕ) → maskRefusal earlier m < noController
 unfolding maskRefusal
 mask-low earlier m = pick-low _ _ _ noController (omega arith) (omega arith)
 
-state-low : (C N : ℕ) (masks : List ℕ) (k prior s : ℕ) → stateRefusal C N masks k prior s < noController
+state-low : (C : ℕ) (masks : List ℕ) (k prior s : ℕ) → stateRefusal C masks k prior s < noController
 unfolding stateRefusal
-state-low C N masks k prior s =
-    pick-low _ _ _ noController (omega arith) (pick-low _ _ _ noController (omega arith) (pick-low _ _ _ noController (omega arith) (omega arith)))
+state-low C masks k prior s =
+    pick-low _ _ _ noController (omega arith) (pick-low _ _ _ noController (omega arith) (omega arith))
 
 heading-low : (C N : ℕ) → recordingHeadingRefusal C N < noController
 unfolding recordingHeadingRefusal
@@ -95,10 +95,10 @@ mask-line-low earlier t k e = record {
   some = next-some recordingLines recordingForm maskForm (maskRefusal earlier) t (omega arith) (omega arith) k e;
 }
 
-state-line-low : (C N : ℕ) (masks : List ℕ) (k prior : ℕ) (t : List ℕ) (n : ℕ) → stateLine C N masks k prior t ≡ refused n → Low n
-state-line-low C N masks k prior t n e = record {
-  low = next-number recordingLines recordingForm stateForm (stateRefusal C N masks k prior) t (λ n. n < noController) (omega arith) (omega arith) (λ s z. state-low C N masks k prior s) n e;
-  some = next-some recordingLines recordingForm stateForm (stateRefusal C N masks k prior) t (omega arith) (omega arith) n e;
+state-line-low : (C : ℕ) (masks : List ℕ) (k prior : ℕ) (t : List ℕ) (n : ℕ) → stateLine C masks k prior t ≡ refused n → Low n
+state-line-low C masks k prior t n e = record {
+  low = next-number recordingLines recordingForm stateForm (stateRefusal C masks k prior) t (λ n. n < noController) (omega arith) (omega arith) (λ s z. state-low C masks k prior s) n e;
+  some = next-some recordingLines recordingForm stateForm (stateRefusal C masks k prior) t (omega arith) (omega arith) n e;
 }
 
 heading-line-low : (t : List ℕ) (k : ℕ) → recordingHeadingLine t ≡ refused k → Low k
@@ -118,25 +118,25 @@ masks-counted (suc lines) earlier t =
     (λ k e. let l = mask-line-low earlier t k e in counted-stop (suc lines) k t (l .low) (l .some))
     (λ m rest e. counted-more lines m _ (masks-counted lines (m ∷ earlier) rest))
 
-pub states-counted : (C N : ℕ) (masks : List ℕ) (lines k prior : ℕ) (t : List ℕ) → Counted lines (scanStates C N masks lines k prior t)
+pub states-counted : (C : ℕ) (masks : List ℕ) (lines k prior : ℕ) (t : List ℕ) → Counted lines (scanStates C masks lines k prior t)
 unfolding scanStates
-states-counted C N masks zero k prior t = counted-end _ t (pick-low (isEmpty t) _ _ noController (omega arith) (omega arith))
-states-counted C N masks (suc lines) k prior t =
-    on-next (Counted (suc lines)) (stateLine C N masks k prior t) _ _
-    (λ n e. let l = state-line-low C N masks k prior t n e in counted-stop (suc lines) n t (l .low) (l .some))
-    (λ s rest e. counted-more lines s _ (states-counted C N masks lines (k + 1) s rest))
+states-counted C masks zero k prior t = counted-end _ t (pick-low (isEmpty t) _ _ noController (omega arith) (omega arith))
+states-counted C masks (suc lines) k prior t =
+    on-next (Counted (suc lines)) (stateLine C masks k prior t) _ _
+    (λ n e. let l = state-line-low C masks k prior t n e in counted-stop (suc lines) n t (l .low) (l .some))
+    (λ s rest e. counted-more lines s _ (states-counted C masks lines (k + 1) s rest))
 
 -- ---- an accepted text is read to its end
 abbrev Ends : ℕ → List ℕ → Type 0
 Ends number rest = number ≡ 0 → length rest ≡ 0
 
-states-ended : (C N : ℕ) (masks : List ℕ) (lines k prior : ℕ) (t : List ℕ) → Ends (scanStates C N masks lines k prior t .number) (scanStates C N masks lines k prior t .rest)
+states-ended : (C : ℕ) (masks : List ℕ) (lines k prior : ℕ) (t : List ℕ) → Ends (scanStates C masks lines k prior t .number) (scanStates C masks lines k prior t .rest)
 unfolding scanStates
-states-ended C N masks zero k prior t = λ e. eqb-true (length t) 0 (accept-yes (isEmpty t) recordingLines (omega arith) e)
-states-ended C N masks (suc lines) k prior t =
-    on-next (λ (s : Scan). Ends (s .number) (s .rest)) (stateLine C N masks k prior t) _ _
-    (λ n e q. absurd (state-line-low C N masks k prior t n e .some q))
-    (λ s rest e. states-ended C N masks lines (k + 1) s rest)
+states-ended C masks zero k prior t = λ e. eqb-true (length t) 0 (accept-yes (isEmpty t) recordingLines (omega arith) e)
+states-ended C masks (suc lines) k prior t =
+    on-next (λ (s : Scan). Ends (s .number) (s .rest)) (stateLine C masks k prior t) _ _
+    (λ n e q. absurd (state-line-low C masks k prior t n e .some q))
+    (λ s rest e. states-ended C masks lines (k + 1) s rest)
 
 -- a refusal below 11, and, accepted, nothing is left
 record Ended (r : RecordingScan) : Type 0 where
@@ -147,7 +147,7 @@ masks-ended : (C N : ℕ) (m : Scan) → m .number < noController → Ended (rec
 unfolding pick
 masks-ended C N m l =
     by-test (eqb (m .number) 0)
-    (λ z. rw z (record { low = states-counted C N (m .words) N 0 0 (m .rest) .low; all = states-ended C N (m .words) N 0 0 (m .rest) }))
+    (λ z. rw z (record { low = states-counted C (m .words) N 0 0 (m .rest) .low; all = states-ended C (m .words) N 0 0 (m .rest) }))
     (λ z. rw z (record { low = l; all = λ e. absurd (eqb-false (m .number) 0 z e) }))
 
 recording-ended : (t : List ℕ) → Ended (scanRecording t)

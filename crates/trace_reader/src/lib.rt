@@ -71,7 +71,7 @@ fn scan_states(
     states: &mut [u64],
 ) -> Stopped
     requires { ⌜ StateRoom controllers count start (now text) (now states) ⌝ }
-    ensures { λ r. ⌜ LinesScanned (scanStates controllers count (now (masks .entry)) count 0 0 (drop start (now (text .entry)))) (now (text .entry)) (now (states .entry)) r (now (states .exit)) ⌝ }
+    ensures { λ r. ⌜ LinesScanned (scanStates controllers (now (masks .entry)) count 0 0 (drop start (now (text .entry)))) (now (text .entry)) (now (states .entry)) r (now (states .exit)) ⌝ }
 {
     let mut at = start;
     let mut prior: u64 = 0;
@@ -79,7 +79,7 @@ fn scan_states(
     while k < count {
         let t = &text[at..];
         let line = first_line(t);
-        match next_state(controllers, count, masks, k, prior, t, line.len) {
+        match next_state(controllers, masks, k, prior, t, line.len) {
             StateRead::State(state) => {
                 states[k] = state;
                 prior = state;

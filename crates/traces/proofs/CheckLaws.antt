@@ -2,7 +2,7 @@
 use mathlib.Core.Path.{_≡_, refl, sym, _∙_}
 use Prim.Native.Nat.{ℕ, suc, _+_, _-_, _*_, _/_, _%_, _^_, _≤_, _<_, min}
 use native.Mathlib.Omega.{arith}
-use native.Mathlib.Decide.{ℕ-discrete, decLt}
+use native.Mathlib.Decide.{decLt}
 use native.Mathlib.Numerals.{add-one}
 use mathlib.Core.Bool.{Bool, true, false, not, _&&_, _||_}
 use mathlib.Core.List.{List, [], _∷_}
@@ -13,14 +13,14 @@ use lib.ListN.{length, take, drop, getD, drop-of-length-le, List·getD-eq-defaul
 use lib.Seq.{drop-cons, getD-take, take-nil}
 use borrow.Author.Needs.{needs}
 use borrow.Author.Tests.{ne-eqb, lt-ltb, le-ltb, leb-true, leb-false, lt-leb, le-leb}
-use Rattle.definitions.specs.Limits.{maxControllers, maxStates, recordingLimits, masksMeet, recordingLines, lastMark, outputRule, noController, accepted}
+use Rattle.definitions.specs.Limits.{maxControllers, maxStates, recordingLimits, masksMeet, recordingLines, outputRule, noController, accepted}
 use Rattle.definitions.specs.Bounded.{pick, bitOf, within, orElse}
 use Rattle.definitions.specs.Recordings.{Recording, stateOf, atomsOf, marksOf, marked, maskOf, outputBroken, stateRefusal, recordingHeadingRefusal, masksRefusal, statesRefusal, recordingLinesRefusal, recordingRefusal, controllerRefusal, recordingOf}
 use Rattle.theorems.proofs.Choice.{accept-yes, both-true, refuse-no}
 use Rattle.theorems.proofs.Recursions.{some-cong}
 use Rattle.traces.specs.Joining.{traceRefusal}
 use Rattle.traces.specs.Unions.{unionOf, unionRefusal, unionsRefusal}
-use Rattle.traces.specs.Turns.{stepRefusal, lastRefusal}
+use Rattle.traces.specs.Turns.{stepRefusal}
 use Rattle.traces.specs.Held.{heldGroup, heldAt, heldChanged}
 use Rattle.traces.proofs.MaskLaws.{masks-union}
 use Rattle.traces.proofs.HeldLaws.{held-broken}
@@ -149,65 +149,27 @@ limit-marks p s = go (decLt (marksOf s) p)
     go (yes h) = lt-leb p (marksOf s) h ∙ sym (lt-leb (stateOf p 0) s (omega arith))
     go (no h) = le-leb p (marksOf s) (omega arith) ∙ sym (le-leb (stateOf p 0) s (omega arith))
 
-pub last-is : (marks idle r : ℕ) (last : Bool) → idle ≡ pick (eqb marks 0) accepted lastMark → r ≡ pick last idle accepted → r ≡ lastRefusal last marks
-unfolding lastRefusal
-last-is marks idle r last p q = cc
+state-step : (C : ℕ) (masks : List ℕ) (k prior s : ℕ) →
+    stateRefusal C masks k prior s ≡ stepRefusal (stateOf (2 ^ C) 0) s (ltb 0 k && outputBroken C masks prior s)
+unfolding stateRefusal stepRefusal
+state-step C masks k prior s = rw (limit-marks (2 ^ C) s)
 
--- the number of the last state's marks comes after the others
-numbers-split : (limit broken last idle : Bool) →
-    pick limit recordingLimits (pick broken outputRule (pick (last && not idle) lastMark accepted))
-    ≡ orElse (pick limit recordingLimits (pick broken outputRule accepted)) (pick last (pick idle accepted lastMark) accepted)
-unfolding orElse pick
-numbers-split true broken last idle = refl
-numbers-split false true last idle = refl
-numbers-split false false true true = refl
-numbers-split false false true false = refl
-numbers-split false false false idle = refl
-
-state-split : (C N : ℕ) (masks : List ℕ) (k before s : ℕ) →
-    stateRefusal C N masks k before s
-    ≡ orElse (stepRefusal (stateOf (2 ^ C) 0) s (ltb 0 k && outputBroken C masks before s)) (lastRefusal (eqb (k + 1) N) (marksOf s))
-unfolding stateRefusal stepRefusal lastRefusal
-state-split C N masks k before s =
-    rw (limit-marks (2 ^ C) s)
-    (numbers-split (leb (stateOf (2 ^ C) 0) s) (ltb 0 k && outputBroken C masks before s) (eqb (k + 1) N) (eqb (marksOf s) 0))
-
-pub state-is : (C N : ℕ) (masks : List ℕ) (k before s marks limit step last r : ℕ) (broken : Bool) → marks ≡ marksOf s → limit ≡ stateOf (2 ^ C) 0 →
-    broken ≡ outputBroken C masks before s → step ≡ stepRefusal limit s (ltb 0 k && broken) → last ≡ lastRefusal (eqb (k + 1) N) marks →
-    r ≡ orElse step last → r ≡ stateRefusal C N masks k before s
-state-is C N masks k before s marks limit step last r broken m l b p q e = e ∙ (rw (p, q, b, m, l) (sym (state-split C N masks k before s)))
+pub state-is : (C : ℕ) (masks : List ℕ) (k prior s limit r : ℕ) (broken : Bool) → limit ≡ stateOf (2 ^ C) 0 → broken ≡ outputBroken C masks prior s →
+    r ≡ stepRefusal limit s (ltb 0 k && broken) → r ≡ stateRefusal C masks k prior s
+state-is C masks k prior s limit r broken l b e = e ∙ (rw (b, l) (sym (state-step C masks k prior s)))
 
 -- ---- states
--- what is left to check at state k, the marks of the state before it as the last among it, and the output rule by the atoms that it holds
-pub record StatesLeft (C N : ℕ) (masks states : List ℕ) (before held k : ℕ) : Type 0 where
+-- what is left to check at state k, and the output rule by the atoms that the prior state holds
+pub record StatesLeft (C N : ℕ) (masks states : List ℕ) (prior held k : ℕ) : Type 0 where
   pub within : k ≤ min N (length states)
-  pub left : statesRefusal C N masks 0 0 (take N states)
-      ≡ orElse (lastRefusal (eqb k N) (marksOf before)) (statesRefusal C N masks k before (take (N - k) (drop k states)))
-  pub rule : (s : ℕ) → heldChanged held before s ≡ (ltb 0 k && outputBroken C masks before s)
-
-last-idle : (last : Bool) → lastRefusal last 0 ≡ 0
-unfolding lastRefusal pick
-last-idle true = refl
-last-idle false = refl
-
-or-else-last : (r : ℕ) → orElse r 0 ≡ r
-or-else-last r = go (ℕ-discrete r 0)
-  where
-    go : Dec (r ≡ 0) → orElse r 0 ≡ r
-    go (yes e) = or-else-go r 0 e ∙ sym e
-    go (no e) = or-else-stop r 0 e
+  pub left : statesRefusal C masks 0 0 (take N states) ≡ statesRefusal C masks k prior (take (N - k) (drop k states))
+  pub rule : (s : ℕ) → heldChanged held prior s ≡ (ltb 0 k && outputBroken C masks prior s)
 
 pub states-start : (C N : ℕ) (masks states : List ℕ) → StatesLeft C N masks states 0 0 0
 unfolding heldChanged
-states-start C N masks states =
-    let z : N - 0 ≡ N = omega arith in
-    record {
-      within = omega arith;
-      left = sym (or-else-go (lastRefusal (eqb 0 N) 0) _ (last-idle (eqb 0 N)) ∙ rw z);
-      rule = λ s. refl;
-    }
+states-start C N masks states = let z : N - 0 ≡ N = omega arith in record { within = omega arith; left = rw z; rule = λ s. refl }
 
-module _ (C N : ℕ) (masks states : List ℕ) (before held k there : ℕ) (inv : StatesLeft C N masks states before held k) (t : there ≡ min N (length states)) where
+module _ (C N : ℕ) (masks states : List ℕ) (prior held k there : ℕ) (inv : StatesLeft C N masks states prior held k) (t : there ≡ min N (length states)) where
   -- no state is left
   none-left : there ≤ k → take (N - k) (drop k states) ≡ []
   none-left h = go (decLt k N)
@@ -216,27 +178,22 @@ module _ (C N : ℕ) (masks states : List ℕ) (before held k there : ℕ) (inv 
       go (yes l) = from-missing N states k (omega arith)
       go (no l) = from-end N states k (omega arith)
 
-  pub states-end : there ≤ k → (marks r : ℕ) → marks ≡ marksOf before → r ≡ lastRefusal (eqb there N) marks → r ≡ statesRefusal C N masks 0 0 (take N states)
+  pub states-end : there ≤ k → 0 ≡ statesRefusal C masks 0 0 (take N states)
   unfolding statesRefusal
-  states-end h marks r m e =
-      let z : k ≡ there = omega (arith, inv .within) in
-      let all : statesRefusal C N masks 0 0 (take N states) ≡ lastRefusal (eqb there N) marks =
-      inv .left ∙ (rw (none-left h, or-else-last) (rw (z, m))) in
-      e ∙ sym all
+  states-end h = sym (inv .left ∙ rw (none-left h))
 
   module _ (h : k < there) (limit r : ℕ) (changed : Bool) (l : limit ≡ stateOf (2 ^ C) 0)
-      (d : changed ≡ heldChanged held before (getD states k 0)) (e : r ≡ stepRefusal limit (getD states k 0) changed) where
-    one-left : statesRefusal C N masks 0 0 (take N states)
-        ≡ orElse (orElse r (lastRefusal (eqb (k + 1) N) (marksOf (getD states k 0)))) (statesRefusal C N masks (k + 1) (getD states k 0) (take (N - (k + 1)) (drop (k + 1) states)))
-    unfolding statesRefusal lastRefusal pick
+      (d : changed ≡ heldChanged held prior (getD states k 0)) (e : r ≡ stepRefusal limit (getD states k 0) changed) where
+    one-left : statesRefusal C masks 0 0 (take N states)
+        ≡ orElse r (statesRefusal C masks (k + 1) (getD states k 0) (take (N - (k + 1)) (drop (k + 1) states)))
+    unfolding statesRefusal
     one-left =
-        let f : eqb k N ≡ false = ne-eqb k N (λ q. omega arith) in
-        let g : r ≡ stepRefusal (stateOf (2 ^ C) 0) (getD states k 0) (ltb 0 k && outputBroken C masks before (getD states k 0)) =
+        let g : r ≡ stepRefusal (stateOf (2 ^ C) 0) (getD states k 0) (ltb 0 k && outputBroken C masks prior (getD states k 0)) =
         e ∙ rw (d, inv .rule (getD states k 0), l) in
-        inv .left ∙ rw (f, or-else-go 0 _ refl, from-next N states k (omega arith) (omega arith), state-split C N masks k before (getD states k 0), ← g)
+        inv .left ∙ rw (from-next N states k (omega arith) (omega arith), state-step C masks k prior (getD states k 0), ← g)
 
-    pub states-refused : (r ≡ 0 → ⊥) → r ≡ statesRefusal C N masks 0 0 (take N states)
-    states-refused z = sym (one-left ∙ rw (or-else-stop r _ z, or-else-stop r _ z))
+    pub states-refused : (r ≡ 0 → ⊥) → r ≡ statesRefusal C masks 0 0 (take N states)
+    states-refused z = sym (one-left ∙ rw (or-else-stop r _ z))
 
     pub states-next : r ≡ 0 → C ≤ maxControllers → (low high : List ℕ) → low ≡ heldGroup (take C masks) 0 → high ≡ heldGroup (take C masks) 4 →
         (marks held′ : ℕ) → marks ≡ marksOf (getD states k 0) → held′ ≡ heldAt low high marks → StatesLeft C N masks states (getD states k 0) held′ (k + 1)
@@ -248,21 +205,20 @@ module _ (C N : ℕ) (masks states : List ℕ) (before held k there : ℕ) (inv 
         }
 
 -- ---- the output rule depends on the masks of the controllers only
-output-own : (C : ℕ) (masks : List ℕ) (before s : ℕ) → outputBroken C masks before s ≡ outputBroken C (take C masks) before s
-output-own C masks before s =
+output-own : (C : ℕ) (masks : List ℕ) (prior s : ℕ) → outputBroken C masks prior s ≡ outputBroken C (take C masks) prior s
+output-own C masks prior s =
     some-cong
-    (λ (c : ℕ). not (marked c before) && not (eqb (bitAnd (atomsOf before) (getD masks c 0)) (bitAnd (atomsOf s) (getD masks c 0))))
-    (λ (c : ℕ). not (marked c before) && not (eqb (bitAnd (atomsOf before) (getD (take C masks) c 0)) (bitAnd (atomsOf s) (getD (take C masks) c 0))))
+    (λ (c : ℕ). not (marked c prior) && not (eqb (bitAnd (atomsOf prior) (getD masks c 0)) (bitAnd (atomsOf s) (getD masks c 0))))
+    (λ (c : ℕ). not (marked c prior) && not (eqb (bitAnd (atomsOf prior) (getD (take C masks) c 0)) (bitAnd (atomsOf s) (getD (take C masks) c 0))))
     (C - 0) 0 (λ c a b. rw (getD-take C masks c 0 (omega arith)))
 
-pub state-own : (C N : ℕ) (masks : List ℕ) (k before s : ℕ) → stateRefusal C N masks k before s ≡ stateRefusal C N (take C masks) k before s
-state-own C N masks k before s =
-    cc (state-split C N masks k before s, state-split C N (take C masks) k before s, output-own C masks before s)
+pub state-own : (C : ℕ) (masks : List ℕ) (k prior s : ℕ) → stateRefusal C masks k prior s ≡ stateRefusal C (take C masks) k prior s
+state-own C masks k prior s = cc (state-step C masks k prior s, state-step C (take C masks) k prior s, output-own C masks prior s)
 
-pub states-own : (C N : ℕ) (masks : List ℕ) (k before : ℕ) (ss : List ℕ) → statesRefusal C N masks k before ss ≡ statesRefusal C N (take C masks) k before ss
+pub states-own : (C : ℕ) (masks : List ℕ) (k prior : ℕ) (ss : List ℕ) → statesRefusal C masks k prior ss ≡ statesRefusal C (take C masks) k prior ss
 unfolding statesRefusal
-states-own C N masks k before [] = refl
-states-own C N masks k before (s ∷ ss) = rw (state-own C N masks k before s, states-own C N masks (k + 1) s ss)
+states-own C masks k prior [] = refl
+states-own C masks k prior (s ∷ ss) = rw (state-own C masks k prior s, states-own C masks (k + 1) s ss)
 
 -- ---- the whole recording
 module _ (C N : ℕ) (masks states : List ℕ) where
@@ -278,11 +234,11 @@ module _ (C N : ℕ) (masks states : List ℕ) where
   recording-heading heading e z = rw (← e) (sym (or-else-stop heading _ z))
 
   pub recording-is : (heading meeting refusal lines other r : ℕ) → heading ≡ recordingHeadingRefusal C N → heading ≡ 0 →
-      meeting ≡ masksRefusal [] (take C masks) → refusal ≡ statesRefusal C N masks 0 0 (take N states) →
+      meeting ≡ masksRefusal [] (take C masks) → refusal ≡ statesRefusal C masks 0 0 (take N states) →
       lines ≡ recordingLinesRefusal recorded → other ≡ orElse refusal lines → r ≡ orElse meeting other → r ≡ recordingRefusal recorded
   unfolding recordingRefusal
   recording-is heading meeting refusal lines other r e z m s l o f =
-      let t : refusal ≡ statesRefusal C N (take C masks) 0 0 (take N states) = s ∙ states-own C N masks 0 0 (take N states) in
+      let t : refusal ≡ statesRefusal C (take C masks) 0 0 (take N states) = s ∙ states-own C masks 0 0 (take N states) in
       sym (rw (← e, or-else-go heading _ z, ← m, ← t, ← l, ← o, ← f))
 
 -- ---- a controller of the recording
@@ -298,7 +254,7 @@ pub ruleset mask-laws = (masks-start, masks-missing, masks-end, masks-refused, m
 
 pub ruleset output-laws = (mask-none, marked-is)
 
-pub ruleset state-laws = (needs, limit-is, step-is, last-is, state-is, states-start, states-end, states-refused, states-next)
+pub ruleset state-laws = (needs, limit-is, step-is, state-is, states-start, states-end, states-refused, states-next)
 
 pub ruleset recording-laws = (lines-is, joining-is, recording-heading)
 

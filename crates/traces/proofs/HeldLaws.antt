@@ -109,20 +109,20 @@ touched-from (suc n) c held masks marks d =
     ∙ or-group (touched held d) (g c) (someOf n (suc c) g))
 
 -- the output rule, read by the atoms that differ
-broken-touched : (C : ℕ) (masks : List ℕ) (before s : ℕ) →
-    outputBroken C masks before s ≡ someOf C 0 (λ (j : ℕ). not (marked j before) && touched (getD masks j 0) (bitXor (atomsOf before) (atomsOf s)))
-broken-touched C masks before s =
+broken-touched : (C : ℕ) (masks : List ℕ) (prior s : ℕ) →
+    outputBroken C masks prior s ≡ someOf C 0 (λ (j : ℕ). not (marked j prior) && touched (getD masks j 0) (bitXor (atomsOf prior) (atomsOf s)))
+broken-touched C masks prior s =
     let z : C - 0 ≡ C = omega arith in
     rw z
     (some-cong
-    (λ (j : ℕ). not (marked j before) && not (eqb (bitAnd (atomsOf before) (getD masks j 0)) (bitAnd (atomsOf s) (getD masks j 0))))
-    (λ (j : ℕ). not (marked j before) && touched (getD masks j 0) (bitXor (atomsOf before) (atomsOf s)))
-    C 0 (λ j a b. ap (λ (z : Bool). not (marked j before) && z) (own-touched (atomsOf before) (atomsOf s) (getD masks j 0))))
+    (λ (j : ℕ). not (marked j prior) && not (eqb (bitAnd (atomsOf prior) (getD masks j 0)) (bitAnd (atomsOf s) (getD masks j 0))))
+    (λ (j : ℕ). not (marked j prior) && touched (getD masks j 0) (bitXor (atomsOf prior) (atomsOf s)))
+    C 0 (λ j a b. ap (λ (z : Bool). not (marked j prior) && z) (own-touched (atomsOf prior) (atomsOf s) (getD masks j 0))))
 
 -- ---- the tables
-pub changed-is : (held before s a b : ℕ) → a ≡ atomsOf before → b ≡ atomsOf s → not (eqb (bitAnd held (bitXor a b)) 0) ≡ heldChanged held before s
+pub changed-is : (held prior s a b : ℕ) → a ≡ atomsOf prior → b ≡ atomsOf s → not (eqb (bitAnd held (bitXor a b)) 0) ≡ heldChanged held prior s
 unfolding heldChanged
-changed-is held before s a b p q = rw (p, q)
+changed-is held prior s a b p q = rw (p, q)
 
 pub table-is : (a b c d : ℕ) →
     (bitOr (bitOr (bitOr a b) c) d ∷ bitOr (bitOr b c) d ∷ bitOr (bitOr a c) d ∷ bitOr c d ∷ bitOr (bitOr a b) d ∷ bitOr b d ∷ bitOr a d ∷ d
@@ -189,12 +189,12 @@ some-more f zero (suc m) c h none = rw (none c (omega arith)) (some-more f zero 
 some-more f (suc n) zero c h none = absurd (omega arith)
 some-more f (suc n) (suc m) c h none = ap (λ (z : Bool). f c || z) (some-more f n m (suc c) (omega arith) (λ j k. none j (omega arith)))
 
-module _ (C : ℕ) (masks : List ℕ) (before s : ℕ) (few : C ≤ maxControllers) where
+module _ (C : ℕ) (masks : List ℕ) (prior s : ℕ) (few : C ≤ maxControllers) where
   abbrev marks : ℕ
-  marks = marksOf before
+  marks = marksOf prior
 
   abbrev differing : ℕ
-  differing = bitXor (atomsOf before) (atomsOf s)
+  differing = bitXor (atomsOf prior) (atomsOf s)
 
   abbrev own : List ℕ
   own = take C masks
@@ -203,9 +203,9 @@ module _ (C : ℕ) (masks : List ℕ) (before s : ℕ) (few : C ≤ maxControlle
   abbrev broke : ℕ → Bool
   broke j = not (bitOf marks j) && touched (getD own j 0) differing
 
-  broken-eight : outputBroken C masks before s ≡ someOf 8 0 broke
+  broken-eight : outputBroken C masks prior s ≡ someOf 8 0 broke
   broken-eight =
-      broken-touched C masks before s
+      broken-touched C masks prior s
       ∙ (some-cong (λ (j : ℕ). not (bitOf marks j) && touched (getD masks j 0) differing) broke C 0 (λ j a b. rw (getD-take C masks j 0 (omega arith)))
       ∙ some-more broke C 8 0 few (λ j h. rw (← own-past C masks j (omega arith)) (and-none (not (bitOf marks j)))))
 
@@ -225,20 +225,20 @@ module _ (C : ℕ) (masks : List ℕ) (before s : ℕ) (few : C ≤ maxControlle
       (touched-from 4 0 0 (getD own 4 0 ∷ getD own 5 0 ∷ getD own 6 0 ∷ getD own 7 0 ∷ []) (marks / 16 % 16) differing
       ∙ rw (bits .0, bits .1, bits .2, bits .3, bit-shr 0 4 marks, bit-shr 1 4 marks, bit-shr 2 4 marks, bit-shr 3 4 marks))
 
-  tables-broken : heldChanged (heldAt (heldGroup own 0) (heldGroup own 4) marks) before s ≡ outputBroken C masks before s
+  tables-broken : heldChanged (heldAt (heldGroup own 0) (heldGroup own 4) marks) prior s ≡ outputBroken C masks prior s
   unfolding heldAt heldChanged
   tables-broken =
       touched-or (getD (heldGroup own 0) (marks % 16) 0) (getD (heldGroup own 4) (marks / 16 % 16) 0) differing
       ∙ (rw (low-four, high-four) (simp or-group) ∙ sym broken-eight)
 
 -- the atoms that a state holds, of the tables of its recording
-pub held-broken : (C : ℕ) (masks : List ℕ) (before s : ℕ) → C ≤ maxControllers → (low high : List ℕ) → low ≡ heldGroup (take C masks) 0 → high ≡ heldGroup (take C masks) 4 →
-    (marks held : ℕ) → marks ≡ marksOf before → held ≡ heldAt low high marks → heldChanged held before s ≡ outputBroken C masks before s
-held-broken C masks before s few low high l h marks held m e = rw (e, l, h, m) (tables-broken C masks before s few)
+pub held-broken : (C : ℕ) (masks : List ℕ) (prior s : ℕ) → C ≤ maxControllers → (low high : List ℕ) → low ≡ heldGroup (take C masks) 0 → high ≡ heldGroup (take C masks) 4 →
+    (marks held : ℕ) → marks ≡ marksOf prior → held ≡ heldAt low high marks → heldChanged held prior s ≡ outputBroken C masks prior s
+held-broken C masks prior s few low high l h marks held m e = rw (e, l, h, m) (tables-broken C masks prior s few)
 
-pub broken-is : (C : ℕ) (masks : List ℕ) (before s : ℕ) → C ≤ maxControllers → (low high : List ℕ) → low ≡ heldGroup (take C masks) 0 → high ≡ heldGroup (take C masks) 4 →
-    (marks held : ℕ) → marks ≡ marksOf before → held ≡ heldAt low high marks → (r : Bool) → r ≡ heldChanged held before s → r ≡ outputBroken C masks before s
-broken-is C masks before s few low high l h marks held m e r d = d ∙ held-broken C masks before s few low high l h marks held m e
+pub broken-is : (C : ℕ) (masks : List ℕ) (prior s : ℕ) → C ≤ maxControllers → (low high : List ℕ) → low ≡ heldGroup (take C masks) 0 → high ≡ heldGroup (take C masks) 4 →
+    (marks held : ℕ) → marks ≡ marksOf prior → held ≡ heldAt low high marks → (r : Bool) → r ≡ heldChanged held prior s → r ≡ outputBroken C masks prior s
+broken-is C masks prior s few low high l h marks held m e r d = d ∙ held-broken C masks prior s few low high l h marks held m e
 
 pub at-is : (low high : List ℕ) (marks : ℕ) → bitOr (getD low (marks % 16) 0) (getD high (marks / 16 % 16) 0) ≡ heldAt low high marks
 unfolding heldAt

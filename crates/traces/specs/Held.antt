@@ -40,4 +40,4 @@ heldAt low high marks = bitOr (getD low (marks % 16) 0) (getD high (marks / 16 %
 
 -- a held atom differs in two states
 unfoldable pub heldChanged : ℕ → ℕ → ℕ → Bool
-heldChanged held before s = not (eqb (bitAnd held (bitXor (atomsOf before) (atomsOf s))) 0)
+heldChanged held prior s = not (eqb (bitAnd held (bitXor (atomsOf prior) (atomsOf s))) 0)

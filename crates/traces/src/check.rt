@@ -5,7 +5,7 @@ ghost use lib.ListN.{take};
 ghost use Rattle.definitions.specs.Limits.{maxControllers};
 ghost use Rattle.definitions.specs.Recordings.{stateOf, stateRefusal, recordingHeadingRefusal, statesRefusal, recordingLinesRefusal, recordingRefusal, recordingOf};
 ghost use Rattle.traces.specs.Joining.{traceRefusal};
-ghost use Rattle.traces.specs.Turns.{InTurn, stepRefusal, lastRefusal};
+ghost use Rattle.traces.specs.Turns.{stepRefusal};
 use super::held::held_at;
 use super::held::held_changed;
 use super::held::held_group;
@@ -44,7 +44,7 @@ fn state_limit(controllers: usize) -> u64
     ATOM_WORDS << controllers
 }
 
-// What any state is refused for.
+// What a state is refused for.
 fn step_refusal(limit: u64, state: u64, broken: bool) -> u8
     ensures { λ r. ⌜ r ≡ stepRefusal limit state broken ⌝ }
 {
@@ -52,53 +52,36 @@ fn step_refusal(limit: u64, state: u64, broken: bool) -> u8
     pick(limit <= state, Refusal::RECORDING_LIMITS, output)
 }
 
-// What only the last state is refused for.
-fn last_refusal(last: bool, marks: u64) -> u8
-    ensures { λ r. ⌜ r ≡ lastRefusal last marks ⌝ }
+// State k against the prior state.
+pub fn state_refusal(controllers: usize, masks: &[u32], k: usize, prior: u64, state: u64) -> u8
+    requires { ⌜ controllers ≤ maxControllers ⌝ }
+    ensures { λ r. ⌜ r ≡ stateRefusal controllers (now (masks .entry)) k prior state ⌝ }
 {
-    let idle = pick(marks == 0, Refusal::NONE, Refusal::LAST_MARK);
-    pick(last, idle, Refusal::NONE)
+    let broken = (0 < k) & output_broken(controllers, masks, prior, state);
+    step_refusal(state_limit(controllers), state, broken)
 }
 
-// State k against the state before it.
-pub fn state_refusal(
-    controllers: usize,
-    count: usize,
-    masks: &[u32],
-    k: usize,
-    before: u64,
-    state: u64,
-) -> u8
-    requires { ⌜ InTurn controllers count k ⌝ }
-    ensures { λ r. ⌜ r ≡ stateRefusal controllers count (now (masks .entry)) k before state ⌝ }
-{
-    let broken = (0 < k) & output_broken(controllers, masks, before, state);
-    let step = step_refusal(state_limit(controllers), state, broken);
-    let last = last_refusal(k + 1 == count, marks_of(state));
-    or_else(step, last)
-}
-
-// The states that are there, in order. `held` are the atoms that the state before holds, none before the first.
+// The states that are there, in order. `held` are the atoms that the prior state holds, none before the first.
 pub fn states_refusal(controllers: usize, count: usize, masks: &[u32], states: &[u64]) -> u8
     requires { ⌜ controllers ≤ maxControllers ⌝ }
-    ensures { λ r. ⌜ r ≡ statesRefusal controllers count (now (masks .entry)) 0 0 (take count (now (states .entry))) ⌝ }
+    ensures { λ r. ⌜ r ≡ statesRefusal controllers (now (masks .entry)) 0 0 (take count (now (states .entry))) ⌝ }
 {
     let low = held_group(controllers, masks, 0);
     let high = held_group(controllers, masks, 4);
     let limit = state_limit(controllers);
     let there = least(count, states.len());
-    let mut before: u64 = 0;
+    let mut prior: u64 = 0;
     let mut held: u32 = 0;
     for k in 0..there {
         let state = states[k];
-        let refusal = step_refusal(limit, state, held_changed(held, before, state));
+        let refusal = step_refusal(limit, state, held_changed(held, prior, state));
         if refusal != Refusal::NONE {
             return refusal;
         }
         held = held_at(&low, &high, marks_of(state));
-        before = state;
+        prior = state;
     }
-    last_refusal(there == count, marks_of(before))
+    Refusal::NONE
 }
 
 // Fewer masks or states than the heading says.

@@ -64,17 +64,17 @@ pub fn held_at(low: &[u32], high: &[u32], marks: u64) -> u32
     low[(marks % 16) as usize] | high[(marks / 16 % 16) as usize]
 }
 
-pub fn held_changed(held: u32, before: u64, state: u64) -> bool
-    ensures { λ r. ⌜ r ≡ heldChanged held before state ⌝ }
+pub fn held_changed(held: u32, prior: u64, state: u64) -> bool
+    ensures { λ r. ⌜ r ≡ heldChanged held prior state ⌝ }
 {
-    held & (atoms_of(before) ^ atoms_of(state)) != 0
+    held & (atoms_of(prior) ^ atoms_of(state)) != 0
 }
 
-pub fn output_broken(controllers: usize, masks: &[u32], before: u64, state: u64) -> bool
+pub fn output_broken(controllers: usize, masks: &[u32], prior: u64, state: u64) -> bool
     requires { ⌜ controllers ≤ maxControllers ⌝ }
-    ensures { λ r. ⌜ r ≡ outputBroken controllers (now (masks .entry)) before state ⌝ }
+    ensures { λ r. ⌜ r ≡ outputBroken controllers (now (masks .entry)) prior state ⌝ }
 {
     let low = held_group(controllers, masks, 0);
     let high = held_group(controllers, masks, 4);
-    held_changed(held_at(&low, &high, marks_of(before)), before, state)
+    held_changed(held_at(&low, &high, marks_of(prior)), prior, state)
 }

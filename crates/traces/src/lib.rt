@@ -1,4 +1,4 @@
-// Recordings (global traces): their check, and one state against the state before it.
+// Recordings (global traces): their check, and one state against the prior one.
 pub mod check;
 pub mod held;
 pub mod masks;

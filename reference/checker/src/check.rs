@@ -7,6 +7,7 @@ use reference::model::refusal::{BRACKETS_DEEP, LENT_SPACE};
 use crate::difference::Difference;
 use crate::expected;
 use crate::input::{Input, GUARD};
+use crate::last_state::LastState;
 use crate::library;
 use crate::misread::{self, Misreading};
 use crate::outcome::Outcome;
@@ -72,6 +73,9 @@ impl<'a> Check<'a> {
         if refused && operation == Operation::ReadJoint && self.wrong(operation, Place::Line) {
             expected.values[5] += 1;
         }
+        if let Some(last) = LastState::marked(input, expected) {
+            self.alter_last(&last, input, expected);
+        }
         for (number, slice) in input.slices().iter().enumerate() {
             let length = slice.lent.length;
             let place = self.altered_entry(operation, expected, number, slice.full, length);
@@ -90,6 +94,23 @@ impl<'a> Check<'a> {
         if let Some(misread) = misread.filter(|_| self.wrong(operation, Place::Misread(misreading)))
         {
             *expected = misread;
+        }
+    }
+
+    /// Alters what is expected of run marks in the last state.
+    fn alter_last(&self, last: &LastState, input: &Input, expected: &mut Outcome) {
+        let operation = input.operation();
+        if let Some(place) = last.run_place(input) {
+            if self.wrong(operation, Place::LastRun) {
+                place.count(expected);
+            }
+        }
+        if operation == Operation::ReadRecording && self.wrong(operation, Place::Cleared) {
+            last.clear(expected);
+        }
+        if self.wrong(operation, Place::Nine) {
+            expected.number = 9;
+            expected.values.fill(0);
         }
     }
 

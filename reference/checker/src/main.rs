@@ -12,6 +12,7 @@ mod difference;
 mod endings;
 mod expected;
 mod input;
+mod last_state;
 mod lent;
 mod library;
 mod lines;

@@ -11,6 +11,7 @@ use reference::generate::endings::{any_endings, with_returns};
 use reference::generate::lines;
 use reference::generate::random::Random;
 use reference::generate::texts::{self, program_input, recording_text, rule_text};
+use reference::generate::traces::RecordingTable;
 use reference::generate::{formulas, traces};
 use reference::model::limits::{CONTROLLERS, PROGRAM_INPUT, RULE_NODES, STATES};
 use reference::model::{program, program_says, rule_program};
@@ -21,7 +22,7 @@ use crate::misread;
 use crate::outcome::first_difference;
 use crate::plan::Plan;
 use crate::tally::{Operation, Section};
-use crate::trials::{example_rule, recording_r};
+use crate::trials::{example_rule, marked_r, recording_r};
 use crate::work::Job;
 use crate::wrong::Place;
 
@@ -281,6 +282,25 @@ fn partings() -> Vec<Vec<u8>> {
     lists.iter().flat_map(around).collect()
 }
 
+/// The example with marks in its last state, which prints what it printed, and
+/// its beginnings.
+fn mid_step(check: &mut Check) -> Result<(), Difference> {
+    let beginning = |length: usize| {
+        let whole = recording_r();
+        RecordingTable { length, states: whole.states[..length].to_vec(), ..whole }
+    };
+    let trials = [(marked_r(), 3)].into_iter();
+    let trials = trials.chain((1..).zip([1, 2, 2, 3]).map(|(k, places)| (beginning(k), places)));
+    for (recording, places) in trials {
+        let input = program_input(&rule_text(&example_rule()), &recording_text(&recording));
+        let output = format!("local {places}\nown yes no\nplain 55 yes no\nshort 43 yes no\n");
+        let output = output.replace(' ', "\t").into_bytes();
+        let expected = Expected { output, errors: Vec::new() };
+        require(check, JUDGE, &input, &expected, &[])?;
+    }
+    Ok(())
+}
+
 /// Inputs at the edges: without parting line, with an unclosed one, at the
 /// limit of its size and far beyond.
 fn edges() -> Vec<Vec<u8>> {
@@ -402,7 +422,7 @@ fn random_typed(check: &mut Check, plan: &Plan, number: usize) -> Result<(), Dif
 
 /// All runs of the programs.
 pub fn jobs(plan: &Plan) -> Vec<Job<'_>> {
-    let mut jobs: Vec<Job> = vec![Box::new(typed_example)];
+    let mut jobs: Vec<Job> = vec![Box::new(mid_step), Box::new(typed_example)];
     let [endings, typed] = [ending_edges(), typed_edges()];
     let lists = [(JUDGE, endings), (RULE, typed), (JUDGE, partings()), (JUDGE, edges())];
     for (program, inputs) in &lists {

@@ -1,6 +1,7 @@
 //! Random inputs up to every limit: texts, rules of up to 64 nodes, recordings
 //! of up to 128 states and 8 controllers, judge's tables of up to 1,024 nodes,
-//! valid and damaged, and other schedules of the same local trace.
+//! valid and damaged, other schedules of the same local trace, and beginnings
+//! of recordings.
 
 use reference::generate::formulas::{self, RuleTable};
 use reference::generate::lines;
@@ -138,6 +139,29 @@ fn schedules(check: &mut Check, random: &mut Random) -> Result<(), Difference> {
     Ok(())
 }
 
+/// A beginning of an accepted recording, "of one state or more and with N
+/// lowered, is then accepted itself": as tables, with the other states still
+/// there, and as text.
+fn beginnings(check: &mut Check, random: &mut Random) -> Result<(), Difference> {
+    let whole = traces::recording(random, CONTROLLERS, STATES);
+    let controller = random.below(whole.controllers);
+    let length = random.between(1, whole.length);
+    let lowered = RecordingTable { length, ..whole.clone() };
+    let cut = RecordingTable { length, states: whole.states[..length].to_vec(), ..whole };
+    let table = Input::project(lowered, controller);
+    let text = Input::read_recording(texts::recording_text(&cut));
+    for input in [table, text] {
+        let found = check.compare(&input)?.number;
+        let wrong = check.wrong(Operation::Beginnings, Place::Number);
+        check.count(Operation::Beginnings, 1, 0);
+        if found != u8::from(wrong) {
+            let place = format!("a beginning of an accepted recording: {found}");
+            return Err(Difference::new(place, input.to_string()));
+        }
+    }
+    Ok(())
+}
+
 /// One batch of inputs of all operations.
 fn batch(check: &mut Check, plan: &Plan, number: usize) -> Result<(), Difference> {
     let mut random = plan.random(Section::Random, number);
@@ -150,6 +174,7 @@ fn batch(check: &mut Check, plan: &Plan, number: usize) -> Result<(), Difference
     }
     for _ in 0..4 {
         schedules(check, &mut random)?;
+        beginnings(check, &mut random)?;
     }
     Ok(())
 }

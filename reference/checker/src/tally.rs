@@ -82,6 +82,8 @@ pub enum Operation {
     Endings,
     /// Recordings of one local trace give one verdict (demand 3).
     Schedules,
+    /// A beginning of an accepted recording is accepted.
+    Beginnings,
     /// The program.
     Program,
     /// The program `rule`.
@@ -119,6 +121,7 @@ impl Operation {
             Operation::RoundTrip => "round_trip",
             Operation::Endings => "endings",
             Operation::Schedules => "schedules",
+            Operation::Beginnings => "beginnings",
             Operation::Program => "judge",
             Operation::RuleProgram => "rule",
         }
@@ -145,20 +148,20 @@ pub struct Tally {
     numbers: BTreeMap<Operation, [u64; NUMBERS]>,
 }
 
-/// The numbers that each operation can answer; 12 is never met, since an
-/// accepted rule's table has at most 723 nodes.
+/// The numbers that each operation can answer; 9 is no longer given, and 12 is
+/// never met, since an accepted rule's table has at most 723 nodes.
 const ANSWERABLE: &[(Operation, &[usize])] = &[
     (Operation::ReadRule, &[0, 1, 2, 3, 4, 13]),
     (Operation::ReadLine, &[0, 2, 13, 15, 16]),
     (Operation::WriteRule, &[0, 2, 3, 4, 13]),
-    (Operation::ReadRecording, &[0, 5, 6, 7, 8, 9, 10, 13]),
-    (Operation::ReadJoint, &[0, 1, 2, 3, 4, 5, 6, 7, 8, 9, 10, 11, 13]),
-    (Operation::Project, &[0, 6, 7, 8, 9, 10, 11, 13]),
-    (Operation::JudgeLocal, &[0, 2, 3, 4, 6, 7, 8, 9, 10, 11]),
+    (Operation::ReadRecording, &[0, 5, 6, 7, 8, 10, 13]),
+    (Operation::ReadJoint, &[0, 1, 2, 3, 4, 5, 6, 7, 8, 10, 11, 13]),
+    (Operation::Project, &[0, 6, 7, 8, 10, 11, 13]),
+    (Operation::JudgeLocal, &[0, 2, 3, 4, 6, 7, 8, 10, 11]),
     (Operation::RewritePlain, &[0, 2, 3, 4, 13]),
     (Operation::RewriteShort, &[0, 2, 3, 4, 13]),
-    (Operation::JudgeRecording, &[0, 2, 3, 4, 6, 7, 8, 9, 10, 11, 13]),
-    (Operation::Program, &[0, 1, 2, 3, 4, 5, 6, 7, 8, 9, 10, 11, 14]),
+    (Operation::JudgeRecording, &[0, 2, 3, 4, 6, 7, 8, 10, 11, 13]),
+    (Operation::Program, &[0, 1, 2, 3, 4, 5, 6, 7, 8, 10, 11, 14]),
     (Operation::RuleProgram, &[0, 1, 2, 14, 15, 16]),
 ];
 

@@ -5,7 +5,7 @@ use reference::generate::endings::with_returns;
 use reference::generate::formulas::{JudgeTable, RuleTable};
 use reference::generate::texts::{recording_text, rule_text};
 use reference::generate::traces::RecordingTable;
-use reference::model::formula::{Node, ATOM, NEXT, NOT, OR, PREV, SINCE, TRUE, UNTIL};
+use reference::model::formula::{Node, ATOM, END, NEXT, NOT, OR, PREV, RUN, SINCE, TRUE, UNTIL};
 
 use crate::check::Check;
 use crate::difference::Difference;
@@ -333,6 +333,41 @@ fn traps(check: &mut Check) -> Result<(), Difference> {
     verdict(check, &rule(&[atom[0], (NEXT, 0, 0)]), &never_runs(&[1, 1, 1]), [1, 0])
 }
 
+/// The example's recording with both marks put into its last state.
+pub fn marked_r() -> RecordingTable {
+    let mut recording = recording_r();
+    recording.states[4] |= 3 << 32;
+    recording
+}
+
+/// Document 02, recordings that stop in mid step: a mark in the last state is
+/// no run, by projection, by end and by run; 6 at C or above; the state as read
+/// still holds it; and each beginning of the example is accepted.
+fn mid_step(check: &mut Check) -> Result<(), Difference> {
+    let marked = never_runs(&[1 << 32]);
+    named(check, Input::project(marked.clone(), 0), 0, &[1])?;
+    named(check, Input::project(never_runs(&[2 << 32]), 0), 6, &[])?;
+    verdict(check, &rule(&[(ATOM, 1, 0)]), &marked, [1, 0])?;
+    let nodes = rule(&[(RUN, 0, 0), (END, 0, 0)]).nodes;
+    let table = JudgeTable { count: 2, nodes, weak_top: 0, strong_top: 1 };
+    named(check, Input::judge_recording(table, marked.clone(), 0), 0, &[0, 1])?;
+    let text = Input::read_recording(recording_text(&marked));
+    named(check, text.clone(), 0, &[1, 1])?;
+    if check.compare(&text)?.slice(1)[0] != 1 << 32 {
+        let place = "the trial: the state as read still holds the mark".to_string();
+        return Err(Difference::new(place, text.to_string()));
+    }
+    let next = [(ATOM, 0, 0), (NEXT, 0, 0), (NEXT, 1, 0), (NEXT, 2, 0)];
+    verdict(check, &rule(&next), &marked_r(), [1, 0])?;
+    verdict(check, &example_rule(), &marked_r(), [1, 0])?;
+    for (length, places) in (1..).zip([1, 2, 2, 3, 3]) {
+        let lowered = RecordingTable { length, ..recording_r() };
+        named(check, Input::project(lowered.clone(), 0), 0, &[places])?;
+        verdict(check, &example_rule(), &lowered, [1, 0])?;
+    }
+    Ok(())
+}
+
 /// All trials.
 pub fn jobs<'a>() -> Vec<Job<'a>> {
     vec![
@@ -347,5 +382,6 @@ pub fn jobs<'a>() -> Vec<Job<'a>> {
         Box::new(recording_endings),
         Box::new(one_line),
         Box::new(traps),
+        Box::new(mid_step),
     ]
 }

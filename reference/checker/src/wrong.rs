@@ -31,6 +31,12 @@ pub enum Place {
     Named,
     /// All of it, by a wrong reader of line endings.
     Misread(Misreading),
+    /// A mark in the last state taken for a run.
+    LastRun,
+    /// The marks of the last state, as they are handed back.
+    Cleared,
+    /// An accepted recording with marks in its last state, refused with 9.
+    Nine,
 }
 
 impl Place {
@@ -48,6 +54,9 @@ impl Place {
             Place::Length => "length",
             Place::Named => "named",
             Place::Misread(misreading) => misreading.name(),
+            Place::LastRun => "last_run",
+            Place::Cleared => "cleared",
+            Place::Nine => "nine",
         }
     }
 }
@@ -93,6 +102,7 @@ impl Wrong {
 /// The wrong answers by section and operation.
 fn lists() -> Vec<(Section, Operation, &'static [Place])> {
     use Place::{Beyond, Content, Length, Line, Named, Number, Untouched, Unused, Value, Zero};
+    use Place::{Cleared, LastRun, Nine};
     let mut lists: Vec<(Section, Operation, &[Place])> = Vec::new();
     for operation in Operation::ALL {
         lists.push((Section::Trials, operation, &[Named]));
@@ -105,6 +115,11 @@ fn lists() -> Vec<(Section, Operation, &'static [Place])> {
     lists.extend([
         (Section::Random, Operation::ReadJoint, &[Line][..]),
         (Section::Random, Operation::Schedules, &[Value]),
+        (Section::Random, Operation::Beginnings, &[Number]),
+        (Section::Random, Operation::ReadRecording, &[Nine, Cleared]),
+        (Section::Random, Operation::Project, &[Nine, LastRun]),
+        (Section::Random, Operation::JudgeLocal, &[Nine]),
+        (Section::Random, Operation::JudgeRecording, &[Nine, LastRun]),
         (Section::Texts, Operation::ReadRule, &[Number, Value, Content]),
         (Section::Texts, Operation::ReadRecording, &[Number, Value, Content]),
         (Section::Texts, Operation::ReadJoint, &[Number, Value, Line]),

@@ -1,5 +1,7 @@
 //! Every small rule and every small accepted recording, over two atoms.
 
+use std::ops::Range;
+
 use super::traces::RecordingTable;
 use crate::model::formula::{Node, ATOM, NEXT, NOT, OR, PREV, SINCE, TRUE, UNTIL};
 use crate::model::trace::State;
@@ -74,6 +76,22 @@ fn may_follow(masks: &[u32], before: State, atoms: u32) -> bool {
     (before.atoms ^ atoms) & held == 0
 }
 
+/// The recordings of up to so many states have every run mark in their last
+/// state. A longer one has one of the words of run marks there, in turn.
+pub const EVERY_LAST_MARK: usize = 2;
+
+/// The run marks to put into a state of this word, after those that are there.
+fn schedules(recording: &RecordingTable, atoms: u32) -> Range<u32> {
+    let all = 1 << recording.controllers;
+    let last = recording.states.len() + 1 == recording.length;
+    if !last || recording.length <= EVERY_LAST_MARK {
+        return 0..all;
+    }
+    let fold = |sum: u32, word: &u64| sum + (word % (1 << 32)) as u32 + (word >> 32) as u32;
+    let turn = recording.states.iter().fold(atoms, fold) % all;
+    turn..turn + 1
+}
+
 /// Visits every recording that starts with the states of `recording`.
 fn extend_recording(recording: &mut RecordingTable, visit: &mut dyn FnMut(&RecordingTable)) {
     if recording.states.len() == recording.length {
@@ -81,13 +99,11 @@ fn extend_recording(recording: &mut RecordingTable, visit: &mut dyn FnMut(&Recor
         return;
     }
     let before = recording.states.last().map(|word| State::of_word(*word));
-    let last = recording.states.len() + 1 == recording.length;
-    let schedules = if last { 1 } else { 1 << recording.controllers };
     for atoms in 0..1 << ATOMS {
         if before.is_some_and(|before| !may_follow(&recording.masks, before, atoms)) {
             continue;
         }
-        for scheduled in 0..schedules {
+        for scheduled in schedules(recording, atoms) {
             recording.states.push(State { atoms, scheduled }.word());
             extend_recording(recording, visit);
             recording.states.pop();
@@ -95,7 +111,8 @@ fn extend_recording(recording: &mut RecordingTable, visit: &mut dyn FnMut(&Recor
     }
 }
 
-/// Visits every accepted recording of 1 to so many controllers and states.
+/// Visits every accepted recording of 1 to so many controllers and states; of
+/// the longer ones that differ in the marks of their last state one in turn.
 pub fn each_recording(
     most_controllers: usize,
     most_states: usize,
@@ -113,7 +130,8 @@ pub fn each_recording(
     }
 }
 
-/// Every accepted recording of 1 to so many controllers and states.
+/// Every accepted recording of 1 to so many controllers and states, as
+/// [`each_recording`] visits them.
 pub fn recordings(most_controllers: usize, most_states: usize) -> Vec<RecordingTable> {
     let mut all = Vec::new();
     each_recording(most_controllers, most_states, &mut |recording| all.push(recording.clone()));

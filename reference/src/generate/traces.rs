@@ -53,15 +53,16 @@ fn may_change(masks: &[u32], scheduled: u32) -> u32 {
     !held.fold(0, |atoms, (_, own)| atoms | own)
 }
 
-/// States that obey the output rule, the last without a run mark.
+/// States that obey the output rule. Run marks in the last one are a step whose
+/// result isn't there.
 fn states(random: &mut Random, masks: &[u32], length: usize) -> Vec<u64> {
     let habits: Vec<usize> = masks.iter().map(|_| random.below(4)).collect();
     let mut atoms = random.word();
     let mut words = Vec::new();
-    for k in 0..length {
+    for _ in 0..length {
         let mut scheduled = 0;
         for (c, habit) in habits.iter().enumerate() {
-            if k + 1 < length && runs(random, *habit) {
+            if runs(random, *habit) {
                 scheduled |= 1 << c;
             }
         }
@@ -164,18 +165,18 @@ pub fn any_recording(
 }
 
 /// The words of the states in which a controller runs, and its own atoms
-/// after the last of them.
+/// after the last of them. A mark in the last state is no run.
 fn local_words(recording: &RecordingTable, controller: usize) -> (Vec<u32>, u32) {
     let own = recording.masks[controller];
     let states = recording.states.iter().map(|word| State::of_word(*word));
     let mut steps = Vec::new();
     let mut last = State::of_word(recording.states[0]).atoms & own;
     let mut after_step = false;
-    for state in states {
+    for (k, state) in states.enumerate() {
         if after_step {
             last = state.atoms & own;
         }
-        after_step = state.scheduled >> controller & 1 == 1;
+        after_step = k + 1 < recording.length && state.scheduled >> controller & 1 == 1;
         if after_step {
             steps.push(state.atoms);
         }
@@ -249,7 +250,7 @@ fn other_masks(random: &mut Random, controllers: usize, controller: usize, own: 
 
 /// Another recording that has this controller, with the same local trace and
 /// the same mask of own atoms for it: other length, other controllers, other
-/// states between its steps.
+/// states between its steps, any marks in the last state.
 pub fn rescheduled(
     random: &mut Random,
     recording: &RecordingTable,
@@ -265,11 +266,11 @@ pub fn rescheduled(
     let atoms = scheduled_atoms(random, own, &picked, &steps, last);
     let mut states = Vec::new();
     for k in 0..length {
-        let mut scheduled = u32::from(picked[k]) << controller;
-        if k + 1 < length {
-            let changed = atoms[k] ^ atoms[k + 1];
-            scheduled |= others_scheduled(random, &masks, controller, changed, &habits);
-        }
+        let last = k + 1 == length;
+        let marked = picked[k] || (last && runs(random, habits[controller]));
+        let mut scheduled = u32::from(marked) << controller;
+        let changed = if last { 0 } else { atoms[k] ^ atoms[k + 1] };
+        scheduled |= others_scheduled(random, &masks, controller, changed, &habits);
         states.push(State { atoms: atoms[k], scheduled }.word());
     }
     RecordingTable { controllers, length, masks, states }

@@ -16,8 +16,6 @@ pub const RECORDING_LIMIT: u8 = 6;
 pub const MASKS_MEET: u8 = 7;
 /// A line of a recording, or a mask or state, is missing or too many.
 pub const RECORDING_LINES: u8 = 8;
-/// A run mark in the last state.
-pub const LAST_RUNS: u8 = 9;
 /// The output rule is broken by the state before.
 pub const OUTPUT_RULE: u8 = 10;
 /// A controller isn't below C.

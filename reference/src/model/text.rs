@@ -207,7 +207,7 @@ fn state_of_line(line: &[u8]) -> Result<State, u8> {
     Ok(State { atoms, scheduled })
 }
 
-/// A recording text: its lines (5, 6, 7, 10, 9 of each), then the line count (8).
+/// A recording text: its lines (5, 6, 7, 10 of each), then the line count (8).
 pub fn read_recording(text: &[u8]) -> Result<Trace, RefusedLine> {
     let mut lines =
         Lines { text, start: 0, form: refusal::RECORDING_FORM, lines: refusal::RECORDING_LINES };
@@ -224,7 +224,7 @@ pub fn read_recording(text: &[u8]) -> Result<Trace, RefusedLine> {
     for _ in 0..length {
         states.push(lines.read(|line| {
             let state = state_of_line(line)?;
-            trace::check_state(components, length, &masks, &states, state)?;
+            trace::check_state(components, &masks, &states, state)?;
             Ok(state)
         })?);
     }

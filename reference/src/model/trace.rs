@@ -39,9 +39,11 @@ pub struct Trace {
 }
 
 impl Trace {
-    /// Does the controller run in this state?
+    /// Does the controller run in this state? "A mark in the last state is
+    /// read as no run" (document 02).
     pub fn runs(&self, component: usize, k: usize) -> bool {
-        bit(self.states[k].scheduled, component)
+        let last = k + 1 == self.states.len();
+        !last && bit(self.states[k].scheduled, component)
     }
 
     /// "`end` holds in state k when c runs in no state from k on."
@@ -82,11 +84,10 @@ pub fn obeys_output_rule(masks: &[u32], before: State, after: State) -> bool {
     })
 }
 
-/// Refusals 6, 10, 9 of the state after `earlier`, in a recording of
-/// `components` controllers and `length` states.
+/// Refusals 6 and 10 of the state after `earlier`, in a recording of
+/// `components` controllers.
 pub fn check_state(
     components: usize,
-    length: usize,
     masks: &[u32],
     earlier: &[State],
     state: State,
@@ -98,9 +99,6 @@ pub fn check_state(
         if !obeys_output_rule(masks, *before, state) {
             return Err(refusal::OUTPUT_RULE);
         }
-    }
-    if earlier.len() == length - 1 && state.scheduled != 0 {
-        return Err(refusal::LAST_RUNS);
     }
     Ok(())
 }
@@ -122,7 +120,7 @@ pub fn check_trace(
     let mut states = Vec::new();
     for word in state_words.iter().take(length) {
         let state = State::of_word(*word);
-        check_state(components, length, &masks, &states, state)?;
+        check_state(components, &masks, &states, state)?;
         states.push(state);
     }
     if masks.len() < components || states.len() < length {

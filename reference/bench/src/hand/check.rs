@@ -77,23 +77,14 @@ fn output_broken(masks: &[u32], before: u64, state: u64) -> bool {
     masks.iter().enumerate().any(|(c, mask)| changed & mask != 0 && idle(c))
 }
 
-/// One state against the state before it, if there is one: 6, 10, 9.
-pub fn state(
-    controllers: usize,
-    masks: &[u32],
-    before: Option<u64>,
-    state: u64,
-    last: bool,
-) -> Result<(), u8> {
+/// One state against the state before it, if there is one: 6, 10.
+pub fn state(controllers: usize, masks: &[u32], before: Option<u64>, state: u64) -> Result<(), u8> {
     let marks = state >> limits::ATOMS;
     if marks >> controllers != 0 {
         return Err(refusal::RECORDING_LIMIT);
     }
     if before.is_some_and(|before| output_broken(masks, before, state)) {
         return Err(refusal::OUTPUT_RULE);
-    }
-    if last && marks != 0 {
-        return Err(refusal::LAST_RUNS);
     }
     Ok(())
 }
@@ -111,8 +102,8 @@ pub fn recording(recording: Recording) -> Result<(), u8> {
         seen |= mask;
     }
     let mut before = None;
-    for (k, word) in states.iter().take(count).enumerate() {
-        state(controllers, there, before, *word, k + 1 == count)?;
+    for word in states.iter().take(count) {
+        state(controllers, there, before, *word)?;
         before = Some(*word);
     }
     if masks.len() < controllers || states.len() < count {

@@ -110,9 +110,14 @@ impl<W: Copy + Into<u64>> Trace<'_, W> {
         Pair { weak: row | self.last(), strong: row & !self.last() }
     }
 
-    /// Where no run mark comes any more.
+    /// The run marks, but for the last state's.
+    fn run(&self) -> u128 {
+        column(self.words, limits::ATOMS + self.c) & !self.last()
+    }
+
+    /// Where no run comes any more.
     fn end(&self) -> u128 {
-        let run = column(self.words, limits::ATOMS + self.c);
+        let run = self.run();
         let ended = ones(self.words.len());
         if run == 0 {
             ended
@@ -141,7 +146,7 @@ impl<W: Copy + Into<u64>> Trace<'_, W> {
                 let (p, q) = (p(), q());
                 Pair { weak: since(p.weak, q.weak), strong: since(p.strong, q.strong) }
             }
-            RUN => Pair::both(column(self.words, limits::ATOMS + self.c)),
+            RUN => Pair::both(self.run()),
             END => Pair::both(self.end()),
             _ => unreachable!("checked before"),
         }
@@ -180,7 +185,7 @@ pub fn judge_recording(
 fn places_into(recording: Recording, c: usize, places: &mut [u32]) -> usize {
     let states = &recording.states[..recording.count];
     let (mut placed, mut next) = (0, 0);
-    for (k, state) in states.iter().enumerate() {
+    for (k, state) in states[..states.len() - 1].iter().enumerate() {
         if state >> (limits::ATOMS + c) & 1 == 1 {
             places[placed] = *state as u32;
             placed += 1;

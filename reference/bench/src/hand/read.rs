@@ -217,10 +217,10 @@ fn scan_recording(
         seen |= *mask;
     }
     let mut before = None;
-    for (k, word) in states[..count].iter_mut().enumerate() {
+    for word in states[..count].iter_mut() {
         *word = lines.read(|line| {
             let state = state_line(line).ok_or(refusal::RECORDING_FORM)?;
-            check::state(controllers, masks, before, state, k + 1 == count)?;
+            check::state(controllers, masks, before, state)?;
             Ok(state)
         })?;
         before = Some(*word);

@@ -48,7 +48,10 @@ impl<'a, W: Copy + Into<u64>> Columns<'a, W> {
     #[inline(never)]
     fn make(&mut self, index: usize) {
         self.rows[index] = match index {
-            RUN_COLUMN => column(self.words, limits::ATOMS + self.c),
+            // A mark in the last state is no run.
+            RUN_COLUMN => {
+                column(self.words, limits::ATOMS + self.c) & !(1 << (self.words.len() - 1))
+            }
             END_COLUMN => {
                 let run = self.get(RUN_COLUMN);
                 ones(self.words.len()) & !u128::MAX.checked_shr(run.leading_zeros()).unwrap_or(0)
@@ -114,7 +117,7 @@ fn masks_fine(masks: &[u32]) -> bool {
 fn states_fine(controllers: usize, masks: &[u32], states: &[u64]) -> bool {
     let (low, high) = masks.split_at(masks.len().min(4));
     let (low, high) = (held_atoms(low), held_atoms(high));
-    let mut bad = states[states.len() - 1] >> limits::ATOMS;
+    let mut bad = states[states.len() - 1] >> limits::ATOMS >> controllers;
     for pair in states.windows(2) {
         let marks = (pair[0] >> limits::ATOMS) as usize;
         let held = low[marks & 15] | high[marks >> 4 & 15];
@@ -274,7 +277,7 @@ pub fn judge_recording(
 fn places_into(recording: Recording, c: usize, places: &mut [u32; limits::PLACES]) -> usize {
     let states = &recording.states[..recording.count];
     let (mut placed, mut next) = (0, 0);
-    for (k, state) in states.iter().enumerate() {
+    for (k, state) in states[..states.len() - 1].iter().enumerate() {
         places[placed % limits::PLACES] = *state as u32;
         let runs = state >> (limits::ATOMS + c) & 1 == 1;
         placed += usize::from(runs);

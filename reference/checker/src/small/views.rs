@@ -16,9 +16,9 @@ pub struct Member {
     pub controller: usize,
 }
 
-/// The recordings that have one own mask, the same words and the same run
-/// marks of the controller: by document 01 every verdict and row is the same
-/// for all of them, so the model is asked once.
+/// The recordings that have one own mask, the same words and the same runs of
+/// the controller, whatever the last state's marks: by both documents every
+/// verdict and row is the same for all of them, so the model is asked once.
 pub struct View {
     /// The controller's own mask.
     pub own: u32,
@@ -40,10 +40,14 @@ pub struct Views {
     pub locals: Vec<Member>,
 }
 
-/// What a view is known by: the own mask, and word and run mark of each state.
+/// What a view is known by: the own mask, the word of each state, and whether
+/// the controller runs there.
 fn view_key(recording: &RecordingTable, controller: usize) -> (u32, Vec<(u32, bool)>) {
-    let seen = |state: &u64| (*state as u32, state >> (32 + controller) & 1 == 1);
-    (recording.masks[controller], recording.states.iter().map(seen).collect())
+    let seen = |(k, state): (usize, &u64)| {
+        let runs = k + 1 < recording.length && state >> (32 + controller) & 1 == 1;
+        (*state as u32, runs)
+    };
+    (recording.masks[controller], recording.states.iter().enumerate().map(seen).collect())
 }
 
 /// What a local trace is known by: the own mask and the places.

@@ -4,11 +4,14 @@ use Rattle.projection.proofs.LengthLaws.{length-laws}
 use Rattle.projection.proofs.places.local_length.Statement.{statement}
 use Rattle.projection.proofs.places.local_length.Tie as tie
 
+sub-column : tie.Need-sub-column
+sub-column c = search length-laws
+
 add-column : tie.Need-add-column
 add-column c = search needs
 
 column-requires : tie.Need-column-requires
-column-requires c κs = search needs
+column-requires c κs = search length-laws
 
 total-requires : tie.Need-total-requires
 total-requires c κs = search needs
@@ -24,4 +27,4 @@ returns c = search length-laws
 
 pub local-length-spec : {M : Type 1} → statement M
 local-length-spec =
-    tie.close (tie.spec add-column column-requires total-requires cast-result add-result returns)
+    tie.close (tie.spec sub-column add-column column-requires total-requires cast-result add-result returns)

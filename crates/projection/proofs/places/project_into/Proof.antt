@@ -5,10 +5,13 @@ use Rattle.projection.proofs.places.project_into.Statement.{statement}
 use Rattle.projection.proofs.places.project_into.Tie as tie
 
 abbrev Inv-loop : tie.InvT-loop
-Inv-loop count mask c states places₀ here₀ next₀ k₀ places here next k = Walked count c states places₀ places here next k
+Inv-loop count mask c states places₀ last here₀ next₀ k₀ places here next k = Walked count c states places₀ places here next k
 
 abbrev μ-loop : tie.MeasureT-loop
-μ-loop count mask c states places₀ here₀ next₀ k₀ places here next k = count - k
+μ-loop count mask c states places₀ last here₀ next₀ k₀ places here next k = last - k
+
+sub-last : tie.Need-sub-last Inv-loop μ-loop
+sub-last c = search walk-bounds
 
 loop-holds : tie.Need-loop-holds Inv-loop μ-loop
 loop-holds c = search walk-laws
@@ -88,6 +91,7 @@ project-into-spec =
     (tie.spec
     Inv-loop
     μ-loop
+    sub-last
     loop-holds
     mul-state
     shared-slice-read-state

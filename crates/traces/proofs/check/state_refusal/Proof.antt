@@ -13,30 +13,8 @@ state-limit-requires c κs = search needs
 step-refusal-requires : tie.Need-step-refusal-requires
 step-refusal-requires c κs = search needs
 
-add-last-refusal : tie.Need-add-last-refusal
-add-last-refusal c = search needs
-
-marks-of-requires : tie.Need-marks-of-requires
-marks-of-requires c κs = search needs
-
-last-refusal-requires : tie.Need-last-refusal-requires
-last-refusal-requires c κs = search needs
-
-or-else-requires : tie.Need-or-else-requires
-or-else-requires c κs = search needs
-
 returns : tie.Need-returns
 returns c = search state-laws
 
 pub state-refusal-spec : {M : Type 1} → statement M
-state-refusal-spec =
-    tie.close
-    (tie.spec
-    output-broken-requires
-    state-limit-requires
-    step-refusal-requires
-    add-last-refusal
-    marks-of-requires
-    last-refusal-requires
-    or-else-requires
-    returns)
+state-refusal-spec = tie.close (tie.spec output-broken-requires state-limit-requires step-refusal-requires returns)

@@ -5,10 +5,10 @@ use Rattle.traces.proofs.check.states_refusal.Statement.{statement}
 use Rattle.traces.proofs.check.states_refusal.Tie as tie
 
 abbrev Inv-loop : tie.InvT-loop
-Inv-loop controllers count masks states low high limit there before₀ held₀ k₀ before held k = StatesLeft controllers count masks states before held k
+Inv-loop controllers count masks states low high limit there prior₀ held₀ k₀ prior held k = StatesLeft controllers count masks states prior held k
 
 abbrev μ-loop : tie.MeasureT-loop
-μ-loop controllers count masks states low high limit there before₀ held₀ k₀ before held k = there - k
+μ-loop controllers count masks states low high limit there prior₀ held₀ k₀ prior held k = there - k
 
 held-group-requires : tie.Need-held-group-requires Inv-loop μ-loop
 held-group-requires c κs = search state-laws
@@ -72,17 +72,11 @@ loop-again c =
     let low = high .before in
     let start = low .before .before .before in
     let a = start .args in
-    states-next (a .controllers) (a .count) (a .masks .now) (a .states .now) (l .before) (l .held) (l .k) (least .least .result) (l .inv) (least .least .ensures)
+    states-next (a .controllers) (a .count) (a .masks .now) (a .states .now) (l .prior) (l .held) (l .k) (least .least .result) (l .inv) (least .least .ensures)
     (turn .loop-test .taken) (limit .state-limit .result) (step .step-refusal .result) (changed .held-changed .result)
     (limit .state-limit .ensures) (changed .held-changed .ensures) (step .step-refusal .ensures) (go .if1 .left) (start .pre)
     (low .held-group .result) (high .held-group2 .result) (low .held-group .ensures) (high .held-group2 .ensures)
     (met .marks-of .result) (c .held-at .result) (met .marks-of .ensures) (c .held-at .ensures)
-
-marks-of-requires-2 : tie.Need-marks-of-requires-2 Inv-loop μ-loop
-marks-of-requires-2 c κs = search state-laws
-
-last-refusal-requires : tie.Need-last-refusal-requires Inv-loop μ-loop
-last-refusal-requires c κs = search state-laws
 
 returns-2 : tie.Need-returns-2 Inv-loop μ-loop
 returns-2 c = search state-laws
@@ -110,6 +104,4 @@ states-refusal-spec =
     add-k
     loop-less
     loop-again
-    marks-of-requires-2
-    last-refusal-requires
     returns-2)
