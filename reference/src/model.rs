@@ -6,6 +6,7 @@
 //! zero after another refusal, and the content followed by zeros when
 //! accepted. What is lent past the full size is never touched.
 
+pub mod evidence;
 pub mod formula;
 pub mod limits;
 pub mod one_line;
@@ -15,6 +16,7 @@ pub mod semantics;
 pub mod text;
 pub mod trace;
 
+use evidence::{walk, AsWorded, Pair};
 use formula::{check_formula, check_nodes, Formula, Language, Node};
 use semantics::{local_readings, trace_readings, Reading, Readings};
 use text::RefusedLine;
@@ -270,6 +272,36 @@ pub fn judge_local(
     let readings = local_readings(&formula.nodes, &local);
     let rule = formula.nodes.len() - 1;
     Ok(verdict(&readings, rule, rule))
+}
+
+/// "The readings behind a verdict", the weak one or the strong one: "For a rule
+/// and a recording, checked as in judging on the local trace". Answers the
+/// number of pairs.
+#[allow(clippy::too_many_arguments)]
+pub fn evidence(
+    controller: usize,
+    count: usize,
+    nodes: &[u32],
+    controllers: usize,
+    length: usize,
+    masks: &[u32],
+    states: &[u64],
+    weak: bool,
+    pairs: &mut [u32],
+) -> Result<usize, u8> {
+    if too_short(pairs, limits::PAIRS) {
+        return Err(refusal::LENT_SPACE);
+    }
+    let answer = check_formula(controller, count, nodes).and_then(|formula| {
+        let trace = check_trace(controllers, length, masks, states)?;
+        trace.check_component(controller)?;
+        let local = trace::project(&trace, controller);
+        let found = walk(&AsWorded, &formula.nodes, &local, Reading::chosen(weak));
+        Ok(found.into_iter().map(Pair::number).collect::<Vec<u32>>())
+    });
+    let content = answer.as_ref().map_or(&[][..], |numbers| numbers);
+    leave(pairs, limits::PAIRS, content);
+    answer.map(|numbers| numbers.len())
 }
 
 /// "rewrite plain or short (rule and own mask, any 32 bits)".

@@ -4,4 +4,5 @@ pub mod OperatorTrials
 pub mod RefusalTrials
 pub mod MidStepTrials
 pub mod EndingTrials
+pub mod EvidenceTrials
 pub mod OneLineTrials

@@ -5,12 +5,14 @@ pub mod Tables
 pub mod Recordings
 pub mod Projection
 pub mod Readings
+pub mod Evidence
 pub mod Rewriting
 pub mod Lines
 pub mod RuleText
 pub mod RecordingText
 pub mod Operations
 pub mod Program
+pub mod Why
 pub mod OneLineSigns
 pub mod OneLineGrammar
 pub mod OneLineNodes

@@ -114,3 +114,7 @@ lineForm = 15
 -- "16, a sentence with over 16 brackets open at once"
 abbrev pub bracketsDeep : ℕ
 bracketsDeep = 16
+
+-- "Lent space for fewer than 8,192 pairs is refused with 13": the readings behind a verdict, one for each place and node
+abbrev pub maxPairs : ℕ
+maxPairs = maxStates * maxRuleNodes

@@ -4,13 +4,14 @@ use mathlib.Core.Bool.{Bool, _||_}
 use mathlib.Core.List.{List, [], _∷_, _++_, map}
 use lib.ListN.{length, take, drop, getD, replicate}
 use lib.Dec.{eqb, ltb}
-use Rattle.definitions.specs.Limits.{accepted, lentShort, tooManyNodes, maxRuleNodes, maxControllers, maxStates, maxTableNodes, maxRowWords, maxRuleBytes}
+use Rattle.definitions.specs.Limits.{accepted, lentShort, tooManyNodes, maxRuleNodes, maxControllers, maxStates, maxTableNodes, maxRowWords, maxRuleBytes, maxPairs}
 use Rattle.definitions.specs.Bounded.{pick, orElse, bit}
 use Rattle.definitions.specs.Nodes.{nodeWord}
 use Rattle.definitions.specs.Tables.{Rule, Table, tableOf, ruleRefusal, tableRefusal, nodesIn}
 use Rattle.definitions.specs.Recordings.{Recording, recordingRefusal, controllerRefusal, maskOf}
 use Rattle.definitions.specs.Projection.{localTrace}
 use Rattle.definitions.specs.Readings.{whole, rowsOf, Verdicts, verdicts, localVerdicts, pairsWords}
+use Rattle.definitions.specs.Evidence.{Found, evidence, pairWord}
 use Rattle.definitions.specs.Rewriting.{Rewritten, rewriting}
 use Rattle.definitions.specs.RuleText.{scanRule, ruleText}
 use Rattle.definitions.specs.RecordingText.{scanRecording, Part, emptyStart, jointNumber, jointPart}
@@ -139,6 +140,22 @@ unfoldable pub judgeLocalAnswer : (r : Rule) (R : Recording) → Answer
 judgeLocalAnswer r R =
     answer (judgeLocalNumber r R)
     (verdictValues (localVerdicts (nodesIn (r .count) (r .nodes)) (maskOf R (r .controller)) (localTrace R (r .controller))))
+
+-- "the readings .. that decide the weak or the strong verdict, as chosen": "For a rule and a recording"
+abbrev pub evidenceOf : (r : Rule) (R : Recording) (weak : Bool) → List Found
+evidenceOf r R weak = evidence (maskOf R (r .controller)) (localTrace R (r .controller)) (nodesIn (r .count) (r .nodes)) weak
+
+-- "Lent space for fewer than 8,192 pairs is refused with 13"; "checked as in judging on the local trace"
+unfoldable pub evidenceNumber : (r : Rule) (R : Recording) (pairs : List ℕ) → ℕ
+evidenceNumber r R pairs = pick (tooShort maxPairs pairs) lentShort (judgeLocalNumber r R)
+
+-- its answer: how many pairs there are
+unfoldable pub evidenceAnswer : (r : Rule) (R : Recording) (weak : Bool) (pairs : List ℕ) → Answer
+evidenceAnswer r R weak pairs = answer (evidenceNumber r R pairs) (length (evidenceOf r R weak) ∷ [])
+
+-- its lent pairs
+unfoldable pub evidencePairs : (r : Rule) (R : Recording) (weak : Bool) (pairs : List ℕ) → List ℕ
+evidencePairs r R weak pairs = left (evidenceNumber r R pairs) maxPairs (map pairWord (evidenceOf r R weak)) pairs
 
 -- "rewrite plain or short (rule and own mask, any 32 bits)": node count and both tops, and the table
 abbrev pub rewrittenOf : (short : Bool) (r : Rule) (mask : ℕ) → Rewritten

@@ -28,7 +28,7 @@ impl Seen {
 }
 
 // Kinds without operand nodes.
-fn is_leaf(kind: u8) -> bool
+pub fn is_leaf(kind: u8) -> bool
     ensures { λ r. ⌜ r ≡ isLeaf (kindOf kind) ⌝ }
 {
     (kind < Node::NOT) | (Node::SINCE < kind)
@@ -52,7 +52,7 @@ fn is_again(nodes: &[u32], i: usize, earlier: usize) -> bool
 }
 
 // The rows of a node before this one.
-fn pair_of_node(rows: &[u64], j: usize) -> Pair
+pub fn pair_of_node(rows: &[u64], j: usize) -> Pair
     requires { ⌜ j * pairWords + pairWords ≤ length (now rows) ⌝ }
     ensures { λ r. ⌜ r ≡ pairOfNode (now (rows .entry)) j ⌝ }
 {

@@ -24,6 +24,8 @@ impl Limits {
     pub const LINE_BYTES: usize = 1024;
 
     pub const OPEN_BRACKETS: usize = 16;
+
+    pub const PAIRS: usize = Limits::STATES * Limits::RULE_NODES;
 }
 
 pub struct Refusal {}

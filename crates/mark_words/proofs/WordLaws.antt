@@ -1,6 +1,7 @@
 -- Laws of words of marks: a word's bits are its marks, and the word operations are the operators.
 use mathlib.Core.Bool.{Bool, true, false, not, _&&_, _||_, and-true}
 use mathlib.Core.List.{List, [], _∷_, map}
+use mathlib.Core.Logic.{⊎-elim}
 use mathlib.Core.Path.{_≡_, refl, sym, ap, ap₂, _∙_}
 use Prim.Native.Nat.{ℕ, zero, suc, _+_, _-_, _*_, _/_, _%_, _^_, _<_, _≤_, min, max}
 use native.Mathlib.Nat.{pow-suc, div-div-eq-div-mul, zero-div, mul-comm, not-suc-le-zero, le-of-suc-le-suc, one-mul, mod-eq-of-lt, zero-add, suc-add, div-add-mod', div-one, lt-of-lt-of-le, lt-of-le-of-lt}
@@ -21,7 +22,21 @@ use Rattle.mark_words.specs.Marks.{markAt, yesMarks}
 use Rattle.mark_words.specs.Lists.{zip, lastOnly, untilRow, sinceRow}
 use Rattle.mark_words.specs.Words.{foundIn, heldIn, Window, gathered}
 use Rattle.theorems.proofs.Tabulations.{tabulate-length}
-use Rattle.mark_words.proofs.OperatorLaws.{and-join, until-at, until-length}
+use Rattle.mark_words.proofs.OperatorLaws.{lt-or-le, and-join, until-at, until-length}
+
+-- ---- a bit as a number
+
+pub bit-few : (b : Bool) → bit b ≤ 1
+bit-few true = omega arith
+bit-few false = omega arith
+
+pub bit-number : (w a : ℕ) → w / 2 ^ a % 2 ≡ bit (bitOf w a)
+unfolding bitOf
+bit-number w a =
+    ⊎-elim
+    (λ (h : w / 2 ^ a % 2 < 1). let e : w / 2 ^ a % 2 ≡ 0 = omega arith in rw e)
+    (λ (h : 1 ≤ w / 2 ^ a % 2). let e : w / 2 ^ a % 2 ≡ 1 = omega arith in rw e)
+    (lt-or-le (w / 2 ^ a % 2) 1)
 
 -- ---- the marks of a word
 

@@ -73,6 +73,10 @@ made r l n e en h =
 pub retold : (r : Row) (n : ℕ) (l m : List Bool) → Made r n l → l ≡ m → Made r n m
 retold r n l m v e = record { whole = v .whole; count = v .count; marked = v .marked ∙ e }
 
+-- as many places, told otherwise
+pub recounted : (r : Row) (m n : ℕ) (f : ℕ → List Bool) → Made r m (f m) → m ≡ n → Made r n (f n)
+recounted r m n f v e = rw e at v
+
 -- ---- its two words
 
 pub low-is : (s : Row) → Whole s → getD (s .words) 0 0 ≡ lowWord s

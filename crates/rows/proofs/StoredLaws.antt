@@ -2,11 +2,11 @@
 use mathlib.Core.Bool.{Bool}
 use mathlib.Core.List.{List, [], _∷_, _++_, append-assoc}
 use mathlib.Core.Path.{_≡_, refl, sym, ap, _∙_}
-use Prim.Native.Nat.{ℕ, zero, suc, _+_, _*_, _<_, _≤_}
+use Prim.Native.Nat.{ℕ, zero, suc, _+_, _-_, _*_, _<_, _≤_}
 use native.Mathlib.Nat.{add-zero, not-suc-le-zero, le-of-suc-le-suc}
 use native.Mathlib.Omega.{arith}
-use lib.ListN.{length, take, drop, getD, set, length-append}
-use lib.Seq.{drop-at, take-at, drop-drop, getD-take, getD-drop, sets-eq}
+use lib.ListN.{length, take, drop, getD, set, length-append, List·getD-append}
+use lib.Seq.{drop-at, take-at, drop-drop, getD-take, getD-drop, sets-eq, length-take-le}
 use borrow.Author.Needs.{needs}
 use Rattle.definitions.specs.Limits.{maxStates, pairWords}
 use Rattle.definitions.specs.Readings.{rowWords, Rows, noRows, pairsWords}
@@ -34,6 +34,39 @@ loaded l at n ms r v e len few =
   where
     third : (j : ℕ) → j < 3 → getD l (at + j) 0 ≡ getD (rowWords ms) j 0
     third j h = sym (getD-take 3 (drop at l) j 0 h ∙ getD-drop at l j 0) ∙ ap (λ (ws : List ℕ). getD ws j 0) e
+
+-- ---- a row that was stored, and the rows beside it
+
+module _ (l l′ : List ℕ) (at : ℕ) (r : Row) (v : Whole r) (room : at + 3 ≤ length l) (e : l′ ≡ take at l ++ (rowWords (marks r) ++ drop (at + 3) l)) where
+  front-length : length (take at l) ≡ at
+  front-length = length-take-le at l (omega arith)
+
+  from-there : drop at l′ ≡ rowWords (marks r) ++ drop (at + 3) l
+  from-there = ap (drop at) e ∙ drop-at (take at l) (rowWords (marks r) ++ drop (at + 3) l) at front-length
+
+  pub row-here : rowAt l′ at ≡ r
+  row-here =
+      let m : Made (rowAt l′ at) (r .count) (marks r) = loaded l′ at (r .count) (marks r) (rowAt l′ at) refl (ap (take 3) from-there) (marks-length r v) (v .few) in
+      m .whole .exact ∙ (ap packed (m .marked) ∙ sym (v .exact))
+
+  before-same : (x : ℕ) → x < at → getD l′ x 0 ≡ getD l x 0
+  before-same x h =
+      ap (λ (w : List ℕ). getD w x 0) e
+      ∙ (List·getD-append (take at l) (rowWords (marks r) ++ drop (at + 3) l) 0 x (rw front-length h) ∙ getD-take at l x 0 h)
+
+  past-same : (x : ℕ) → at + 3 ≤ x → getD l′ x 0 ≡ getD l x 0
+  past-same x h =
+      let s : (at + 3) + (x - (at + 3)) ≡ x = omega arith in
+      let d : drop (at + 3) l′ ≡ drop (at + 3) l = sym (drop-drop 3 at l′) ∙ ap (drop 3) from-there in
+      rw s at (sym (getD-drop (at + 3) l′ (x - (at + 3)) 0) ∙ (ap (λ (w : List ℕ). getD w (x - (at + 3)) 0) d ∙ getD-drop (at + 3) l (x - (at + 3)) 0))
+
+  pub row-before : (x : ℕ) → x + 3 ≤ at → rowAt l′ x ≡ rowAt l x
+  unfolding rowAt
+  row-before x h = rw (before-same x (omega arith), before-same (x + 1) (omega arith), before-same (x + 2) (omega arith))
+
+  pub row-past : (x : ℕ) → at + 3 ≤ x → rowAt l′ x ≡ rowAt l x
+  unfolding rowAt
+  row-past x h = rw (past-same x h, past-same (x + 1) (omega arith), past-same (x + 2) (omega arith))
 
 -- ---- row pairs
 

@@ -138,7 +138,7 @@ impl Row {
         }
     }
 
-    fn and(self, q: Row) -> Row
+    pub fn and(self, q: Row) -> Row
         requires { ⌜ (Whole self) × (Whole q) × (self .count ≡ q .count) ⌝ }
         ensures { λ r. ⌜ Made r (self .count) (tabulate (self .count) (λ k. markAt (marks self) k && markAt (marks q) k)) ⌝ }
     {

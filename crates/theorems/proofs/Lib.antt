@@ -21,6 +21,14 @@ pub mod Beginnings
 pub mod LastMarks
 pub mod ProjectionLaws
 pub mod ScheduleIndependence
+pub mod NodeReadings
+pub mod EvidenceSteps
+pub mod EvidenceWalk
+pub mod EvidenceRows
+pub mod EvidenceTurns
+pub mod EvidencePairs
+pub mod EvidencePromise
+pub mod EvidenceJudged
 pub mod SplitLaws
 pub mod EndingLaws
 pub mod DecimalLaws

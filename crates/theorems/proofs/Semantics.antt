@@ -89,20 +89,20 @@ reading-is t f Unknown a b d i = refl
 abbrev pub Agree : ℕ → (ℕ → Bool) → (ℕ → Bool) → Type 0
 Agree L f g = (k : ℕ) → k < L → f k ≡ g k
 
-until-agree : (L : ℕ) (d : Bool) (p q p′ q′ : ℕ → Bool) → Agree L p p′ → Agree L q q′ → (n k : ℕ) → k + n ≤ L →
+pub until-agree : (L : ℕ) (d : Bool) (p q p′ q′ : ℕ → Bool) → Agree L p p′ → Agree L q q′ → (n k : ℕ) → k + n ≤ L →
     untilN d p q n k ≡ untilN d p′ q′ n k
 until-agree L d p q p′ q′ a b zero k h = refl
 until-agree L d p q p′ q′ a b (suc n) k h = rw (a k (omega arith), b k (omega arith), until-agree L d p q p′ q′ a b n (suc k) (omega arith))
 
-since-agree : (L : ℕ) (p q p′ q′ : ℕ → Bool) → Agree L p p′ → Agree L q q′ → (k : ℕ) → k ≤ L → sinceB p q k ≡ sinceB p′ q′ k
+pub since-agree : (L : ℕ) (p q p′ q′ : ℕ → Bool) → Agree L p p′ → Agree L q q′ → (k : ℕ) → k ≤ L → sinceB p q k ≡ sinceB p′ q′ k
 since-agree L p q p′ q′ a b zero h = refl
 since-agree L p q p′ q′ a b (suc k) h = rw (a k h, b k h, since-agree L p q p′ q′ a b k (omega arith))
 
-prev-agree : (L : ℕ) (p p′ : ℕ → Bool) → Agree L p p′ → Agree L (prevB p) (prevB p′)
+pub prev-agree : (L : ℕ) (p p′ : ℕ → Bool) → Agree L p p′ → Agree L (prevB p) (prevB p′)
 prev-agree L p p′ a zero h = refl
 prev-agree L p p′ a (suc k) h = a k (omega arith)
 
-next-agree : (L : ℕ) (d : Bool) (p p′ : ℕ → Bool) → Agree L p p′ → (k : ℕ) → pick (ltb (suc k) L) (p (suc k)) d ≡ pick (ltb (suc k) L) (p′ (suc k)) d
+pub next-agree : (L : ℕ) (d : Bool) (p p′ : ℕ → Bool) → Agree L p p′ → (k : ℕ) → pick (ltb (suc k) L) (p (suc k)) d ≡ pick (ltb (suc k) L) (p′ (suc k)) d
 unfolding pick
 next-agree L d p p′ h k = go (ltb (suc k) L) refl
   where
@@ -125,7 +125,8 @@ ev-agree t f g h Run a b d i l = refl
 ev-agree t f g h End a b d i l = refl
 ev-agree t f g h Unknown a b d i l = refl
 
-row-at : (t : Trace) (rs : List Rows) (n : Node) (d : Bool) (i : ℕ) → i < t .places →
+-- a row of the definitions, at each place
+pub row-at : (t : Trace) (rs : List Rows) (n : Node) (d : Bool) (i : ℕ) → i < t .places →
     getD (rowOf d (nodeRows t rs n)) i false ≡ reading t (readFrom rs) (n .kind) (n .first) (n .second) d i
 row-at t rs n true i h = tabulate-at (t .places) (reading t (readFrom rs) (n .kind) (n .first) (n .second) true) i h
 row-at t rs n false i h = tabulate-at (t .places) (reading t (readFrom rs) (n .kind) (n .first) (n .second) false) i h

@@ -24,3 +24,5 @@ pub const PROGRAM_INPUT: usize = 16384;
 pub const LINE_BYTES: usize = 1024;
 /// "at most 16 deep".
 pub const OPEN_BRACKETS: usize = 16;
+/// "Lent space for fewer than 8,192 pairs is refused with 13."
+pub const PAIRS: usize = 8192;

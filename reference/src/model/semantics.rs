@@ -5,7 +5,7 @@ use super::formula::{Node, ATOM, END, NEXT, NOT, OR, PREV, RUN, SINCE, TRUE, UNT
 use super::trace::{bit, LocalTrace, Trace};
 
 /// One of the two readings.
-#[derive(Clone, Copy, PartialEq, Eq, Debug)]
+#[derive(Clone, Copy, PartialEq, Eq, Hash, Debug)]
 pub enum Reading {
     /// For recordings that stop early.
     Weak,
@@ -14,8 +14,17 @@ pub enum Reading {
 }
 
 impl Reading {
+    /// The weak reading, or the strong one.
+    pub fn chosen(weak: bool) -> Reading {
+        if weak {
+            Reading::Weak
+        } else {
+            Reading::Strong
+        }
+    }
+
     /// The reading that a not hands to its operand.
-    fn opposite(self) -> Reading {
+    pub fn opposite(self) -> Reading {
         match self {
             Reading::Weak => Reading::Strong,
             Reading::Strong => Reading::Weak,

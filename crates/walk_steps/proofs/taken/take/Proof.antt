@@ -1,0 +1,32 @@
+use Rattle.walk_steps.proofs.TakenLaws.{taken-laws}
+use Rattle.walk_steps.proofs.taken.take.Statement.{statement}
+use Rattle.walk_steps.proofs.taken.take.Tie as tie
+use Rattle.walk_steps.proofs.taken.take.Reads as reads
+use Rattle.walk_steps.proofs.taken.take.Lts as lts
+use Rattle.walk_steps.proofs.step.step_of.Reads as step-of-reads
+use Rattle.walk_steps.proofs.taken.under.Reads as under-reads
+
+-- src/taken.rt:38:9
+step-of-requires : tie.Need-step-of-requires
+step-of-requires c κs = search taken-laws
+
+-- src/taken.rt:39:9
+step-of-requires-2 : tie.Need-step-of-requires-2
+step-of-requires-2 c κs = search taken-laws
+
+-- src/taken.rt:41:16
+under-requires : tie.Need-under-requires
+under-requires c κs = search taken-laws
+
+-- src/taken.rt:42:17
+under-requires-2 : tie.Need-under-requires-2
+under-requires-2 c κs = search taken-laws
+
+-- src/taken.rt:34:1
+returns : tie.Need-returns
+returns c = search taken-laws
+
+pub take-spec : {M : Type 1} → statement M
+take-spec =
+    tie.close
+    (tie.spec step-of-requires step-of-requires-2 under-requires under-requires-2 returns)

@@ -1,0 +1,16 @@
+use Rattle.walk_steps.proofs.TakenLaws.{taken-laws}
+use Rattle.walk_steps.proofs.taken.under.Statement.{statement}
+use Rattle.walk_steps.proofs.taken.under.Tie as tie
+use Rattle.walk_steps.proofs.taken.under.Reads as reads
+use Rattle.walk_steps.proofs.taken.under.Lts as lts
+
+-- src/taken.rt:23:9
+returns : tie.Need-returns
+returns c = search taken-laws
+
+-- src/taken.rt:19:1
+returns-2 : tie.Need-returns-2
+returns-2 c = search taken-laws
+
+pub under-spec : {M : Type 1} → statement M
+under-spec = tie.close (tie.spec returns returns-2)
