@@ -58,8 +58,6 @@ module _ (nodes masks states : List ℕ) where
     unfolding isShort
     short-states h = rw (le-ltb (length nodes) maxRuleNodes n, le-ltb (length masks) maxControllers h)
 
-pub ruleset short-laws = (needs, short-nodes, short-masks, short-states)
-
 -- ---- lent space
 held-refused : (full number : ℕ) (content entry exit : List ℕ) → (number ≡ 0 → ⊥) → drop full exit ≡ drop full entry → Held full number 0 content entry exit
 held-refused full number content entry exit z d =

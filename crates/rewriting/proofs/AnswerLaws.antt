@@ -57,8 +57,6 @@ module _ (short : Bool) (mask count : ℕ) (ws o : List ℕ) (d : Draft) (o′ :
         low = omega (arith, w .low, p .emits .next);
       }
 
-pub ruleset tabled-laws = (needs, tabled-open, tabled-closed)
-
 pub ruled : (controller count : ℕ) (ws : List ℕ) (k : ℕ) → k ≡ ruleRefusal (ruleOf controller count ws) → k ≡ 0 → Ruled count ws
 ruled controller count ws k e z =
     let r : Rule = ruleOf controller count ws in

@@ -133,8 +133,6 @@ nodes-other =
     (λ h n6 n7 n8 n10. absurd (n8 refl)) (λ h n6 n7 n8 n10. refl) (λ h n6 n7 n8 n10. absurd (n10 refl)) (λ h n6 n7 n8 n10. refl) (λ h n6 n7 n8 n10. refl)
     (λ m h n6 n7 n8 n10. refl)
 
-pub ruleset nodes-laws = (needs, nodes-brackets, nodes-future, nodes-always, nodes-implies, nodes-and, nodes-other)
-
 -- ---- `step`
 sign-nodes-few : (x : Sign) → signNodes x ≤ 4
 unfolding signNodes prefixNodes infixNodes

@@ -199,8 +199,6 @@ module _ (b : ℕ) where
     none = λ h. record { not40 = n40; not41 = n41; not33 = n33; not88 = n88; not89 = n89; not70 = n70; not71 = n71; not124 = n124; not38 = n38; not85 = n85; not83 = n83 };
   }
 
-pub ruleset single-laws = (needs, single-opening, single-closing, single-not, single-next, single-prev, single-future, single-always, single-or, single-and, single-until, single-since, single-none)
-
 -- ---- `atom_at`
 sign-same : (c next c′ next′ : ℕ) → token.Sign c next ≡ token.Sign c′ next′ → (c ≡ c′) × (next ≡ next′)
 sign-same c next c′ next′ e = (cc, cc)

@@ -1,11 +1,11 @@
 -- `read_rule` meets its contract.
-use Rattle.formula_reader.proofs.ReadLaws.{read-laws}
+use Rattle.formula_reader.proofs.ReadLaws.{read-laws, read-short, read-accepted, read-refused}
 use borrow.Author.Needs.{needs}
 use Rattle.formula_reader.proofs.read_rule.Statement.{statement}
 use Rattle.formula_reader.proofs.read_rule.Tie as tie
 
 returns : tie.Need-returns
-returns c = search read-laws
+returns c = search read-short
 
 scan-rule-requires : tie.Need-scan-rule-requires
 scan-rule-requires c κs = search needs
@@ -20,13 +20,13 @@ same-length : tie.Need-same-length
 same-length c = search needs
 
 returns-2 : tie.Need-returns-2
-returns-2 c = search read-laws
+returns-2 c = search read-accepted
 
 same-length-2 : tie.Need-same-length-2
 same-length-2 c = search needs
 
 returns-3 : tie.Need-returns-3
-returns-3 c = search read-laws
+returns-3 c = search read-refused
 
 pub read-rule-spec : {M : Type 1} → statement M
 read-rule-spec =

@@ -1,6 +1,7 @@
 -- `scan_nodes` meets its contract.
+use borrow.Author.Needs.{needs}
 use Prim.Native.Nat.{_-_}
-use Rattle.formula_reader.proofs.LoopLaws.{loop-laws, NodesLeft}
+use Rattle.formula_reader.proofs.LoopLaws.{loop-laws, NodesLeft, nodes-start, nodes-next, nodes-refused, nodes-done}
 use Rattle.formula_reader.proofs.scan_nodes.Statement.{statement}
 use Rattle.formula_reader.proofs.scan_nodes.Tie as tie
 
@@ -11,7 +12,7 @@ abbrev μ-loop : tie.MeasureT-loop
 μ-loop text start count nodes₀ at₀ i₀ nodes at i = count - i
 
 loop-holds : tie.Need-loop-holds Inv-loop μ-loop
-loop-holds c = search loop-laws
+loop-holds c = search nodes-start
 
 sub-t : tie.Need-sub-t Inv-loop μ-loop
 sub-t c = search loop-laws
@@ -44,10 +45,10 @@ add-i : tie.Need-add-i Inv-loop μ-loop
 add-i c = search loop-laws
 
 loop-less : tie.Need-loop-less Inv-loop μ-loop
-loop-less c = search loop-laws
+loop-less c = search needs
 
 loop-again : tie.Need-loop-again Inv-loop μ-loop
-loop-again c = search loop-laws
+loop-again c = search nodes-next
 
 enum-known-number : tie.Need-enum-known-number Inv-loop μ-loop
 enum-known-number c = search loop-laws
@@ -56,7 +57,7 @@ same-length : tie.Need-same-length Inv-loop μ-loop
 same-length c = search loop-laws
 
 returns : tie.Need-returns Inv-loop μ-loop
-returns c = search loop-laws
+returns c = search nodes-refused
 
 pick-requires : tie.Need-pick-requires Inv-loop μ-loop
 pick-requires c κs = search loop-laws
@@ -65,7 +66,7 @@ same-length-2 : tie.Need-same-length-2 Inv-loop μ-loop
 same-length-2 c = search loop-laws
 
 returns-2 : tie.Need-returns-2 Inv-loop μ-loop
-returns-2 c = search loop-laws
+returns-2 c = search nodes-done
 
 pub scan-nodes-spec : {M : Type 1} → statement M
 scan-nodes-spec =

@@ -1,5 +1,5 @@
 -- `put_heading` meets its contract: one law for each return (PenLaws).
-use Rattle.formula_writer.proofs.PenLaws.{heading-laws}
+use Rattle.formula_writer.proofs.PenLaws.{heading-laws, heading-written}
 use borrow.Author.Needs.{needs}
 use Rattle.formula_writer.proofs.put_heading.Statement.{statement}
 use Rattle.formula_writer.proofs.put_heading.Tie as tie
@@ -23,7 +23,7 @@ same-length : tie.Need-same-length
 same-length c = search needs
 
 returns : tie.Need-returns
-returns c = search heading-laws
+returns c = search heading-written
 
 pub put-heading-spec : {M : Type 1} → statement M
 put-heading-spec =

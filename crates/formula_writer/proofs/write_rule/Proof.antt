@@ -1,11 +1,11 @@
 -- `write_rule` meets its contract: one law for each return (WriteLaws).
-use Rattle.formula_writer.proofs.WriteLaws.{write-laws}
+use Rattle.formula_writer.proofs.WriteLaws.{write-laws, write-short, write-refused, write-accepted}
 use borrow.Author.Needs.{needs}
 use Rattle.formula_writer.proofs.write_rule.Statement.{statement}
 use Rattle.formula_writer.proofs.write_rule.Tie as tie
 
 returns : tie.Need-returns
-returns c = search write-laws
+returns c = search write-short
 
 rule-refusal-requires : tie.Need-rule-refusal-requires
 rule-refusal-requires c κs = search needs
@@ -17,7 +17,7 @@ same-length : tie.Need-same-length
 same-length c = search needs
 
 returns-2 : tie.Need-returns-2
-returns-2 c = search write-laws
+returns-2 c = search write-refused
 
 cast-put-heading : tie.Need-cast-put-heading
 cast-put-heading c = search write-laws
@@ -41,7 +41,7 @@ same-length-2 : tie.Need-same-length-2
 same-length-2 c = search needs
 
 returns-3 : tie.Need-returns-3
-returns-3 c = search write-laws
+returns-3 c = search write-accepted
 
 pub write-rule-spec : {M : Type 1} → statement M
 write-rule-spec =

@@ -1,6 +1,6 @@
 -- `put_refused` meets its contract.
 use borrow.Author.Needs.{needs}
-use Rattle.report.proofs.ReportLaws.{refused-laws}
+use Rattle.report.proofs.ReportLaws.{refused-laws, refused-written}
 use Rattle.report.proofs.put_refused.Statement.{statement}
 use Rattle.report.proofs.put_refused.Tie as tie
 
@@ -23,7 +23,7 @@ same-length : tie.Need-same-length
 same-length c = search needs
 
 returns : tie.Need-returns
-returns c = search refused-laws
+returns c = search refused-written
 
 pub put-refused-spec : {M : Type 1} → statement M
 put-refused-spec =

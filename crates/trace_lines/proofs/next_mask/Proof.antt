@@ -1,5 +1,5 @@
 -- `next_mask` meets its contract.
-use Rattle.trace_lines.proofs.MaskLaws.{mask-laws}
+use Rattle.trace_lines.proofs.MaskLaws.{mask-laws, mask-unread, mask-malformed, mask-refused, mask-read}
 use borrow.Author.Needs.{needs}
 use Rattle.trace_lines.proofs.next_mask.Statement.{statement}
 use Rattle.trace_lines.proofs.next_mask.Tie as tie
@@ -8,7 +8,7 @@ end-refusal-requires : tie.Need-end-refusal-requires
 end-refusal-requires c κs = search needs
 
 returns : tie.Need-returns
-returns c = search mask-laws
+returns c = search mask-unread
 
 slice-aggregate-worded-hexadecimal : tie.Need-slice-aggregate-worded-hexadecimal
 slice-aggregate-worded-hexadecimal c = search mask-laws
@@ -26,16 +26,16 @@ enum-told : tie.Need-enum-told
 enum-told c = search needs
 
 returns-2 : tie.Need-returns-2
-returns-2 c = search mask-laws
+returns-2 c = search mask-malformed
 
 mask-refusal-requires : tie.Need-mask-refusal-requires
 mask-refusal-requires c κs = search needs
 
 returns-3 : tie.Need-returns-3
-returns-3 c = search mask-laws
+returns-3 c = search mask-refused
 
 returns-4 : tie.Need-returns-4
-returns-4 c = search mask-laws
+returns-4 c = search mask-read
 
 pub next-mask-spec : {M : Type 1} → statement M
 next-mask-spec =

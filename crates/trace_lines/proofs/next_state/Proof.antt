@@ -1,5 +1,5 @@
 -- `next_state` meets its contract.
-use Rattle.trace_lines.proofs.StateLaws.{state-laws}
+use Rattle.trace_lines.proofs.StateLaws.{state-laws, state-unread, state-malformed, state-refused, state-read}
 use borrow.Author.Needs.{needs}
 use Rattle.trace_lines.proofs.next_state.Statement.{statement}
 use Rattle.trace_lines.proofs.next_state.Tie as tie
@@ -8,7 +8,7 @@ end-refusal-requires : tie.Need-end-refusal-requires
 end-refusal-requires c κs = search needs
 
 returns : tie.Need-returns
-returns c = search state-laws
+returns c = search state-unread
 
 slice-aggregate-worded-hexadecimals : tie.Need-slice-aggregate-worded-hexadecimals
 slice-aggregate-worded-hexadecimals c = search state-laws
@@ -26,7 +26,7 @@ enum-told : tie.Need-enum-told
 enum-told c = search needs
 
 returns-2 : tie.Need-returns-2
-returns-2 c = search state-laws
+returns-2 c = search state-malformed
 
 state-of-requires : tie.Need-state-of-requires
 state-of-requires c κs = search needs
@@ -35,10 +35,10 @@ state-refusal-requires : tie.Need-state-refusal-requires
 state-refusal-requires c κs = search needs
 
 returns-3 : tie.Need-returns-3
-returns-3 c = search state-laws
+returns-3 c = search state-refused
 
 returns-4 : tie.Need-returns-4
-returns-4 c = search state-laws
+returns-4 c = search state-read
 
 pub next-state-spec : {M : Type 1} → statement M
 next-state-spec =

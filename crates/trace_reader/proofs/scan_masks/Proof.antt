@@ -1,6 +1,7 @@
 -- `scan_masks` meets its contract.
+use borrow.Author.Needs.{needs}
 use Prim.Native.Nat.{_-_}
-use Rattle.trace_reader.proofs.LoopLaws.{scan-mask-laws, MasksLeft}
+use Rattle.trace_reader.proofs.LoopLaws.{scan-mask-laws, MasksLeft, masks-start, masks-next, masks-refused, masks-done}
 use Rattle.trace_reader.proofs.scan_masks.Statement.{statement}
 use Rattle.trace_reader.proofs.scan_masks.Tie as tie
 
@@ -11,7 +12,7 @@ abbrev μ-loop : tie.MeasureT-loop
 μ-loop text start controllers masks₀ at₀ seen₀ c₀ masks at seen c = controllers - c
 
 loop-holds : tie.Need-loop-holds Inv-loop μ-loop
-loop-holds c = search scan-mask-laws
+loop-holds c = search masks-start
 
 sub-t : tie.Need-sub-t Inv-loop μ-loop
 sub-t c = search scan-mask-laws
@@ -44,10 +45,10 @@ add-c : tie.Need-add-c Inv-loop μ-loop
 add-c c = search scan-mask-laws
 
 loop-less : tie.Need-loop-less Inv-loop μ-loop
-loop-less c = search scan-mask-laws
+loop-less c = search needs
 
 loop-again : tie.Need-loop-again Inv-loop μ-loop
-loop-again c = search scan-mask-laws
+loop-again c = search masks-next
 
 enum-known-number : tie.Need-enum-known-number Inv-loop μ-loop
 enum-known-number c = search scan-mask-laws
@@ -56,13 +57,13 @@ same-length : tie.Need-same-length Inv-loop μ-loop
 same-length c = search scan-mask-laws
 
 returns : tie.Need-returns Inv-loop μ-loop
-returns c = search scan-mask-laws
+returns c = search masks-refused
 
 same-length-2 : tie.Need-same-length-2 Inv-loop μ-loop
 same-length-2 c = search scan-mask-laws
 
 returns-2 : tie.Need-returns-2 Inv-loop μ-loop
-returns-2 c = search scan-mask-laws
+returns-2 c = search masks-done
 
 pub scan-masks-spec : {M : Type 1} → statement M
 scan-masks-spec =

@@ -1,6 +1,7 @@
 -- `scan_states` meets its contract.
+use borrow.Author.Needs.{needs}
 use Prim.Native.Nat.{_-_}
-use Rattle.trace_reader.proofs.LoopLaws.{scan-state-laws, StatesLeft}
+use Rattle.trace_reader.proofs.LoopLaws.{scan-state-laws, StatesLeft, states-start, states-next, states-refused, states-done}
 use Rattle.trace_reader.proofs.scan_states.Statement.{statement}
 use Rattle.trace_reader.proofs.scan_states.Tie as tie
 
@@ -11,7 +12,7 @@ abbrev μ-loop : tie.MeasureT-loop
 μ-loop text start controllers count masks states₀ at₀ prior₀ k₀ states at prior k = count - k
 
 loop-holds : tie.Need-loop-holds Inv-loop μ-loop
-loop-holds c = search scan-state-laws
+loop-holds c = search states-start
 
 sub-t : tie.Need-sub-t Inv-loop μ-loop
 sub-t c = search scan-state-laws
@@ -44,10 +45,10 @@ add-k : tie.Need-add-k Inv-loop μ-loop
 add-k c = search scan-state-laws
 
 loop-less : tie.Need-loop-less Inv-loop μ-loop
-loop-less c = search scan-state-laws
+loop-less c = search needs
 
 loop-again : tie.Need-loop-again Inv-loop μ-loop
-loop-again c = search scan-state-laws
+loop-again c = search states-next
 
 enum-known-number : tie.Need-enum-known-number Inv-loop μ-loop
 enum-known-number c = search scan-state-laws
@@ -56,7 +57,7 @@ same-length : tie.Need-same-length Inv-loop μ-loop
 same-length c = search scan-state-laws
 
 returns : tie.Need-returns Inv-loop μ-loop
-returns c = search scan-state-laws
+returns c = search states-refused
 
 pick-requires : tie.Need-pick-requires Inv-loop μ-loop
 pick-requires c κs = search scan-state-laws
@@ -65,7 +66,7 @@ same-length-2 : tie.Need-same-length-2 Inv-loop μ-loop
 same-length-2 c = search scan-state-laws
 
 returns-2 : tie.Need-returns-2 Inv-loop μ-loop
-returns-2 c = search scan-state-laws
+returns-2 c = search states-done
 
 pub scan-states-spec : {M : Type 1} → statement M
 scan-states-spec =

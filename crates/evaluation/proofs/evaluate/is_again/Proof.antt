@@ -1,4 +1,4 @@
-use Rattle.evaluation.proofs.EvaluateLaws.{table-laws}
+use Rattle.evaluation.proofs.EvaluateLaws.{table-laws, again-tested, again-late}
 use Rattle.evaluation.proofs.evaluate.is_again.Statement.{statement}
 use Rattle.evaluation.proofs.evaluate.is_again.Tie as tie
 
@@ -15,10 +15,10 @@ shared-slice-read-result-2 : tie.Need-shared-slice-read-result-2
 shared-slice-read-result-2 c = search table-laws
 
 returns : tie.Need-returns
-returns c = search table-laws
+returns c = search again-tested
 
 returns-2 : tie.Need-returns-2
-returns-2 c = search table-laws
+returns-2 c = search again-late
 
 pub is-again-spec : {M : Type 1} → statement M
 is-again-spec =

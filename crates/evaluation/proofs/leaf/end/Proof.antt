@@ -1,4 +1,4 @@
-use Rattle.evaluation.proofs.LeafLaws.{leaf-laws}
+use Rattle.evaluation.proofs.LeafLaws.{leaf-laws, end-row}
 use Rattle.evaluation.proofs.leaf.end.Statement.{statement}
 use Rattle.evaluation.proofs.leaf.end.Tie as tie
 
@@ -15,7 +15,7 @@ until-requires : tie.Need-until-requires
 until-requires c κs = search leaf-laws
 
 returns : tie.Need-returns
-returns c = search leaf-laws
+returns c = search end-row
 
 pub end-spec : {M : Type 1} → statement M
 end-spec = tie.close (tie.spec run-requires not-requires none-requires until-requires returns)

@@ -1,4 +1,4 @@
-use Rattle.evaluation.proofs.PairLaws.{pair-laws}
+use Rattle.evaluation.proofs.PairLaws.{pair-laws, not-pair, or-pair, next-pair, until-pair, prev-pair, since-pair}
 use Rattle.evaluation.proofs.pair.operate.Statement.{statement}
 use Rattle.evaluation.proofs.pair.operate.Tie as tie
 
@@ -9,7 +9,7 @@ not-requires-2 : tie.Need-not-requires-2
 not-requires-2 c κs = search pair-laws
 
 returns : tie.Need-returns
-returns c = search pair-laws
+returns c = search not-pair
 
 or-requires : tie.Need-or-requires
 or-requires c κs = search pair-laws
@@ -18,7 +18,7 @@ or-requires-2 : tie.Need-or-requires-2
 or-requires-2 c κs = search pair-laws
 
 returns-2 : tie.Need-returns-2
-returns-2 c = search pair-laws
+returns-2 c = search or-pair
 
 next-requires : tie.Need-next-requires
 next-requires c κs = search pair-laws
@@ -27,7 +27,7 @@ next-requires-2 : tie.Need-next-requires-2
 next-requires-2 c κs = search pair-laws
 
 returns-3 : tie.Need-returns-3
-returns-3 c = search pair-laws
+returns-3 c = search next-pair
 
 until-requires : tie.Need-until-requires
 until-requires c κs = search pair-laws
@@ -36,7 +36,7 @@ until-requires-2 : tie.Need-until-requires-2
 until-requires-2 c κs = search pair-laws
 
 returns-4 : tie.Need-returns-4
-returns-4 c = search pair-laws
+returns-4 c = search until-pair
 
 prev-requires : tie.Need-prev-requires
 prev-requires c κs = search pair-laws
@@ -45,7 +45,7 @@ prev-requires-2 : tie.Need-prev-requires-2
 prev-requires-2 c κs = search pair-laws
 
 returns-5 : tie.Need-returns-5
-returns-5 c = search pair-laws
+returns-5 c = search prev-pair
 
 since-requires : tie.Need-since-requires
 since-requires c κs = search pair-laws
@@ -54,7 +54,7 @@ since-requires-2 : tie.Need-since-requires-2
 since-requires-2 c κs = search pair-laws
 
 returns-6 : tie.Need-returns-6
-returns-6 c = search pair-laws
+returns-6 c = search since-pair
 
 pub operate-spec : {M : Type 1} → statement M
 operate-spec =

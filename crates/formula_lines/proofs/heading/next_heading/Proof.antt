@@ -1,5 +1,5 @@
 -- `next_heading` meets its contract.
-use Rattle.formula_lines.proofs.HeadingLaws.{heading-laws}
+use Rattle.formula_lines.proofs.HeadingLaws.{heading-laws, heading-unread, heading-malformed, heading-refused, heading-read}
 use borrow.Author.Needs.{needs}
 use Rattle.formula_lines.proofs.heading.next_heading.Statement.{statement}
 use Rattle.formula_lines.proofs.heading.next_heading.Tie as tie
@@ -8,7 +8,7 @@ end-refusal-requires : tie.Need-end-refusal-requires
 end-refusal-requires c κs = search needs
 
 returns : tie.Need-returns
-returns c = search heading-laws
+returns c = search heading-unread
 
 slice-aggregate-worded-decimals : tie.Need-slice-aggregate-worded-decimals
 slice-aggregate-worded-decimals c = search heading-laws
@@ -26,7 +26,7 @@ enum-told : tie.Need-enum-told
 enum-told c = search needs
 
 returns-2 : tie.Need-returns-2
-returns-2 c = search heading-laws
+returns-2 c = search heading-malformed
 
 cast-rule-heading-refusal : tie.Need-cast-rule-heading-refusal
 cast-rule-heading-refusal c = search needs
@@ -38,7 +38,7 @@ rule-heading-refusal-requires : tie.Need-rule-heading-refusal-requires
 rule-heading-refusal-requires c κs = search needs
 
 returns-3 : tie.Need-returns-3
-returns-3 c = search heading-laws
+returns-3 c = search heading-refused
 
 cast-t15 : tie.Need-cast-t15
 cast-t15 c = search needs
@@ -47,7 +47,7 @@ cast-t14 : tie.Need-cast-t14
 cast-t14 c = search needs
 
 returns-4 : tie.Need-returns-4
-returns-4 c = search heading-laws
+returns-4 c = search heading-read
 
 pub next-heading-spec : {M : Type 1} → statement M
 next-heading-spec =

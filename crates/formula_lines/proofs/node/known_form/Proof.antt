@@ -1,5 +1,5 @@
 -- `known_form` meets its contract.
-use Rattle.formula_lines.proofs.FormLaws.{known-laws}
+use Rattle.formula_lines.proofs.FormLaws.{known-laws, known-malformed, known-read}
 use borrow.Author.Needs.{needs}
 use Rattle.formula_lines.proofs.node.known_form.Statement.{statement}
 use Rattle.formula_lines.proofs.node.known_form.Tie as tie
@@ -17,7 +17,7 @@ enum-told : tie.Need-enum-told
 enum-told c = search needs
 
 returns : tie.Need-returns
-returns c = search known-laws
+returns c = search known-malformed
 
 cast-of-kind : tie.Need-cast-of-kind
 cast-of-kind c = search known-laws
@@ -29,7 +29,7 @@ of-kind-requires : tie.Need-of-kind-requires
 of-kind-requires c κs = search needs
 
 returns-2 : tie.Need-returns-2
-returns-2 c = search known-laws
+returns-2 c = search known-read
 
 pub known-form-spec : {M : Type 1} → statement M
 known-form-spec =

@@ -1,16 +1,16 @@
 -- `is_short` meets its contract: one law for each return (JoinLaws).
-use Rattle.joint_text.proofs.JoinLaws.{short-laws}
+use Rattle.joint_text.proofs.JoinLaws.{short-nodes, short-masks, short-states}
 use Rattle.joint_text.proofs.joint.is_short.Statement.{statement}
 use Rattle.joint_text.proofs.joint.is_short.Tie as tie
 
 returns : tie.Need-returns
-returns c = search short-laws
+returns c = search short-nodes
 
 returns-2 : tie.Need-returns-2
-returns-2 c = search short-laws
+returns-2 c = search short-masks
 
 returns-3 : tie.Need-returns-3
-returns-3 c = search short-laws
+returns-3 c = search short-states
 
 pub is-short-spec : {M : Type 1} → statement M
 is-short-spec = tie.close (tie.spec returns returns-2 returns-3)

@@ -1,5 +1,5 @@
 -- `refused_at` meets its contract: the line without its ending (JoinLaws).
-use Rattle.joint_text.proofs.JoinLaws.{part-laws}
+use Rattle.joint_text.proofs.JoinLaws.{refused-line}
 use borrow.Author.Needs.{needs}
 use Rattle.joint_text.proofs.joint.refused_at.Statement.{statement}
 use Rattle.joint_text.proofs.joint.refused_at.Tie as tie
@@ -17,7 +17,7 @@ first-line-requires : tie.Need-first-line-requires
 first-line-requires c κs = search needs
 
 returns : tie.Need-returns
-returns c = search part-laws
+returns c = search refused-line
 
 pub refused-at-spec : {M : Type 1} → statement M
 refused-at-spec =

@@ -1,5 +1,5 @@
 -- `scan_joint` meets its contract: one law for each return (JoinLaws).
-use Rattle.joint_text.proofs.JoinLaws.{scan-laws, count-fits}
+use Rattle.joint_text.proofs.JoinLaws.{scan-laws, count-fits, rule-refused, recording-refused, joint-accepted, joining-refused}
 use borrow.Author.Needs.{needs}
 use Rattle.joint_text.proofs.joint.scan_joint.Statement.{statement}
 use Rattle.joint_text.proofs.joint.scan_joint.Tie as tie
@@ -14,7 +14,7 @@ same-length : tie.Need-same-length
 same-length c = search needs
 
 returns : tie.Need-returns
-returns c = search scan-laws
+returns c = search rule-refused
 
 scan-recording-requires : tie.Need-scan-recording-requires
 scan-recording-requires c κs = search needs
@@ -32,7 +32,7 @@ same-length-4 : tie.Need-same-length-4
 same-length-4 c = search needs
 
 returns-2 : tie.Need-returns-2
-returns-2 c = search scan-laws
+returns-2 c = search recording-refused
 
 cast-t15 : tie.Need-cast-t15
 cast-t15 c = search scan-laws
@@ -56,7 +56,7 @@ same-length-7 : tie.Need-same-length-7
 same-length-7 c = search needs
 
 returns-3 : tie.Need-returns-3
-returns-3 c = search scan-laws
+returns-3 c = search joint-accepted
 
 refused-at-requires-3 : tie.Need-refused-at-requires-3
 refused-at-requires-3 c κs = search needs
@@ -71,7 +71,7 @@ same-length-10 : tie.Need-same-length-10
 same-length-10 c = search needs
 
 returns-4 : tie.Need-returns-4
-returns-4 c = search scan-laws
+returns-4 c = search joining-refused
 
 pub scan-joint-spec : {M : Type 1} → statement M
 scan-joint-spec =

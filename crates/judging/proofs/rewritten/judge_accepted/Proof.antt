@@ -1,6 +1,6 @@
 -- `judge_accepted` meets its contract.
 use borrow.Author.Needs.{needs}
-use Rattle.judging.proofs.RewrittenLaws.{accepted-laws}
+use Rattle.judging.proofs.RewrittenLaws.{accepted-laws, judged-locally}
 use Rattle.judging.proofs.rewritten.judge_accepted.Statement.{statement}
 use Rattle.judging.proofs.rewritten.judge_accepted.Tie as tie
 
@@ -23,7 +23,7 @@ same-length-2 : tie.Need-same-length-2
 same-length-2 c = search needs
 
 returns : tie.Need-returns
-returns c = search accepted-laws
+returns c = search judged-locally
 
 pub judge-accepted-spec : {M : Type 1} → statement M
 judge-accepted-spec =

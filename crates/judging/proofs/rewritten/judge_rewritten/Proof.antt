@@ -1,11 +1,11 @@
 -- `judge_rewritten` meets its contract.
 use borrow.Author.Needs.{needs}
-use Rattle.judging.proofs.RewrittenLaws.{judging-laws}
+use Rattle.judging.proofs.RewrittenLaws.{judging-laws, lent-short, refused, judged}
 use Rattle.judging.proofs.rewritten.judge_rewritten.Statement.{statement}
 use Rattle.judging.proofs.rewritten.judge_rewritten.Tie as tie
 
 returns : tie.Need-returns
-returns c = search judging-laws
+returns c = search lent-short
 
 local-refusal-requires : tie.Need-local-refusal-requires
 local-refusal-requires c κs = search needs
@@ -23,7 +23,7 @@ same-length-2 : tie.Need-same-length-2
 same-length-2 c = search needs
 
 returns-2 : tie.Need-returns-2
-returns-2 c = search judging-laws
+returns-2 c = search refused
 
 judge-accepted-requires : tie.Need-judge-accepted-requires
 judge-accepted-requires c κs = search judging-laws
@@ -35,7 +35,7 @@ same-length-4 : tie.Need-same-length-4
 same-length-4 c = search needs
 
 returns-3 : tie.Need-returns-3
-returns-3 c = search judging-laws
+returns-3 c = search judged
 
 pub judge-rewritten-spec : {M : Type 1} → statement M
 judge-rewritten-spec =

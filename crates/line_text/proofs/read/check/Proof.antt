@@ -1,4 +1,4 @@
-use Rattle.line_text.proofs.LineLaws.{check-laws}
+use Rattle.line_text.proofs.LineLaws.{check-laws, check-long, check-nothing, check-counted}
 use Rattle.line_text.proofs.read.check.Statement.{statement}
 use Rattle.line_text.proofs.read.check.Tie as tie
 use Rattle.line_text.proofs.read.check.Reads as reads
@@ -8,7 +8,7 @@ use Rattle.signs.proofs.scan.scan.Reads as scan-reads
 
 -- src/read.rt:26:9
 returns : tie.Need-returns
-returns c = search check-laws
+returns c = search check-long
 
 -- src/read.rt:31:27
 scan-requires : tie.Need-scan-requires
@@ -28,7 +28,7 @@ same-length c = search check-laws
 
 -- src/read.rt:32:9
 returns-2 : tie.Need-returns-2
-returns-2 c = search check-laws
+returns-2 c = search check-nothing
 
 -- src/read.rt:38:37
 slice-reshare-prefix-refusal : tie.Need-slice-reshare-prefix-refusal
@@ -48,7 +48,7 @@ same-length-2 c = search check-laws
 
 -- src/read.rt:21:1
 returns-3 : tie.Need-returns-3
-returns-3 c = search check-laws
+returns-3 c = search check-counted
 
 pub check-spec : {M : Type 1} → statement M
 check-spec =

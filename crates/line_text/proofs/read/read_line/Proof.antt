@@ -1,4 +1,4 @@
-use Rattle.line_text.proofs.LineLaws.{read-laws}
+use Rattle.line_text.proofs.LineLaws.{read-laws, read-short, read-refused, read-accepted}
 use Rattle.line_text.proofs.read.read_line.Statement.{statement}
 use Rattle.line_text.proofs.read.read_line.Tie as tie
 use Rattle.line_text.proofs.read.read_line.Reads as reads
@@ -9,7 +9,7 @@ use Rattle.phrases.proofs.read.arrows.Reads as arrows-reads
 
 -- src/read.rt:48:9
 returns : tie.Need-returns
-returns c = search read-laws
+returns c = search read-short
 
 -- src/read.rt:51:43
 slice-aggregate-check : tie.Need-slice-aggregate-check
@@ -29,7 +29,7 @@ same-length c = search read-laws
 
 -- src/read.rt:55:9
 returns-2 : tie.Need-returns-2
-returns-2 c = search read-laws
+returns-2 c = search read-refused
 
 -- src/read.rt:58:22
 array-share-prefix-codes : tie.Need-array-share-prefix-codes
@@ -53,7 +53,7 @@ same-length-2 c = search read-laws
 
 -- src/read.rt:44:1
 returns-3 : tie.Need-returns-3
-returns-3 c = search read-laws
+returns-3 c = search read-accepted
 
 pub read-line-spec : {M : Type 1} → statement M
 read-line-spec =

@@ -1,5 +1,5 @@
 -- `program::judge::judge` meets its contract.
-use Rattle.program.proofs.OutputLaws.{judge-laws}
+use Rattle.program.proofs.OutputLaws.{judge-laws, long-printed, texts-printed}
 use Rattle.program.proofs.judge.judge.Statement.{statement}
 use Rattle.program.proofs.judge.judge.Tie as tie
 
@@ -13,7 +13,7 @@ put-refused-requires : tie.Need-put-refused-requires
 put-refused-requires c κs = search judge-laws
 
 returns : tie.Need-returns
-returns c = search judge-laws
+returns c = search long-printed
 
 split-requires : tie.Need-split-requires
 split-requires c κs = search judge-laws
@@ -34,7 +34,7 @@ judge-texts-requires : tie.Need-judge-texts-requires
 judge-texts-requires c κs = search judge-laws
 
 returns-2 : tie.Need-returns-2
-returns-2 c = search judge-laws
+returns-2 c = search texts-printed
 
 pub judge-spec : {M : Type 1} → statement M
 judge-spec =

@@ -1,7 +1,7 @@
 -- `program::split::rule_length` meets its contract.
 use Prim.Native.Nat.{_-_}
 use lib.ListN.{length}
-use Rattle.program.proofs.SplitLaws.{Searched, search-laws}
+use Rattle.program.proofs.SplitLaws.{Searched, search-laws, searched-none, searched-open, searched-found, searched-less, searched-next, searched-end}
 use Rattle.program.proofs.split.rule_length.Statement.{statement}
 use Rattle.program.proofs.split.rule_length.Tie as tie
 
@@ -12,7 +12,7 @@ abbrev μ-loop : tie.MeasureT-loop
 μ-loop input at₀ at = length input - at
 
 loop-holds : tie.Need-loop-holds Inv-loop μ-loop
-loop-holds c = search search-laws
+loop-holds c = search searched-none
 
 sub-t : tie.Need-sub-t Inv-loop μ-loop
 sub-t c = search search-laws
@@ -27,25 +27,25 @@ first-line-requires : tie.Need-first-line-requires Inv-loop μ-loop
 first-line-requires c κs = search search-laws
 
 returns : tie.Need-returns Inv-loop μ-loop
-returns c = search search-laws
+returns c = search searched-open
 
 is-split-requires : tie.Need-is-split-requires Inv-loop μ-loop
 is-split-requires c κs = search search-laws
 
 returns-2 : tie.Need-returns-2 Inv-loop μ-loop
-returns-2 c = search search-laws
+returns-2 c = search searched-found
 
 add-at : tie.Need-add-at Inv-loop μ-loop
 add-at c = search search-laws
 
 loop-less : tie.Need-loop-less Inv-loop μ-loop
-loop-less c = search search-laws
+loop-less c = search searched-less
 
 loop-again : tie.Need-loop-again Inv-loop μ-loop
-loop-again c = search search-laws
+loop-again c = search searched-next
 
 returns-3 : tie.Need-returns-3 Inv-loop μ-loop
-returns-3 c = search search-laws
+returns-3 c = search searched-end
 
 pub rule-length-spec : {M : Type 1} → statement M
 rule-length-spec =

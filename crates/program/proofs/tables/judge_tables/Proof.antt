@@ -1,6 +1,6 @@
 -- `judge_tables` meets its contract.
 use borrow.Author.Needs.{needs}
-use Rattle.program.proofs.TableLaws.{table-laws}
+use Rattle.program.proofs.TableLaws.{table-laws, reported}
 use Rattle.program.proofs.tables.judge_tables.Statement.{statement}
 use Rattle.program.proofs.tables.judge_tables.Tie as tie
 
@@ -20,7 +20,7 @@ cast-t10 : tie.Need-cast-t10
 cast-t10 c = search table-laws
 
 returns : tie.Need-returns
-returns c = search table-laws
+returns c = search reported
 
 pub judge-tables-spec : {M : Type 1} → statement M
 judge-tables-spec =

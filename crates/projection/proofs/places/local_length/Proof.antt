@@ -1,6 +1,6 @@
 -- `projection::places::local_length` meets its contract.
 use borrow.Author.Needs.{needs}
-use Rattle.projection.proofs.LengthLaws.{length-laws}
+use Rattle.projection.proofs.LengthLaws.{length-laws, length-is}
 use Rattle.projection.proofs.places.local_length.Statement.{statement}
 use Rattle.projection.proofs.places.local_length.Tie as tie
 
@@ -23,7 +23,7 @@ add-result : tie.Need-add-result
 add-result c = search needs
 
 returns : tie.Need-returns
-returns c = search length-laws
+returns c = search length-is
 
 pub local-length-spec : {M : Type 1} → statement M
 local-length-spec =

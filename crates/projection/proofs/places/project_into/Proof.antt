@@ -1,6 +1,7 @@
 -- `projection::places::project_into` meets its contract.
+use borrow.Author.Needs.{needs}
 use Prim.Native.Nat.{_-_}
-use Rattle.projection.proofs.PlaceLaws.{Walked, walk-bounds, walk-laws, walk-next}
+use Rattle.projection.proofs.PlaceLaws.{Walked, walk-bounds, walk-laws, walk-next, walk-start}
 use Rattle.projection.proofs.places.project_into.Statement.{statement}
 use Rattle.projection.proofs.places.project_into.Tie as tie
 
@@ -14,7 +15,7 @@ sub-last : tie.Need-sub-last Inv-loop μ-loop
 sub-last c = search walk-bounds
 
 loop-holds : tie.Need-loop-holds Inv-loop μ-loop
-loop-holds c = search walk-laws
+loop-holds c = search walk-start
 
 mul-state : tie.Need-mul-state Inv-loop μ-loop
 mul-state c = search walk-bounds
@@ -50,7 +51,7 @@ add-k : tie.Need-add-k Inv-loop μ-loop
 add-k c = search walk-bounds
 
 loop-less : tie.Need-loop-less Inv-loop μ-loop
-loop-less c = search walk-bounds
+loop-less c = search needs
 
 loop-again : tie.Need-loop-again Inv-loop μ-loop
 loop-again c =

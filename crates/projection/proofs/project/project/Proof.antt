@@ -1,6 +1,6 @@
 -- `projection::project::project` meets its contract.
 use borrow.Author.Needs.{needs}
-use Rattle.projection.proofs.ProjectLaws.{project-laws}
+use Rattle.projection.proofs.ProjectLaws.{project-laws, project-refused, project-accepted}
 use Rattle.projection.proofs.project.project.Statement.{statement}
 use Rattle.projection.proofs.project.project.Tie as tie
 
@@ -23,7 +23,7 @@ same-length : tie.Need-same-length
 same-length c = search needs
 
 returns : tie.Need-returns
-returns c = search project-laws
+returns c = search project-refused
 
 local-length-requires : tie.Need-local-length-requires
 local-length-requires c κs = search project-laws
@@ -41,7 +41,7 @@ same-length-2 : tie.Need-same-length-2
 same-length-2 c = search needs
 
 returns-2 : tie.Need-returns-2
-returns-2 c = search project-laws
+returns-2 c = search project-accepted
 
 pub project-spec : {M : Type 1} → statement M
 project-spec =

@@ -1,5 +1,5 @@
 -- `in_tables` meets its contract.
-use Rattle.refused_line.proofs.FindLaws.{table-laws}
+use Rattle.refused_line.proofs.FindLaws.{table-laws, accepted-nowhere, rule-line, recording-line}
 use Rattle.refused_line.proofs.find.in_tables.Statement.{statement}
 use Rattle.refused_line.proofs.find.in_tables.Tie as tie
 
@@ -16,7 +16,7 @@ same-length-3 : tie.Need-same-length-3
 same-length-3 c = search table-laws
 
 returns : tie.Need-returns
-returns c = search table-laws
+returns c = search accepted-nowhere
 
 line-number-requires : tie.Need-line-number-requires
 line-number-requires c κs = search table-laws
@@ -31,7 +31,7 @@ same-length-6 : tie.Need-same-length-6
 same-length-6 c = search table-laws
 
 returns-2 : tie.Need-returns-2
-returns-2 c = search table-laws
+returns-2 c = search rule-line
 
 line-number-requires-2 : tie.Need-line-number-requires-2
 line-number-requires-2 c κs = search table-laws
@@ -46,7 +46,7 @@ same-length-9 : tie.Need-same-length-9
 same-length-9 c = search table-laws
 
 returns-3 : tie.Need-returns-3
-returns-3 c = search table-laws
+returns-3 c = search recording-line
 
 pub in-tables-spec : {M : Type 1} → statement M
 in-tables-spec =

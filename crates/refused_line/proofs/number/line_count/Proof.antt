@@ -1,7 +1,7 @@
 -- `line_count` meets its contract.
 use Prim.Native.Nat.{_-_}
 use lib.ListN.{length}
-use Rattle.refused_line.proofs.NumberLaws.{Counted, count-laws}
+use Rattle.refused_line.proofs.NumberLaws.{Counted, count-laws, counted-none, counted-less, counted-next, counted-end}
 use Rattle.refused_line.proofs.number.line_count.Statement.{statement}
 use Rattle.refused_line.proofs.number.line_count.Tie as tie
 
@@ -12,7 +12,7 @@ abbrev μ-loop : tie.MeasureT-loop
 μ-loop text count₀ at₀ count at = length text - at
 
 loop-holds : tie.Need-loop-holds Inv-loop μ-loop
-loop-holds c = search count-laws
+loop-holds c = search counted-none
 
 sub-first-line : tie.Need-sub-first-line Inv-loop μ-loop
 sub-first-line c = search count-laws
@@ -33,13 +33,13 @@ add-count : tie.Need-add-count Inv-loop μ-loop
 add-count c = search count-laws
 
 loop-less : tie.Need-loop-less Inv-loop μ-loop
-loop-less c = search count-laws
+loop-less c = search counted-less
 
 loop-again : tie.Need-loop-again Inv-loop μ-loop
-loop-again c = search count-laws
+loop-again c = search counted-next
 
 returns : tie.Need-returns Inv-loop μ-loop
-returns c = search count-laws
+returns c = search counted-end
 
 pub line-count-spec : {M : Type 1} → statement M
 line-count-spec =

@@ -1,7 +1,7 @@
 -- `store` meets its contract: three words are set one after the other (StoredLaws).
 use native.Mathlib.Omega.{arith}
 use lib.ListN.{length-set}
-use Rattle.rows.proofs.StoredLaws.{stored-laws}
+use Rattle.rows.proofs.StoredLaws.{stored-laws, stored}
 use Rattle.rows.proofs.stored.store.Statement.{statement}
 use Rattle.rows.proofs.stored.store.Tie as tie
 
@@ -39,7 +39,7 @@ same-length : tie.Need-same-length
 same-length c = search stored-laws
 
 returns : tie.Need-returns
-returns c = search stored-laws
+returns c = search stored
 
 pub store-spec : {M : Type 1} → statement M
 store-spec =

@@ -1,4 +1,4 @@
-use Rattle.sentences.proofs.TallyLaws.{refusal-laws}
+use Rattle.sentences.proofs.TallyLaws.{refusal-laws, of-tally-made}
 use Rattle.sentences.proofs.refusal.of_tally.Statement.{statement}
 use Rattle.sentences.proofs.refusal.of_tally.Tie as tie
 use Rattle.sentences.proofs.refusal.of_tally.Reads as reads
@@ -19,7 +19,7 @@ pick-requires-3 c κs = search refusal-laws
 
 -- src/refusal.rt:16:1
 returns : tie.Need-returns
-returns c = search refusal-laws
+returns c = search of-tally-made
 
 pub of-tally-spec : {M : Type 1} → statement M
 of-tally-spec = tie.close (tie.spec pick-requires pick-requires-2 pick-requires-3 returns)

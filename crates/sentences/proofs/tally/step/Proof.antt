@@ -1,4 +1,4 @@
-use Rattle.sentences.proofs.TallyLaws.{step-laws}
+use Rattle.sentences.proofs.TallyLaws.{step-laws, step-made}
 use Rattle.sentences.proofs.tally.step.Statement.{statement}
 use Rattle.sentences.proofs.tally.step.Tie as tie
 use Rattle.sentences.proofs.tally.step.Reads as reads
@@ -43,7 +43,7 @@ add-t12 c = search step-laws
 
 -- src/tally.rt:93:1
 returns : tie.Need-returns
-returns c = search step-laws
+returns c = search step-made
 
 pub step-spec : {M : Type 1} → statement M
 step-spec =

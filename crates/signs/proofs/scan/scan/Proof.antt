@@ -1,4 +1,4 @@
-use Rattle.signs.proofs.ScanLaws.{scan-laws, Scanning}
+use Rattle.signs.proofs.ScanLaws.{scan-laws, Scanning, scan-start, scan-last, scan-less, scan-again, scan-none, scan-end}
 use Prim.Native.Nat.{_-_}
 use lib.ListN.{length}
 use Rattle.signs.proofs.scan.scan.Statement.{statement}
@@ -16,7 +16,7 @@ abbrev μ-loop : tie.MeasureT-loop
 
 -- src/scan.rt:21:5
 loop-holds : tie.Need-loop-holds Inv-loop μ-loop
-loop-holds c = search scan-laws
+loop-holds c = search scan-start
 
 -- src/scan.rt:22:15
 sign-at-requires : tie.Need-sign-at-requires Inv-loop μ-loop
@@ -40,7 +40,7 @@ same-length c = search scan-laws
 
 -- src/scan.rt:27:21
 returns : tie.Need-returns Inv-loop μ-loop
-returns c = search scan-laws
+returns c = search scan-last
 
 -- src/scan.rt:29:17
 after-space-requires : tie.Need-after-space-requires Inv-loop μ-loop
@@ -48,11 +48,11 @@ after-space-requires c κs = search scan-laws
 
 -- src/scan.rt:21:5
 loop-less : tie.Need-loop-less Inv-loop μ-loop
-loop-less c = search scan-laws
+loop-less c = search scan-less
 
 -- src/scan.rt:21:5
 loop-again : tie.Need-loop-again Inv-loop μ-loop
-loop-again c = search scan-laws
+loop-again c = search scan-again
 
 -- src/scan.rt:32:17
 enum-told : tie.Need-enum-told Inv-loop μ-loop
@@ -64,7 +64,7 @@ same-length-2 c = search scan-laws
 
 -- src/scan.rt:32:17
 returns-2 : tie.Need-returns-2 Inv-loop μ-loop
-returns-2 c = search scan-laws
+returns-2 c = search scan-none
 
 -- src/scan.rt:15:1
 same-length-3 : tie.Need-same-length-3 Inv-loop μ-loop
@@ -72,7 +72,7 @@ same-length-3 c = search scan-laws
 
 -- src/scan.rt:15:1
 returns-3 : tie.Need-returns-3 Inv-loop μ-loop
-returns-3 c = search scan-laws
+returns-3 c = search scan-end
 
 pub scan-spec : {M : Type 1} → statement M
 scan-spec =

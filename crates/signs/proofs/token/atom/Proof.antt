@@ -1,4 +1,4 @@
-use Rattle.signs.proofs.TokenLaws.{atom-laws}
+use Rattle.signs.proofs.TokenLaws.{atom-laws, atom-low, atom-high}
 use Rattle.signs.proofs.token.atom.Statement.{statement}
 use Rattle.signs.proofs.token.atom.Tie as tie
 use Rattle.signs.proofs.token.atom.Reads as reads
@@ -18,7 +18,7 @@ add-result c = search atom-laws
 
 -- src/token.rt:97:9
 returns : tie.Need-returns
-returns c = search atom-laws
+returns c = search atom-low
 
 -- src/token.rt:99:18
 cast-result-2 : tie.Need-cast-result-2
@@ -30,7 +30,7 @@ add-result-2 c = search atom-laws
 
 -- src/token.rt:93:1
 returns-2 : tie.Need-returns-2
-returns-2 c = search atom-laws
+returns-2 c = search atom-high
 
 pub atom-spec : {M : Type 1} → statement M
 atom-spec =

@@ -1,6 +1,6 @@
 -- `traces::check::heading_refusal` meets its contract.
 use borrow.Author.Needs.{needs}
-use Rattle.traces.proofs.CheckLaws.{test-laws}
+use Rattle.traces.proofs.CheckLaws.{heading-is}
 use Rattle.traces.proofs.check.heading_refusal.Statement.{statement}
 use Rattle.traces.proofs.check.heading_refusal.Tie as tie
 
@@ -17,7 +17,7 @@ pick-requires-4 : tie.Need-pick-requires-4
 pick-requires-4 c κs = search needs
 
 returns : tie.Need-returns
-returns c = search test-laws
+returns c = search heading-is
 
 pub heading-refusal-spec : {M : Type 1} → statement M
 heading-refusal-spec =

@@ -1,6 +1,6 @@
 -- `traces::check::recording_refusal` meets its contract.
 use borrow.Author.Needs.{needs}
-use Rattle.traces.proofs.CheckLaws.{heading-bounds, recording-is, recording-laws}
+use Rattle.traces.proofs.CheckLaws.{heading-bounds, recording-is, recording-heading}
 use Rattle.traces.proofs.check.recording_refusal.Statement.{statement}
 use Rattle.traces.proofs.check.recording_refusal.Tie as tie
 
@@ -8,7 +8,7 @@ heading-refusal-requires : tie.Need-heading-refusal-requires
 heading-refusal-requires c κs = search needs
 
 returns : tie.Need-returns
-returns c = search recording-laws
+returns c = search recording-heading
 
 masks-refusal-requires : tie.Need-masks-refusal-requires
 masks-refusal-requires c κs = search needs

@@ -1,6 +1,6 @@
 -- `traces::check::state_limit` meets its contract.
 use borrow.Author.Needs.{needs}
-use Rattle.traces.proofs.CheckLaws.{state-laws}
+use Rattle.traces.proofs.CheckLaws.{limit-is}
 use Rattle.traces.proofs.check.state_limit.Statement.{statement}
 use Rattle.traces.proofs.check.state_limit.Tie as tie
 
@@ -8,7 +8,7 @@ shl-result : tie.Need-shl-result
 shl-result c = search needs
 
 returns : tie.Need-returns
-returns c = search state-laws
+returns c = search limit-is
 
 pub state-limit-spec : {M : Type 1} → statement M
 state-limit-spec = tie.close (tie.spec shl-result returns)

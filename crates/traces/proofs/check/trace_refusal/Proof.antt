@@ -1,6 +1,6 @@
 -- `traces::check::trace_refusal` meets its contract.
 use borrow.Author.Needs.{needs}
-use Rattle.traces.proofs.CheckLaws.{recording-laws}
+use Rattle.traces.proofs.CheckLaws.{joining-is}
 use Rattle.traces.proofs.check.trace_refusal.Statement.{statement}
 use Rattle.traces.proofs.check.trace_refusal.Tie as tie
 
@@ -14,7 +14,7 @@ or-else-requires : tie.Need-or-else-requires
 or-else-requires c κs = search needs
 
 returns : tie.Need-returns
-returns c = search recording-laws
+returns c = search joining-is
 
 pub trace-refusal-spec : {M : Type 1} → statement M
 trace-refusal-spec = tie.close (tie.spec recording-refusal-requires pick-requires or-else-requires returns)

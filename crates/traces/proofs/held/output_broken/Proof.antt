@@ -1,6 +1,6 @@
 -- `traces::held::output_broken` meets its contract.
 use borrow.Author.Needs.{needs}
-use Rattle.traces.proofs.HeldLaws.{held-laws}
+use Rattle.traces.proofs.HeldLaws.{broken-is}
 use Rattle.traces.proofs.held.output_broken.Statement.{statement}
 use Rattle.traces.proofs.held.output_broken.Tie as tie
 
@@ -26,7 +26,7 @@ held-changed-requires : tie.Need-held-changed-requires
 held-changed-requires c κs = search needs
 
 returns : tie.Need-returns
-returns c = search held-laws
+returns c = search broken-is
 
 pub output-broken-spec : {M : Type 1} → statement M
 output-broken-spec =

@@ -1,7 +1,7 @@
 -- `traces::masks::masks_refusal` meets its contract.
 use Prim.Native.Nat.{_-_}
 use borrow.Author.Needs.{needs}
-use Rattle.traces.proofs.CheckLaws.{MasksLeft, mask-laws}
+use Rattle.traces.proofs.CheckLaws.{MasksLeft, masks-start, masks-missing, masks-refused, masks-next, masks-end}
 use Rattle.traces.proofs.masks.masks_refusal.Statement.{statement}
 use Rattle.traces.proofs.masks.masks_refusal.Tie as tie
 
@@ -12,10 +12,10 @@ abbrev μ-loop : tie.MeasureT-loop
 μ-loop controllers masks seen₀ c₀ seen c = controllers - c
 
 loop-holds : tie.Need-loop-holds Inv-loop μ-loop
-loop-holds c = search mask-laws
+loop-holds c = search masks-start
 
 returns : tie.Need-returns Inv-loop μ-loop
-returns c = search mask-laws
+returns c = search masks-missing
 
 mul-mask : tie.Need-mul-mask Inv-loop μ-loop
 mul-mask c = search needs
@@ -27,7 +27,7 @@ mask-refusal-requires : tie.Need-mask-refusal-requires Inv-loop μ-loop
 mask-refusal-requires c κs = search needs
 
 returns-2 : tie.Need-returns-2 Inv-loop μ-loop
-returns-2 c = search mask-laws
+returns-2 c = search masks-refused
 
 add-c : tie.Need-add-c Inv-loop μ-loop
 add-c c = search needs
@@ -36,10 +36,10 @@ loop-less : tie.Need-loop-less Inv-loop μ-loop
 loop-less c = search needs
 
 loop-again : tie.Need-loop-again Inv-loop μ-loop
-loop-again c = search mask-laws
+loop-again c = search masks-next
 
 returns-3 : tie.Need-returns-3 Inv-loop μ-loop
-returns-3 c = search mask-laws
+returns-3 c = search masks-end
 
 pub masks-refusal-spec : {M : Type 1} → statement M
 masks-refusal-spec =

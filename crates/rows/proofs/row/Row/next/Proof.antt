@@ -1,5 +1,5 @@
 -- `Row::next` meets its contract: the row one place on, and the ending at its last place (RowLaws).
-use Rattle.rows.proofs.RowLaws.{row-laws}
+use Rattle.rows.proofs.RowLaws.{row-laws, next-made}
 use Rattle.rows.proofs.row.Row.next.Statement.{statement}
 use Rattle.rows.proofs.row.Row.next.Tie as tie
 
@@ -22,7 +22,7 @@ or-requires : tie.Need-or-requires
 or-requires c κs = search row-laws
 
 returns : tie.Need-returns
-returns c = search row-laws
+returns c = search next-made
 
 pub next-spec : {M : Type 1} → statement M
 next-spec =

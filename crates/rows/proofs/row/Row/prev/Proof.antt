@@ -1,5 +1,5 @@
 -- `Row::prev` meets its contract: the low word carries into the high, and the full row cuts (RowLaws).
-use Rattle.rows.proofs.RowLaws.{row-laws}
+use Rattle.rows.proofs.RowLaws.{row-laws, prev-made}
 use Rattle.rows.proofs.row.Row.prev.Statement.{statement}
 use Rattle.rows.proofs.row.Row.prev.Tie as tie
 
@@ -25,7 +25,7 @@ high-requires-2 : tie.Need-high-requires-2
 high-requires-2 c κs = search row-laws
 
 returns : tie.Need-returns
-returns c = search row-laws
+returns c = search prev-made
 
 pub prev-spec : {M : Type 1} → statement M
 prev-spec =

@@ -1,5 +1,5 @@
 -- `Row::since` meets its contract: the low word carries into the high (RowLaws).
-use Rattle.rows.proofs.RowLaws.{row-laws}
+use Rattle.rows.proofs.RowLaws.{row-laws, since-made}
 use Rattle.rows.proofs.row.Row.since.Statement.{statement}
 use Rattle.rows.proofs.row.Row.since.Tie as tie
 
@@ -28,7 +28,7 @@ since-word-requires-2 : tie.Need-since-word-requires-2
 since-word-requires-2 c κs = search row-laws
 
 returns : tie.Need-returns
-returns c = search row-laws
+returns c = search since-made
 
 pub since-spec : {M : Type 1} → statement M
 since-spec =

@@ -1,5 +1,5 @@
 -- `Row::until` meets its contract: the ending enters at the last place, the high word at the end of the low (RowLaws).
-use Rattle.rows.proofs.RowLaws.{row-laws}
+use Rattle.rows.proofs.RowLaws.{row-laws, until-made}
 use Rattle.rows.proofs.row.Row.until.Statement.{statement}
 use Rattle.rows.proofs.row.Row.until.Tie as tie
 
@@ -37,7 +37,7 @@ until-word-requires-2 : tie.Need-until-word-requires-2
 until-word-requires-2 c κs = search row-laws
 
 returns : tie.Need-returns
-returns c = search row-laws
+returns c = search until-made
 
 pub until-spec : {M : Type 1} → statement M
 until-spec =

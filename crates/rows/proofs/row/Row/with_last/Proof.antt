@@ -1,5 +1,5 @@
 -- `Row::with_last` meets its contract: its last mark is cut off, then put (RowLaws).
-use Rattle.rows.proofs.RowLaws.{row-laws}
+use Rattle.rows.proofs.RowLaws.{row-laws, last-made}
 use Rattle.rows.proofs.row.Row.with_last.Statement.{statement}
 use Rattle.rows.proofs.row.Row.with_last.Tie as tie
 
@@ -19,7 +19,7 @@ or-requires : tie.Need-or-requires
 or-requires c κs = search row-laws
 
 returns : tie.Need-returns
-returns c = search row-laws
+returns c = search last-made
 
 pub with-last-spec : {M : Type 1} → statement M
 with-last-spec =
