@@ -1,0 +1,27 @@
+-- What printing of an accepted rule and recording asks: space for the longest lines there can be.
+use mathlib.Core.List.{List}
+use Prim.Native.Nat.{ℕ, _+_, _*_, _≤_}
+use lib.ListN.{length}
+use Rattle.definitions.specs.Limits.{maxPairs}
+use Rattle.definitions.specs.Tables.{Rule}
+use Rattle.definitions.specs.Recordings.{Recording}
+use Rattle.theorems.proofs.ScheduleIndependence.{Accepted}
+use Rattle.evidence_text.specs.Pairs.{maxPairBytes}
+
+-- the longest line of a verdict, `strong yes`
+abbrev pub maxVerdictBytes : ℕ
+maxVerdictBytes = 11
+
+-- with a line for each of the most pairs that lent space can hold
+abbrev pub maxBehindBytes : ℕ
+maxBehindBytes = maxVerdictBytes + maxPairs * maxPairBytes
+
+-- space for the lines of the pairs
+pub record LinesReady (r : Rule) (R : Recording) (at : ℕ) (text : List ℕ) : Type 0 where
+  pub accepted : Accepted r R
+  pub room : at + maxPairs * maxPairBytes ≤ length text
+
+-- and for the verdict before them
+pub record BehindReady (r : Rule) (R : Recording) (text : List ℕ) : Type 0 where
+  pub accepted : Accepted r R
+  pub room : maxBehindBytes ≤ length text

@@ -1,0 +1,68 @@
+// The verdict, and a line for each reading behind it.
+ghost use Rattle.definitions.specs.Why.{foundLines, behindText};
+ghost use Rattle.definitions.specs.Tables.{nodesIn};
+ghost use Rattle.definitions.specs.Operations.{evidenceOf};
+ghost use Rattle.printing.specs.Printing.{Printed};
+ghost use Rattle.judges.specs.Headings.{ruleIn, recordingIn};
+ghost use Rattle.behind_text.specs.Behind.{LinesReady, BehindReady};
+use super::verdict::verdict_line;
+use evidence::accepted::evidence_accepted;
+use evidence_text::line::put_pairs;
+use formulas::limits::Limits;
+use judges::headings::RecordingHeading;
+use judges::headings::RuleHeading;
+use judges::local::judge_accepted;
+use printing::put;
+use projection::places::project_into;
+use traces::masks::mask_at;
+
+// The readings behind the verdict, in space of their own.
+fn put_evidence(
+    weak: bool,
+    rule: RuleHeading,
+    nodes: &[u32],
+    recording: RecordingHeading,
+    masks: &[u32],
+    states: &[u64],
+    at: usize,
+    text: &mut [u8],
+) -> usize
+    requires { ⌜ LinesReady (ruleIn rule (now nodes)) (recordingIn recording (now masks) (now states)) at (now text) ⌝ }
+    ensures { λ r. ⌜ Printed (foundLines (recordingIn recording (now (masks .entry)) (now (states .entry))) (rule .controller) (nodesIn (rule .count) (now (nodes .entry))) (evidenceOf (ruleIn rule (now (nodes .entry))) (recordingIn recording (now (masks .entry)) (now (states .entry))) weak)) (now (text .entry)) at r (now (text .exit)) ⌝ }
+{
+    let c = rule.controller;
+    let mut places = [0u32; Limits::STATES];
+    let mut pairs = [0u32; Limits::PAIRS];
+    project_into(recording.count, mask_at(masks, c), c, states, &mut places);
+    let count = evidence_accepted(rule, nodes, recording, masks, states, weak, &mut pairs);
+    put_pairs(
+        rule,
+        nodes,
+        recording,
+        states,
+        &places,
+        &pairs[..count],
+        at,
+        text,
+    )
+}
+
+// The verdict and what is behind it.
+pub fn put_behind(
+    weak: bool,
+    rule: RuleHeading,
+    nodes: &[u32],
+    recording: RecordingHeading,
+    masks: &[u32],
+    states: &[u64],
+    text: &mut [u8],
+) -> usize
+    requires { ⌜ BehindReady (ruleIn rule (now nodes)) (recordingIn recording (now masks) (now states)) (now text) ⌝ }
+    ensures { λ r. ⌜ Printed (behindText weak (rule .controller) (nodesIn (rule .count) (now (nodes .entry))) (recordingIn recording (now (masks .entry)) (now (states .entry)))) (now (text .entry)) 0 r (now (text .exit)) ⌝ }
+{
+    let line = verdict_line(weak, judge_accepted(rule, nodes, recording, masks, states));
+    let bytes = line.bytes;
+    let count = line.count;
+    let after = put(&bytes[..count], 0, text);
+    put_evidence(weak, rule, nodes, recording, masks, states, after, text)
+}
