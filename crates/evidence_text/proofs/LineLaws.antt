@@ -43,7 +43,7 @@ module _ (c : ℕ) (nodes : List ℕ) (N : ℕ) (states places : List ℕ) (w : 
 
     module _ (s : ℕ) (at : s ≡ stateOfPlace (statesOnly N states) c (w / 64)) where
       pub state-fits : Fits w32 s
-      state-fits = record { fits = omega (arith, state-low N c (w / 64) states (so .recording .someState), so .recording .fewStates) }
+      state-fits = record { fits = omega (arith, state-low (statesOnly N states) c (w / 64) (so .recording .someState), so .recording .fewStates) }
 
       pub line-is : pairText s (w / 64) (x .first) (getD places (w / 64) 0 / 2 ^ (x .first) % 2) (w % 64) ≡ pairIn c nodes N states places (pairOf w)
       unfolding pairIn

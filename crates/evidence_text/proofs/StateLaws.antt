@@ -14,7 +14,7 @@ use borrow.Author.Needs.{needs}
 use borrow.Author.Tests.{lt-ltb, eqb-true, eqb-false}
 use Rattle.definitions.specs.Limits.{maxStates}
 use Rattle.definitions.specs.Bounded.{pick}
-use Rattle.definitions.specs.Recordings.{marked, runsAt}
+use Rattle.definitions.specs.Recordings.{Recording, marked, runsAt}
 use Rattle.definitions.specs.Projection.{runStates, afterLast}
 use Rattle.definitions.specs.Why.{stateOfPlace}
 use Rattle.theorems.proofs.Choice.{by-test, both-true}
@@ -55,20 +55,20 @@ module _ (run : ℕ → Bool) where
       go true f = end (runStates run n) f k
       go false f = rw append-nil (f k)
 
-abbrev runIn : ℕ → ℕ → List ℕ → ℕ → Bool
-runIn N c states k = runsAt (statesOnly N states) c k
-
--- "of the N states": a place's state is one of them
-pub state-low : (N c k : ℕ) (states : List ℕ) → 0 < N → stateOfPlace (statesOnly N states) c k < N
+-- a place's state is one of the N states
+pub state-low : (R : Recording) (c k : ℕ) → 0 < R .count → stateOfPlace R c k < R .count
 unfolding stateOfPlace
-state-low N c k states h =
-    let run : ℕ → Bool = runIn N c states in
-    let e : runStates run N ≡ runStates run (N - 1) = last-adds-none (statesOnly N states) c h in
-    let l : getD (runStates run (N - 1)) k (afterLast (runStates run (N - 1))) ≤ N - 1 =
-    runs-near run (N - 1) (N - 1) (omega arith) k (afterLast (runStates run (N - 1))) (after-near run (N - 1)) in
+state-low R c k h =
+    let run : ℕ → Bool = runsAt R c in
+    let n : ℕ = R .count - 1 in
+    let e : runStates run (R .count) ≡ runStates run n = last-adds-none R c h in
+    let l : getD (runStates run n) k (afterLast (runStates run n)) ≤ n = runs-near run n n (omega arith) k (afterLast (runStates run n)) (after-near run n) in
     rw e (omega arith)
 
 -- ---- the loop
+abbrev runIn : ℕ → ℕ → List ℕ → ℕ → Bool
+runIn N c states k = runsAt (statesOnly N states) c k
+
 -- before state s, the last one at most: so many runs, place k is none of them, and the state after the last of them
 pub record Counted (N c k : ℕ) (states : List ℕ) (here after s : ℕ) : Type 0 where
   pub within : s < N

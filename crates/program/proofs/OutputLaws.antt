@@ -38,7 +38,7 @@ use Rattle.program.specs.declared.split.Parts.{Parts}
 use Rattle.program.proofs.RecordingAccepted.{TextsAccepted, texts-accepted, recording-fine, masks-count, states-count}
 
 -- ---- how long a refusal is
-refused-length : (n : ℕ) (line : List ℕ) → n < 100 → length line ≤ maxInputBytes → length (refusedText n line) ≤ maxOutputBytes
+pub refused-length : (n : ℕ) (line : List ℕ) → n < 100 → length line ≤ maxInputBytes → length (refusedText n line) ≤ maxOutputBytes
 unfolding refusedText
 refused-length n line h l =
     omega (
@@ -79,7 +79,7 @@ module _ (x y r : RefT (List ℕ)) (nodes masks states nodes′ masks′ states�
   unfolding readJointHeading
   heading-is = j .heading ∙ rw number-is
 
-  first-is : getD heading 0 0 ≡ R
+  pub first-is : getD heading 0 0 ≡ R
   first-is = ap (λ (l : List ℕ). getD l 0 0) heading-is
 
   -- refused
@@ -93,7 +93,7 @@ module _ (x y r : RefT (List ℕ)) (nodes masks states nodes′ masks′ states�
     chosen true = refl
     chosen false = refl
 
-    line-is : r .now ≡ bytesOf (x .now) (y .now) (jointPart (x .now) (y .now))
+    pub line-is : r .now ≡ bytesOf (x .now) (y .now) (jointPart (x .now) (y .now))
     line-is = j .part .reads ∙ rw (part-is, chosen ((jointPart (x .now) (y .now)) .ofRule))
 
     chosen-length : (b : Bool) → length (pick b (x .now) (y .now)) ≤ maxInputBytes
@@ -117,7 +117,7 @@ module _ (x y r : RefT (List ℕ)) (nodes masks states nodes′ masks′ states�
 
   -- accepted
   module _ (z : getD heading 0 0 ≡ 0) where
-    accepts : R ≡ 0
+    pub accepts : R ≡ 0
     accepts = sym first-is ∙ z
 
     texts : TextsAccepted (x .now) (y .now)
@@ -157,10 +157,10 @@ module _ (x y r : RefT (List ℕ)) (nodes masks states nodes′ masks′ states�
     states-held =
         held maxStates (getD heading 4 0) ((scanRecording (y .now)) .states) states states′ (states-count (y .now) (texts .recordingRead) ∙ sym states-are) (rw zero at (j .statesLeft))
 
-    recording-is : foundRecording heading masks′ states′ ≡ scanned (scanRecording (y .now))
+    pub recording-is : foundRecording heading masks′ states′ ≡ scanned (scanRecording (y .now))
     recording-is = rw (masks-held, states-held, controllers-are, states-are)
 
-    rule-is : foundRule heading nodes′
+    pub rule-is : foundRule heading nodes′
         ≡ ruleOf ((scanRule (x .now)) .controller) ((scanRule (x .now)) .count) ((scanRule (x .now)) .words)
     rule-is = rw (nodes-held, controller-is, count-is)
 

@@ -10,7 +10,7 @@ pub enum Asked {
 }
 
 // The first line is closed, and one of two words.
-pub fn asked(input: &[u8]) -> Asked
+pub fn asked_by(input: &[u8]) -> Asked
     ensures { λ r. ⌜ AskedIs (now (input .entry)) r ⌝ }
 {
     let line = first_line(input);

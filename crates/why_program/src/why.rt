@@ -6,7 +6,7 @@ ghost use Rattle.printing.specs.Printing.{Printed};
 ghost use Rattle.program.specs.Output.{foundRule, foundRecording, OutputIs};
 ghost use Rattle.why_program.specs.Output.{FoundRoom, WhyRoom, InputRoom};
 use super::asked::Asked;
-use super::asked::asked;
+use super::asked::asked_by;
 use behind_text::behind::put_behind;
 use formulas::limits::Limits;
 use formulas::limits::Refusal;
@@ -100,7 +100,7 @@ pub fn why(input: &[u8], output: &mut [u8; OUTPUT_BYTES]) -> usize
     if Limits::INPUT_BYTES < input.len() {
         return put_refused(Refusal::INPUT_LONG as u32, &input[..0], output);
     }
-    match asked(input) {
+    match asked_by(input) {
         Asked::Reading(weak, at) => why_asked(weak, &input[at..], output),
         Asked::Nothing(len) => put_refused(Refusal::RULE_FORM as u32, &input[..len], output),
     }
