@@ -1,9 +1,9 @@
 -- `read_input` meets its contract.
 use Prim.Native.Nat.{_-_}
 use lib.ListN.{length}
-use Rattle.judge.proofs.MainLaws.{Reading, read-laws}
-use Rattle.judge.proofs.input.read_input.Statement.{statement}
-use Rattle.judge.proofs.input.read_input.Tie as tie
+use Rattle.standard_streams.proofs.InputLaws.{Reading, read-laws}
+use Rattle.standard_streams.proofs.input.read_input.Statement.{statement}
+use Rattle.standard_streams.proofs.input.read_input.Tie as tie
 
 abbrev Inv-loop : tie.InvT-loop
 Inv-loop space₀ count₀ space count = Reading space₀ space count

@@ -1,4 +1,4 @@
--- Laws of `main`: what is read lies in the space for it, and what is printed in the output.
+-- What is read lies in the space for it, and what is printed in the output.
 use mathlib.Core.Path.{_≡_, refl, sym}
 use Prim.Native.Nat.{ℕ, _≤_}
 use mathlib.Core.List.{List}
@@ -18,7 +18,7 @@ reading-none space = record { kept = refl; within = omega arith }
 
 pub ruleset read-laws = (needs, reading-none)
 
--- ---- `main`
+-- ---- what a `main` takes of the space and of the output
 pub read-counts : (space : List ℕ) (n : ℕ) → n ≤ length space → n ≡ length (take n space)
 read-counts space n h = sym (length-take-le n space h)
 
