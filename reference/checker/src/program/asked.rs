@@ -1,0 +1,128 @@
+//! Inputs of the program `why`: the word `weak` or `strong`, closed, before the
+//! input of the program of document 01.
+
+use reference::generate::endings::with_returns;
+use reference::generate::random::Random;
+use reference::generate::texts::{self, program_input, recording_text, rule_text};
+use reference::model::limits::PROGRAM_INPUT;
+
+use crate::check::Check;
+use crate::difference::Difference;
+use crate::input::Input;
+use crate::plan::Plan;
+use crate::program::judged::{accepted_input, damaged_input, edges, ending_edges, partings};
+use crate::program::{compare, listed, require, some_pieces, Expected, RUNS, WHY};
+use crate::tally::{Operation, Section};
+use crate::trials::{example_rule, recording_r, widest};
+use crate::work::Job;
+use crate::wrong::Place;
+
+/// Both words with both endings.
+const FIRSTS: [&[u8]; 4] = [b"weak\n", b"strong\n", b"weak\r\n", b"strong\r\n"];
+
+/// First lines that ask for no reading, or that aren't closed.
+const ODD: [&[u8]; 16] = [
+    b"",
+    b"\n",
+    b"\r\n",
+    b"weak",
+    b"strong\r",
+    b"Weak\n",
+    b"weakly\n",
+    b"wea\n",
+    b"weak \n",
+    b" weak\n",
+    b"weak\t\n",
+    b"weak\r\r\n",
+    b"\rweak\n",
+    b"strong\tyes\r\n",
+    b"-\n",
+    b"weak\nstrong\n",
+];
+
+/// The example's texts.
+fn example_texts() -> Vec<u8> {
+    program_input(&rule_text(&example_rule()), &recording_text(&recording_r()))
+}
+
+/// The example, against what it is named to print, with either ending and in
+/// pieces.
+fn example(check: &mut Check) -> Result<(), Difference> {
+    let lines = "state 2 step 1 atom 1 is 0 node 0\nstate 2 step 1 atom 0 is 1 node 2\n";
+    let answers = [("weak", format!("weak yes\n{lines}")), ("strong", "strong no\n".to_string())];
+    for (word, answer) in answers {
+        let output = answer.replace(' ', "\t").into_bytes();
+        let mut expected = Expected { output, errors: Vec::new() };
+        if check.wrong(Operation::WhyProgram, Place::Named) {
+            expected.output[0] ^= 1;
+        }
+        let input = [word.as_bytes(), b"\n", &example_texts()].concat();
+        let returned = with_returns(&input, |_| true);
+        require(check, WHY, &input, &expected, &[])?;
+        require(check, WHY, &input, &expected, &vec![1; input.len()])?;
+        require(check, WHY, &returned, &expected, &[])?;
+        require(check, WHY, &returned, &expected, &[word.len() + 1])?;
+    }
+    Ok(())
+}
+
+/// An input with a first line; a long one keeps its length.
+fn after(first: &[u8], texts: &[u8]) -> Vec<u8> {
+    let long = texts.len() > PROGRAM_INPUT - 2;
+    let length = if long { texts.len() - first.len() } else { texts.len() };
+    [first, &texts[..length]].concat()
+}
+
+/// The inputs of the program of document 01 after each first line in turn, odd
+/// first lines, and the input with the longest output that we know of.
+fn asked_edges() -> Vec<Vec<u8>> {
+    let texts = [ending_edges(), partings(), edges()].concat();
+    let firsts = FIRSTS.iter().cycle();
+    let mut inputs: Vec<Vec<u8>> =
+        texts.iter().zip(firsts).map(|(texts, first)| after(first, texts)).collect();
+    for first in ODD {
+        inputs.extend([first.to_vec(), [first, &example_texts()].concat()]);
+    }
+    let Input::Evidence { rule, recording, .. } = widest() else { unreachable!("of evidence") };
+    let widest = program_input(&rule_text(&rule), &recording_text(&recording));
+    inputs.extend(FIRSTS.map(|first| after(first, &widest)));
+    inputs
+}
+
+/// A first line: one of both words, now and then with damage.
+fn first_line(random: &mut Random) -> Vec<u8> {
+    match random.below(12) {
+        0 => random.pick(&ODD).to_vec(),
+        1 => {
+            let first = random.pick(&FIRSTS);
+            texts::damaged(random, first)
+        }
+        _ => random.pick(&FIRSTS).to_vec(),
+    }
+}
+
+/// Random runs: texts of any kind, accepted or damaged; some in pieces.
+fn random_asked(check: &mut Check, plan: &Plan, number: usize) -> Result<(), Difference> {
+    let mut random = plan.random(Section::Program, number + (2 << 20));
+    for _ in 0..RUNS.min(plan.program_runs) {
+        let texts = match random.below(6) {
+            0..=2 => accepted_input(&mut random),
+            3 => damaged_input(&mut random),
+            _ => texts::any_program_input(&mut random),
+        };
+        let input = after(&first_line(&mut random), &texts);
+        let pieces = some_pieces(&mut random, &input);
+        compare(check, WHY, &input, &pieces)?;
+    }
+    Ok(())
+}
+
+/// All runs of the program.
+pub fn jobs(plan: &Plan) -> Vec<Job<'_>> {
+    let mut jobs: Vec<Job> = vec![Box::new(example)];
+    jobs.extend(listed(WHY, asked_edges()));
+    for number in 0..plan.program_runs.div_ceil(2 * RUNS) {
+        jobs.push(Box::new(move |check| random_asked(check, plan, number)));
+    }
+    jobs
+}
