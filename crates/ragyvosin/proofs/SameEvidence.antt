@@ -1,20 +1,19 @@
 -- What the readings behind a verdict promise a caller of the face, from the contracts in src/lib.rt alone.
-use mathlib.Core.Path.{_≡_, refl, sym, ap, _∙_}
+use mathlib.Core.Path.{_≡_, refl, ap, _∙_}
 use mathlib.Core.Bool.{Bool, true, false}
-use mathlib.Core.List.{List, [], _∷_, _++_, map}
+use mathlib.Core.List.{List, _++_, map}
 use Prim.Native.Nat.{ℕ, _-_, _/_, _%_, _<_, _≤_}
 use native.Mathlib.Omega.{arith}
 use lib.ListN.{length, drop, getD, replicate, length-map, List·getD-append}
 use borrow.Author.Tests.{le-ltb}
-use Rattle.definitions.specs.Limits.{accepted, lentShort, maxRuleNodes, maxPairs}
+use Rattle.definitions.specs.Limits.{maxRuleNodes, maxPairs}
 use Rattle.definitions.specs.Bounded.{pick}
-use Rattle.definitions.specs.Nodes.{Node}
 use Rattle.definitions.specs.Tables.{Rule, nodesIn}
 use Rattle.definitions.specs.Recordings.{Recording, maskOf}
 use Rattle.definitions.specs.Projection.{localTrace}
 use Rattle.definitions.specs.Readings.{local, verdict}
 use Rattle.definitions.specs.Evidence.{Found, pairWord}
-use Rattle.definitions.specs.Operations.{Answer, answer, left, judgeLocalNumber, evidenceOf, evidenceNumber, evidenceAnswer, evidencePairs}
+use Rattle.definitions.specs.Operations.{Answer, answer, evidenceOf, evidenceNumber, evidenceAnswer, evidencePairs}
 use Rattle.theorems.proofs.LentSpace.{left-accepted}
 use Rattle.theorems.proofs.ScheduleIndependence.{Accepted, local-accepted}
 use Rattle.theorems.proofs.EvidencePairs.{each-word}
