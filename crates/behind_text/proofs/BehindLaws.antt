@@ -1,11 +1,11 @@
 -- One law for each need of printing the verdict and what is behind it.
-use mathlib.Core.Path.{_≡_, refl, sym, ap, _∙_}
+use mathlib.Core.Path.{_≡_, refl, sym, ap, ap₂, _∙_}
 use mathlib.Core.Bool.{Bool}
 use mathlib.Core.List.{List, _++_, map}
 use Prim.Native.Nat.{ℕ, _+_, _-_, _*_, _≤_}
 use native.Mathlib.Omega.{arith}
-use lib.ListN.{length, take, drop, getD, length-map}
-use lib.Seq.{take-at, length-take-le}
+use lib.ListN.{length, take, drop, getD, length-map, length-take}
+use lib.Seq.{take-at, drop-at}
 use borrow.Author.Needs.{needs}
 use Rattle.definitions.specs.Limits.{accepted, maxStates, maxPairs}
 use Rattle.definitions.specs.Tables.{Rule, ruleOf, nodesIn}
@@ -27,10 +27,27 @@ use Rattle.judges.specs.declared.verdicts.Verdicts.{Verdicts}
 use Rattle.evidence.specs.Accepted.{EvidenceLaid}
 use Rattle.evidence_text.specs.Pairs.{maxPairBytes, pairsIn, PairsReady}
 use Rattle.behind_text.specs.Verdict.{chosen, Spelled}
-use Rattle.behind_text.specs.Behind.{maxVerdictBytes, LinesReady, BehindReady}
+use Rattle.behind_text.specs.Behind.{maxVerdictBytes, TraceReady, TraceIs, LinesReady, BehindReady}
 use Rattle.behind_text.specs.declared.verdict.VerdictLine.{VerdictLine}
 use Rattle.behind_text.proofs.VerdictLaws.{line-counted, verdict-length, chosen-own}
 use Rattle.behind_text.proofs.FoundLaws.{evidence-lines, evidence-short, evidence-ready}
+
+-- ---- `local_places`
+module _ (c C N : ℕ) (masks states : List ℕ) (ready : TraceReady (recordingOf C N masks states) c) where
+  pub trace-projectable : (words : List ℕ) → maxStates ≤ length words → Projectable N c states words
+  trace-projectable words room = projectable (recordingOf C N masks states) c words (ready .recording) (ready .controller) room
+
+  pub trace-is : (mask : ℕ) → mask ≡ getD masks c 0 → (words words′ : List ℕ) → words′ ≡ laid (placesIn N mask c states) words →
+      TraceIs (recordingOf C N masks states) c words′
+  trace-is mask m words words′ p =
+      let R : Recording = recordingOf C N masks states in
+      let t : placesIn N mask c states ≡ localTrace R c = ap (λ (x : ℕ). placesIn N x c states) (m ∙ own-mask R c (ready .controller)) ∙ local-places R c in
+      let e : words′ ≡ laid (localTrace R c) words = p ∙ ap (λ (l : List ℕ). laid l words) t in
+      let d : drop (length (localTrace R c)) words′ ≡ drop (length (localTrace R c)) words =
+      ap (drop (length (localTrace R c))) e ∙ drop-at (localTrace R c) (drop (length (localTrace R c)) words) (length (localTrace R c)) refl in
+      record { begins = rw d e }
+
+pub ruleset trace-laws = (needs, trace-projectable, trace-is)
 
 -- ---- `put_evidence`
 module _ (c count : ℕ) (nodes : List ℕ) (C N : ℕ) (masks states : List ℕ) (at : ℕ) (text : List ℕ)
@@ -41,8 +58,8 @@ module _ (c count : ℕ) (nodes : List ℕ) (C N : ℕ) (masks states : List ℕ
   abbrev R : Recording
   R = recordingOf C N masks states
 
-  pub lines-projectable : (places : List ℕ) → maxStates ≤ length places → Projectable N c states places
-  lines-projectable places room = projectable R c places (ready .accepted .recording) (ready .accepted .controller) room
+  pub lines-traced : TraceReady R c
+  lines-traced = record { recording = ready .accepted .recording; controller = ready .accepted .controller }
 
   module _ (weak : Bool) (pairs : List ℕ) (n : ℕ) (pairs′ : List ℕ) (found : EvidenceLaid r R weak pairs n pairs′) where
     words-counted : length (map pairWord (evidenceOf r R weak)) ≡ n
@@ -54,30 +71,30 @@ module _ (c count : ℕ) (nodes : List ℕ) (C N : ℕ) (masks states : List ℕ
     pub pairs-counted : n ≡ length (take n pairs′)
     pairs-counted = sym (ap length words-are ∙ words-counted)
 
-    module _ (mask : ℕ) (me : mask ≡ getD masks c 0) (places places′ : List ℕ) (p : places′ ≡ laid (placesIn N mask c states) places) where
-      trace : placesIn N mask c states ≡ localTrace R c
-      trace = ap (λ (m : ℕ). placesIn N m c states) (me ∙ own-mask R c (ready .accepted .controller)) ∙ local-places R c
+    pub pairs-within : n ≤ length pairs′
+    pairs-within = omega (arith, pairs-counted, length-take n pairs′)
 
+    module _ (places : List ℕ) (traced : TraceIs R c places) where
       abbrev rest : List ℕ
       rest = drop (length (localTrace R c)) places
 
-      places-are : places′ ≡ localTrace R c ++ rest
-      places-are = p ∙ ap (λ (l : List ℕ). laid l places) trace
+      lines-are : pairsIn c nodes N states places (take n pairs′) ≡ foundLines R c (nodesIn count nodes) (evidenceOf r R weak)
+      lines-are =
+          ap₂ (λ (x y : List ℕ). pairsIn c nodes N states x y) (traced .begins) words-are ∙ sym (evidence-lines r R (ready .accepted) rest weak)
 
-      lines-are : pairsIn c nodes N states places′ (take n pairs′) ≡ foundLines R c (nodesIn count nodes) (evidenceOf r R weak)
-      lines-are = rw (places-are, words-are) (sym (evidence-lines r R (ready .accepted) rest weak))
-
-      pub pairs-ready : PairsReady c nodes N states places′ (take n pairs′) at text
+      pub pairs-ready : PairsReady c nodes N states places (take n pairs′) at text
       pairs-ready = record {
-        each = λ i h. rw (places-are, words-are) (evidence-ready r R (ready .accepted) rest weak i (omega (arith, pairs-counted, found .counted)));
+        each = λ i h.
+            let p = evidence-ready r R (ready .accepted) rest weak i (omega (arith, pairs-counted, found .counted)) in
+            rw (← traced .begins, ← words-are) at p;
         room = omega (arith, ap length lines-are, evidence-short r R (ready .accepted) rest weak, ready .room);
       }
 
-      pub lines-printed : (text′ : List ℕ) (e : ℕ) → Printed (pairsIn c nodes N states places′ (take n pairs′)) text at e text′ →
+      pub lines-printed : (text′ : List ℕ) (e : ℕ) → Printed (pairsIn c nodes N states places (take n pairs′)) text at e text′ →
           Printed (foundLines R c (nodesIn count nodes) (evidenceOf r R weak)) text at e text′
       lines-printed text′ e w = rw lines-are at w
 
-pub ruleset evidence-laws = (needs, lines-projectable, pairs-counted, pairs-ready, lines-printed)
+pub ruleset evidence-laws = (needs, lines-traced, pairs-counted, pairs-within, pairs-ready, lines-printed)
 
 -- ---- `put_behind`
 module _ (weak : Bool) (c count : ℕ) (nodes : List ℕ) (C N : ℕ) (masks states text : List ℕ)

@@ -1,10 +1,12 @@
 -- What printing of an accepted rule and recording asks: space for the longest lines there can be.
-use mathlib.Core.List.{List}
-use Prim.Native.Nat.{ℕ, _+_, _*_, _≤_}
-use lib.ListN.{length}
+use mathlib.Core.Path.{_≡_}
+use mathlib.Core.List.{List, _++_}
+use Prim.Native.Nat.{ℕ, _+_, _*_, _<_, _≤_}
+use lib.ListN.{length, drop}
 use Rattle.definitions.specs.Limits.{maxPairs}
 use Rattle.definitions.specs.Tables.{Rule}
-use Rattle.definitions.specs.Recordings.{Recording}
+use Rattle.definitions.specs.Recordings.{Recording, recordingRefusal}
+use Rattle.definitions.specs.Projection.{localTrace}
 use Rattle.theorems.proofs.ScheduleIndependence.{Accepted}
 use Rattle.evidence_text.specs.Pairs.{maxPairBytes}
 
@@ -15,6 +17,15 @@ maxVerdictBytes = 11
 -- with a line for each of the most pairs that lent space can hold
 abbrev pub maxBehindBytes : ℕ
 maxBehindBytes = maxVerdictBytes + maxPairs * maxPairBytes
+
+-- an accepted recording that has the controller
+pub record TraceReady (R : Recording) (c : ℕ) : Type 0 where
+  pub recording : recordingRefusal R ≡ 0
+  pub controller : c < R .controllers
+
+-- the words begin with the controller's local trace
+pub record TraceIs (R : Recording) (c : ℕ) (words : List ℕ) : Type 0 where
+  pub begins : words ≡ localTrace R c ++ drop (length (localTrace R c)) words
 
 -- space for the lines of the pairs
 pub record LinesReady (r : Rule) (R : Recording) (at : ℕ) (text : List ℕ) : Type 0 where

@@ -4,7 +4,7 @@ ghost use Rattle.definitions.specs.Tables.{nodesIn};
 ghost use Rattle.definitions.specs.Operations.{evidenceOf};
 ghost use Rattle.printing.specs.Printing.{Printed};
 ghost use Rattle.judges.specs.Headings.{ruleIn, recordingIn};
-ghost use Rattle.behind_text.specs.Behind.{LinesReady, BehindReady};
+ghost use Rattle.behind_text.specs.Behind.{TraceReady, TraceIs, LinesReady, BehindReady};
 use super::verdict::verdict_line;
 use evidence::accepted::evidence_accepted;
 use evidence_text::line::put_pairs;
@@ -16,7 +16,29 @@ use printing::put;
 use projection::places::project_into;
 use traces::masks::mask_at;
 
-// The readings behind the verdict, in space of their own.
+// The words of a local trace, and past them what does not matter.
+struct Places {
+    words: [u32; Limits::STATES],
+}
+
+// The local trace of the rule's controller.
+fn local_places(
+    rule: RuleHeading,
+    recording: RecordingHeading,
+    masks: &[u32],
+    states: &[u64],
+) -> Places
+    requires { ⌜ TraceReady (recordingIn recording (now masks) (now states)) (rule .controller) ⌝ }
+    ensures { λ r. ⌜ TraceIs (recordingIn recording (now (masks .entry)) (now (states .entry))) (rule .controller) (r .words) ⌝ }
+{
+    let c = rule.controller;
+    let mask = mask_at(masks, c);
+    let mut words = [0u32; Limits::STATES];
+    project_into(recording.count, mask, c, states, &mut words);
+    Places { words: words }
+}
+
+// The readings behind the verdict, found in space of their own.
 fn put_evidence(
     weak: bool,
     rule: RuleHeading,
@@ -30,10 +52,9 @@ fn put_evidence(
     requires { ⌜ LinesReady (ruleIn rule (now nodes)) (recordingIn recording (now masks) (now states)) at (now text) ⌝ }
     ensures { λ r. ⌜ Printed (foundLines (recordingIn recording (now (masks .entry)) (now (states .entry))) (rule .controller) (nodesIn (rule .count) (now (nodes .entry))) (evidenceOf (ruleIn rule (now (nodes .entry))) (recordingIn recording (now (masks .entry)) (now (states .entry))) weak)) (now (text .entry)) at r (now (text .exit)) ⌝ }
 {
-    let c = rule.controller;
-    let mut places = [0u32; Limits::STATES];
+    let local = local_places(rule, recording, masks, states);
+    let places = local.words;
     let mut pairs = [0u32; Limits::PAIRS];
-    project_into(recording.count, mask_at(masks, c), c, states, &mut places);
     let count = evidence_accepted(rule, nodes, recording, masks, states, weak, &mut pairs);
     put_pairs(
         rule,
