@@ -5,6 +5,7 @@ use mathlib.Core.List.{List}
 use Prim.Native.Nat.{ℕ, _+_, _<_, _≤_}
 use native.Mathlib.Omega.{arith}
 use lib.ListN.{length, take, drop, length-drop}
+use lib.Seq.{length-take-le}
 use borrow.Author.Needs.{needs}
 use borrow.Author.Tests.{le-ltb, ltb-true}
 use Rattle.definitions.specs.Limits.{maxInputBytes, ruleForm}
@@ -81,9 +82,10 @@ module _ (input : List ℕ) (short : length input ≤ maxInputBytes) (r : Asked)
   unfolding answerText
   output-nothing len e = by-answer input short ∙ ap (answerText input) (sym (is .is) ∙ e)
 
+-- ---- the parts that a caller takes by it
 module _ (input : List ℕ) (r : Asked) (is : AskedIs input r) where
   pub reading-inside : (weak : Bool) (at : ℕ) → r ≡ Reading weak at → at ≤ length input
   reading-inside weak at e = rw e at (is .inside)
 
-  pub nothing-inside : (len : ℕ) → r ≡ Nothing len → len ≤ length input
-  nothing-inside len e = rw e at (is .inside)
+  pub nothing-counts : (len : ℕ) → r ≡ Nothing len → len ≡ length (take len input)
+  nothing-counts len e = sym (length-take-le len input (rw e at (is .inside)))

@@ -5,7 +5,6 @@ use mathlib.Core.List.{List, []}
 use Prim.Native.Nat.{ℕ, _+_, _-_, _<_, _≤_}
 use native.Mathlib.Omega.{arith}
 use lib.ListN.{length, take, drop, getD, length-take, length-drop}
-use lib.Seq.{length-take-le}
 use denote.Ref.{RefT}
 use borrow.Author.Needs.{needs}
 use borrow.Author.Tests.{ne-eqb, eq-eqb, lt-ltb}
@@ -28,7 +27,7 @@ use Rattle.why_program.specs.Asking.{AskedIs}
 use Rattle.why_program.specs.Output.{maxWhyBytes, FoundRoom, WhyRoom, InputRoom}
 use Rattle.why_program.specs.declared.asked.Asked.{Asked}
 use Rattle.why_program.specs.declared.asked.Asked.the-variants.{Reading, Nothing}
-use Rattle.why_program.proofs.AskedLaws.{output-reading, output-nothing, reading-inside, nothing-inside}
+use Rattle.why_program.proofs.AskedLaws.{output-reading, output-nothing, reading-inside, nothing-counts}
 
 -- ---- `put_found`
 module _ (heading nodes masks states text : List ℕ) (f : FoundRoom heading nodes masks states text) where
@@ -124,9 +123,6 @@ module _ (input output : List ℕ) (full : length output ≡ maxWhyBytes) where
 
   module _ (short : length input ≤ maxInputBytes) (a : Asked) (is : AskedIs input a) where
     module _ (weak : Bool) (at : ℕ) (e : a ≡ Reading weak at) where
-      pub reading-part : at ≤ length input
-      reading-part = reading-inside input a is weak at e
-
       pub reading-room : InputRoom (take (length input - at) (drop at input)) output
       reading-room = record { fits = rw (part-to-end input at, length-drop) (omega arith); room = omega arith }
 
@@ -137,13 +133,10 @@ module _ (input output : List ℕ) (full : length output ≡ maxWhyBytes) where
           rw (output-reading input short a is weak at e) (rw (part-to-end input at) at (printed-all _ output r output′ p))
 
     module _ (len : ℕ) (e : a ≡ Nothing len) where
-      pub nothing-part : len ≡ length (take len input)
-      nothing-part = sym (length-take-le len input (nothing-inside input a is len e))
-
       pub nothing-room : length (refusedText ruleForm (take len input)) ≤ length output
       nothing-room = omega (arith, refused-length ruleForm (take len input) (omega arith) (rw length-take (omega arith)))
 
       pub nothing-printed : (r : ℕ) (output′ : List ℕ) → Printed (refusedText ruleForm (take len input)) output 0 r output′ → OutputIs (whyOutput input) output r output′
       nothing-printed r output′ p = rw (output-nothing input short a is len e) (printed-all _ output r output′ p)
 
-pub ruleset why-laws = (needs, long-room, long-printed, reading-part, reading-room, reading-printed, nothing-part, nothing-room, nothing-printed)
+pub ruleset why-laws = (needs, long-room, long-printed, reading-inside, reading-room, reading-printed, nothing-counts, nothing-room, nothing-printed)
