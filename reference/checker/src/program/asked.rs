@@ -11,8 +11,8 @@ use crate::difference::Difference;
 use crate::input::Input;
 use crate::plan::Plan;
 use crate::program::judged::{accepted_input, damaged_input, edges, ending_edges, partings};
-use crate::program::{compare, listed, require, some_pieces, Expected, RUNS, WHY};
-use crate::tally::{Operation, Section};
+use crate::program::{listed, random, require, Expected, WHY};
+use crate::tally::Operation;
 use crate::trials::{example_rule, recording_r, widest};
 use crate::work::Job;
 use crate::wrong::Place;
@@ -101,28 +101,20 @@ fn first_line(random: &mut Random) -> Vec<u8> {
     }
 }
 
-/// Random runs: texts of any kind, accepted or damaged; some in pieces.
-fn random_asked(check: &mut Check, plan: &Plan, number: usize) -> Result<(), Difference> {
-    let mut random = plan.random(Section::Program, number + (2 << 20));
-    for _ in 0..RUNS.min(plan.program_runs) {
-        let texts = match random.below(6) {
-            0..=2 => accepted_input(&mut random),
-            3 => damaged_input(&mut random),
-            _ => texts::any_program_input(&mut random),
-        };
-        let input = after(&first_line(&mut random), &texts);
-        let pieces = some_pieces(&mut random, &input);
-        compare(check, WHY, &input, &pieces)?;
-    }
-    Ok(())
+/// Texts of any kind, accepted or damaged, after a first line.
+fn any_input(random: &mut Random) -> Vec<u8> {
+    let texts = match random.below(6) {
+        0..=2 => accepted_input(random),
+        3 => damaged_input(random),
+        _ => texts::any_program_input(random),
+    };
+    after(&first_line(random), &texts)
 }
 
 /// All runs of the program.
 pub fn jobs(plan: &Plan) -> Vec<Job<'_>> {
     let mut jobs: Vec<Job> = vec![Box::new(example)];
     jobs.extend(listed(WHY, asked_edges()));
-    for number in 0..plan.program_runs.div_ceil(2 * RUNS) {
-        jobs.push(Box::new(move |check| random_asked(check, plan, number)));
-    }
+    jobs.extend(random(plan, WHY, plan.program_runs / 2, any_input));
     jobs
 }
