@@ -73,10 +73,28 @@ fn after(first: &[u8], texts: &[u8]) -> Vec<u8> {
     [first, &texts[..length]].concat()
 }
 
+/// Texts that are refused with each number from 2 to 11, each with its reason in
+/// one line of the rule or of the recording.
+fn refused_texts() -> Vec<Vec<u8>> {
+    let refused: [(&str, &str); 9] = [
+        ("rule 0 1\nrun\n", "recording 1 1\nowns 00000001\nat 00 00000000\n"),
+        ("rule 0 1\nnot 0\n", "recording 1 1\nowns 00000001\nat 00 00000000\n"),
+        ("rule 0 2\ntrue\n", "recording 1 1\nowns 00000001\nat 00 00000000\n"),
+        ("rule 0 1\ntrue\n", "recording 1 1\nowns 1\nat 00 00000000\n"),
+        ("rule 0 1\ntrue\n", "recording 1 1\nowns 00000001\nat 02 00000000\n"),
+        ("rule 0 1\ntrue\n", "recording 2 1\nowns 00000001\nowns 00000003\nat 00 00000000\n"),
+        ("rule 0 1\ntrue\n", "recording 1 2\nowns 00000001\nat 00 00000000\n"),
+        ("rule 0 1\ntrue\n", "recording 1 2\nowns 00000001\nat 00 00000000\nat 00 00000001\n"),
+        ("rule 1 1\ntrue\n", "recording 1 1\nowns 00000001\nat 00 00000000\n"),
+    ];
+    let tabs = |text: &str| text.replace(' ', "\t").into_bytes();
+    refused.map(|(rule, recording)| program_input(&tabs(rule), &tabs(recording))).to_vec()
+}
+
 /// The inputs of the program of document 01 after each first line in turn, odd
 /// first lines, and the input with the longest output that we know of.
 fn asked_edges() -> Vec<Vec<u8>> {
-    let texts = [ending_edges(), partings(), edges()].concat();
+    let texts = [refused_texts(), ending_edges(), partings(), edges()].concat();
     let firsts = FIRSTS.iter().cycle();
     let mut inputs: Vec<Vec<u8>> =
         texts.iter().zip(firsts).map(|(texts, first)| after(first, texts)).collect();
