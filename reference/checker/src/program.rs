@@ -20,7 +20,7 @@ use crate::difference::Difference;
 use crate::misread;
 use crate::outcome::first_difference;
 use crate::plan::Plan;
-use crate::tally::Operation;
+use crate::tally::{Operation, Section};
 use crate::work::Job;
 use crate::wrong::{Place, WrongAnswer};
 
@@ -277,6 +277,28 @@ fn listed<'a>(program: Program, inputs: Vec<Vec<u8>>) -> Vec<Job<'a>> {
         }));
     }
     jobs
+}
+
+/// Random runs of a program, so many in each job; some in pieces.
+fn random<'a>(
+    plan: &'a Plan,
+    program: Program,
+    runs: usize,
+    input: fn(&mut Random) -> Vec<u8>,
+) -> Vec<Job<'a>> {
+    let first = (program.operation as usize) << 20;
+    let job = move |number| -> Job<'a> {
+        Box::new(move |check| {
+            let mut random = plan.random(Section::Program, first + number);
+            for _ in 0..RUNS.min(runs) {
+                let input = input(&mut random);
+                let pieces = some_pieces(&mut random, &input);
+                compare(check, program, &input, &pieces)?;
+            }
+            Ok(())
+        })
+    };
+    (0..runs.div_ceil(RUNS)).map(job).collect()
 }
 
 /// All runs of the programs, or of the one that is expected to answer wrongly.

@@ -11,8 +11,8 @@ use crate::difference::Difference;
 use crate::input::Input;
 use crate::plan::Plan;
 use crate::program::judged::{accepted_input, damaged_input, edges, ending_edges, partings};
-use crate::program::{compare, listed, require, some_pieces, Expected, RUNS, WHY};
-use crate::tally::{Operation, Section};
+use crate::program::{listed, random, require, Expected, WHY};
+use crate::tally::Operation;
 use crate::trials::{example_rule, recording_r, widest};
 use crate::work::Job;
 use crate::wrong::Place;
@@ -73,10 +73,28 @@ fn after(first: &[u8], texts: &[u8]) -> Vec<u8> {
     [first, &texts[..length]].concat()
 }
 
+/// Texts that are refused with each number from 2 to 11, each with its reason in
+/// one line of the rule or of the recording.
+fn refused_texts() -> Vec<Vec<u8>> {
+    let refused: [(&str, &str); 9] = [
+        ("rule 0 1\nrun\n", "recording 1 1\nowns 00000001\nat 00 00000000\n"),
+        ("rule 0 1\nnot 0\n", "recording 1 1\nowns 00000001\nat 00 00000000\n"),
+        ("rule 0 2\ntrue\n", "recording 1 1\nowns 00000001\nat 00 00000000\n"),
+        ("rule 0 1\ntrue\n", "recording 1 1\nowns 1\nat 00 00000000\n"),
+        ("rule 0 1\ntrue\n", "recording 1 1\nowns 00000001\nat 02 00000000\n"),
+        ("rule 0 1\ntrue\n", "recording 2 1\nowns 00000001\nowns 00000003\nat 00 00000000\n"),
+        ("rule 0 1\ntrue\n", "recording 1 2\nowns 00000001\nat 00 00000000\n"),
+        ("rule 0 1\ntrue\n", "recording 1 2\nowns 00000001\nat 00 00000000\nat 00 00000001\n"),
+        ("rule 1 1\ntrue\n", "recording 1 1\nowns 00000001\nat 00 00000000\n"),
+    ];
+    let tabs = |text: &str| text.replace(' ', "\t").into_bytes();
+    refused.map(|(rule, recording)| program_input(&tabs(rule), &tabs(recording))).to_vec()
+}
+
 /// The inputs of the program of document 01 after each first line in turn, odd
 /// first lines, and the input with the longest output that we know of.
 fn asked_edges() -> Vec<Vec<u8>> {
-    let texts = [ending_edges(), partings(), edges()].concat();
+    let texts = [refused_texts(), ending_edges(), partings(), edges()].concat();
     let firsts = FIRSTS.iter().cycle();
     let mut inputs: Vec<Vec<u8>> =
         texts.iter().zip(firsts).map(|(texts, first)| after(first, texts)).collect();
@@ -101,28 +119,20 @@ fn first_line(random: &mut Random) -> Vec<u8> {
     }
 }
 
-/// Random runs: texts of any kind, accepted or damaged; some in pieces.
-fn random_asked(check: &mut Check, plan: &Plan, number: usize) -> Result<(), Difference> {
-    let mut random = plan.random(Section::Program, number + (2 << 20));
-    for _ in 0..RUNS.min(plan.program_runs) {
-        let texts = match random.below(6) {
-            0..=2 => accepted_input(&mut random),
-            3 => damaged_input(&mut random),
-            _ => texts::any_program_input(&mut random),
-        };
-        let input = after(&first_line(&mut random), &texts);
-        let pieces = some_pieces(&mut random, &input);
-        compare(check, WHY, &input, &pieces)?;
-    }
-    Ok(())
+/// Texts of any kind, accepted or damaged, after a first line.
+fn any_input(random: &mut Random) -> Vec<u8> {
+    let texts = match random.below(6) {
+        0..=2 => accepted_input(random),
+        3 => damaged_input(random),
+        _ => texts::any_program_input(random),
+    };
+    after(&first_line(random), &texts)
 }
 
 /// All runs of the program.
 pub fn jobs(plan: &Plan) -> Vec<Job<'_>> {
     let mut jobs: Vec<Job> = vec![Box::new(example)];
     jobs.extend(listed(WHY, asked_edges()));
-    for number in 0..plan.program_runs.div_ceil(2 * RUNS) {
-        jobs.push(Box::new(move |check| random_asked(check, plan, number)));
-    }
+    jobs.extend(random(plan, WHY, plan.program_runs / 2, any_input));
     jobs
 }

@@ -10,8 +10,8 @@ use reference::model::limits::{CONTROLLERS, PROGRAM_INPUT, RULE_NODES, STATES};
 use crate::check::Check;
 use crate::difference::Difference;
 use crate::plan::Plan;
-use crate::program::{compare, listed, require, some_pieces, Expected, JUDGE, RUNS};
-use crate::tally::{Operation, Section};
+use crate::program::{listed, random, require, Expected, JUDGE};
+use crate::tally::Operation;
 use crate::trials::{example_rule, marked_r, recording_r};
 use crate::work::Job;
 use crate::wrong::Place;
@@ -148,19 +148,13 @@ pub fn damaged_input(random: &mut Random) -> Vec<u8> {
     texts::damaged(random, &input)
 }
 
-/// Random inputs: of any kind, accepted, damaged; some in pieces.
-fn random_runs(check: &mut Check, plan: &Plan, number: usize) -> Result<(), Difference> {
-    let mut random = plan.random(Section::Program, number);
-    for _ in 0..RUNS.min(plan.program_runs) {
-        let input = match random.below(6) {
-            0 | 1 => accepted_input(&mut random),
-            2 => damaged_input(&mut random),
-            _ => texts::any_program_input(&mut random),
-        };
-        let pieces = some_pieces(&mut random, &input);
-        compare(check, JUDGE, &input, &pieces)?;
+/// An input of any kind, accepted or damaged.
+fn any_input(random: &mut Random) -> Vec<u8> {
+    match random.below(6) {
+        0 | 1 => accepted_input(random),
+        2 => damaged_input(random),
+        _ => texts::any_program_input(random),
     }
-    Ok(())
 }
 
 /// All runs of the program.
@@ -170,8 +164,6 @@ pub fn jobs(plan: &Plan) -> Vec<Job<'_>> {
         jobs.extend(listed(JUDGE, inputs));
     }
     jobs.push(Box::new(example));
-    for number in 0..plan.program_runs.div_ceil(RUNS) {
-        jobs.push(Box::new(move |check| random_runs(check, plan, number)));
-    }
+    jobs.extend(random(plan, JUDGE, plan.program_runs, any_input));
     jobs
 }

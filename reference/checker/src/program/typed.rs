@@ -2,13 +2,14 @@
 
 use reference::generate::endings::any_endings;
 use reference::generate::lines;
+use reference::generate::random::Random;
 use reference::model::limits::{CONTROLLERS, PROGRAM_INPUT};
 
 use crate::check::Check;
 use crate::difference::Difference;
 use crate::plan::Plan;
-use crate::program::{compare, listed, require, some_pieces, Expected, RULE, RUNS};
-use crate::tally::{Operation, Section};
+use crate::program::{listed, random, require, Expected, RULE};
+use crate::tally::Operation;
 use crate::work::Job;
 use crate::wrong::Place;
 
@@ -49,28 +50,21 @@ fn typed(controller: usize, line: &[u8]) -> Vec<u8> {
     [format!("{controller}\t").as_bytes(), line, b"\n"].concat()
 }
 
-/// Random runs of the program `rule`; some in pieces.
-fn random_typed(check: &mut Check, plan: &Plan, number: usize) -> Result<(), Difference> {
-    let mut random = plan.random(Section::Program, number + (1 << 20));
-    for _ in 0..RUNS.min(plan.program_runs) {
-        let line = lines::any_line(&mut random);
-        let input = typed(random.below(CONTROLLERS + 1), &line);
-        let mut input = any_endings(&mut random, input);
-        if random.once_in(8) {
-            input = lines::damaged(&mut random, &input);
-        }
-        let pieces = some_pieces(&mut random, &input);
-        compare(check, RULE, &input, &pieces)?;
+/// A line of any kind, with damage now and then.
+fn any_input(random: &mut Random) -> Vec<u8> {
+    let line = lines::any_line(random);
+    let input = typed(random.below(CONTROLLERS + 1), &line);
+    let input = any_endings(random, input);
+    if random.once_in(8) {
+        return lines::damaged(random, &input);
     }
-    Ok(())
+    input
 }
 
 /// All runs of the program.
 pub fn jobs(plan: &Plan) -> Vec<Job<'_>> {
     let mut jobs: Vec<Job> = vec![Box::new(typed_example)];
     jobs.extend(listed(RULE, typed_edges()));
-    for number in 0..plan.program_runs.div_ceil(RUNS) {
-        jobs.push(Box::new(move |check| random_typed(check, plan, number)));
-    }
+    jobs.extend(random(plan, RULE, plan.program_runs, any_input));
     jobs
 }
