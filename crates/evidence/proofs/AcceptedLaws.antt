@@ -1,24 +1,24 @@
 -- One law for each need of the wanted places and the pairs of an accepted rule and recording.
-use mathlib.Core.Path.{_≡_, refl, sym, ap, _∙_}
-use mathlib.Core.Bool.{Bool, true, false}
-use mathlib.Core.List.{List, _++_, map}
+use mathlib.Core.Path.{_≡_, refl, ap, _∙_}
+use mathlib.Core.Bool.{Bool, false}
+use mathlib.Core.List.{List}
 use Prim.Native.Nat.{ℕ, _*_, _<_, _≤_}
 use native.Mathlib.Omega.{arith}
 use lib.ListN.{length, drop, getD}
 use borrow.Author.Needs.{needs}
-use Rattle.definitions.specs.Limits.{accepted, maxStates, maxRuleNodes, maxPairs, pairWords}
+use Rattle.definitions.specs.Limits.{maxRuleNodes, pairWords}
 use Rattle.definitions.specs.Nodes.{Node}
 use Rattle.definitions.specs.Tables.{Rule, ruleOf, ruleRefusal, nodesRefusal, nodesIn}
 use Rattle.definitions.specs.Recordings.{Recording, recordingOf, maskOf}
 use Rattle.definitions.specs.Projection.{localTrace}
-use Rattle.definitions.specs.Readings.{Trace, Rows, noRows, rowOf, rowsOf, pairsWords}
-use Rattle.definitions.specs.Evidence.{wantedRows, Found, decides, foundFrom, evidence, pairWord}
-use Rattle.definitions.specs.Operations.{left, evidenceOf}
+use Rattle.definitions.specs.Readings.{Trace, Rows, noRows, rowsOf, pairsWords}
+use Rattle.definitions.specs.Evidence.{wantedRows, decides, evidence}
+use Rattle.definitions.specs.Operations.{evidenceOf}
 use Rattle.theorems.proofs.NodeLaws.{accepted-rule}
 use Rattle.theorems.proofs.RuleNodes.{rule-some, rule-few, rule-length, rule-nodes}
 use Rattle.theorems.proofs.ScheduleIndependence.{Accepted}
 use Rattle.traces.proofs.CheckLaws.{own-mask}
-use Rattle.evaluation.specs.Pairs.{rowsIn, PairMade, pairOfNode}
+use Rattle.evaluation.specs.Pairs.{pairOfNode}
 use Rattle.evaluation.proofs.EvaluateLaws.{rows-in, pair-of-rows}
 use Rattle.walk.specs.Wanted.{Held}
 use Rattle.walk.specs.Walking.{wordNode, Walkable, Walked}

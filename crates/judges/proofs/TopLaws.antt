@@ -32,7 +32,7 @@ module _ (rows : List ℕ) (weakTop strongTop : ℕ) where
   unfolding topsIn
   tops-read a b x y e f g h = cc
 
--- where the rows of a table are laid, they are the verdicts
+-- where the rows of a table are laid, its verdicts are the marks at its tops
 module _ (t : Trace) (ns : List Node) (l rest : List ℕ) (weakTop strongTop : ℕ) (few : t .places ≤ maxStates) (laid : l ≡ pairsWords (rowsOf t ns) ++ rest)
     (weakBelow : weakTop < length ns) (strongBelow : strongTop < length ns) where
   words-length : length l ≡ length ns * pairWords + length rest

@@ -1,5 +1,5 @@
 -- One law for each need of judging the whole recording.
-use mathlib.Core.Path.{_≡_, refl, sym, ap, _∙_}
+use mathlib.Core.Path.{_≡_, refl, sym, _∙_}
 use mathlib.Core.Bool.{true, _&&_}
 use mathlib.Core.List.{List, [], _++_}
 use Prim.Native.Nat.{ℕ, _+_, _*_, _-_, _<_, _≤_}
@@ -27,7 +27,7 @@ use Rattle.evaluation.specs.Nodes.{Evaluable, rowsTo}
 use Rattle.evaluation.proofs.TableLaws.{rows-length, nodes-length}
 use Rattle.judges.specs.declared.verdicts.Verdicts.{Verdicts}
 use Rattle.judges.specs.declared.verdicts.Judgement.the-variants.{Judged, Refused}
-use Rattle.judges.specs.Verdicts.{meant, answerOf, Topped, topsIn}
+use Rattle.judges.specs.Verdicts.{answerOf, Topped, topsIn}
 use Rattle.judges.specs.Whole.{wholeIn, WholeReady, WholeVerdicts, WholeJudged}
 use Rattle.judges.proofs.CheckedNodes.{nodes-fit, nodes-there}
 use Rattle.judges.proofs.TraceLaws.{whole-rows}
