@@ -1,19 +1,19 @@
 -- One law for each need of printing the verdict and what is behind it.
 use mathlib.Core.Path.{_≡_, refl, sym, ap, ap₂, _∙_}
 use mathlib.Core.Bool.{Bool}
-use mathlib.Core.List.{List, _++_, map}
-use Prim.Native.Nat.{ℕ, _+_, _-_, _*_, _≤_}
+use mathlib.Core.List.{List, map}
+use Prim.Native.Nat.{ℕ, _+_, _-_, _≤_}
 use native.Mathlib.Omega.{arith}
 use lib.ListN.{length, take, drop, getD, length-map, length-take}
 use lib.Seq.{take-at, drop-at}
 use borrow.Author.Needs.{needs}
 use Rattle.definitions.specs.Limits.{accepted, maxStates, maxPairs}
-use Rattle.definitions.specs.Tables.{Rule, ruleOf, nodesIn}
-use Rattle.definitions.specs.Recordings.{Recording, recordingOf, maskOf}
+use Rattle.definitions.specs.Tables.{Rule, ruleOf}
+use Rattle.definitions.specs.Recordings.{Recording, recordingOf}
 use Rattle.definitions.specs.Projection.{localTrace}
 use Rattle.definitions.specs.Evidence.{pairWord}
-use Rattle.definitions.specs.Operations.{left, evidenceOf}
-use Rattle.definitions.specs.Why.{verdictText, foundLines, behindText}
+use Rattle.definitions.specs.Operations.{evidenceOf}
+use Rattle.definitions.specs.Why.{verdictText, behindText}
 use Rattle.theorems.proofs.LentSpace.{left-accepted}
 use Rattle.theorems.proofs.ScheduleIndependence.{Accepted}
 use Rattle.lent.specs.Space.{laid}
@@ -25,9 +25,9 @@ use Rattle.printing.proofs.PrintLaws.{printed-seq}
 use Rattle.judges.specs.Verdicts.{meant, ownVerdicts}
 use Rattle.judges.specs.declared.verdicts.Verdicts.{Verdicts}
 use Rattle.evidence.specs.Accepted.{EvidenceLaid}
-use Rattle.evidence_text.specs.Pairs.{maxPairBytes, pairsIn, PairsReady}
+use Rattle.evidence_text.specs.Pairs.{pairsIn, PairsReady}
 use Rattle.behind_text.specs.Verdict.{chosen, Spelled}
-use Rattle.behind_text.specs.Behind.{maxVerdictBytes, TraceReady, TraceIs, LinesReady, BehindReady}
+use Rattle.behind_text.specs.Behind.{maxVerdictBytes, linesOf, behindOf, TraceReady, TraceIs, LinesReady, BehindReady}
 use Rattle.behind_text.specs.declared.verdict.VerdictLine.{VerdictLine}
 use Rattle.behind_text.proofs.VerdictLaws.{line-counted, verdict-length, chosen-own}
 use Rattle.behind_text.proofs.FoundLaws.{evidence-lines, evidence-short, evidence-ready}
@@ -78,7 +78,7 @@ module _ (c count : ℕ) (nodes : List ℕ) (C N : ℕ) (masks states : List ℕ
       abbrev rest : List ℕ
       rest = drop (length (localTrace R c)) places
 
-      lines-are : pairsIn c nodes N states places (take n pairs′) ≡ foundLines R c (nodesIn count nodes) (evidenceOf r R weak)
+      lines-are : pairsIn c nodes N states places (take n pairs′) ≡ linesOf weak r R
       lines-are =
           ap₂ (λ (x y : List ℕ). pairsIn c nodes N states x y) (traced .begins) words-are ∙ sym (evidence-lines r R (ready .accepted) rest weak)
 
@@ -91,7 +91,7 @@ module _ (c count : ℕ) (nodes : List ℕ) (C N : ℕ) (masks states : List ℕ
       }
 
       pub lines-printed : (text′ : List ℕ) (e : ℕ) → Printed (pairsIn c nodes N states places (take n pairs′)) text at e text′ →
-          Printed (foundLines R c (nodesIn count nodes) (evidenceOf r R weak)) text at e text′
+          Printed (linesOf weak r R) text at e text′
       lines-printed text′ e w = rw lines-are at w
 
 pub ruleset evidence-laws = (needs, lines-traced, pairs-counted, pairs-within, pairs-ready, lines-printed)
@@ -120,11 +120,11 @@ module _ (weak : Bool) (c count : ℕ) (nodes : List ℕ) (C N : ℕ) (masks sta
       lines-ready kept = record { accepted = ready .accepted; room = omega (arith, one .next, verdict-short, ready .room) }
 
       pub behind-printed : (text₂ : List ℕ) (e : ℕ) →
-          Printed (foundLines recording c (nodesIn count nodes) (evidenceOf rule recording weak)) text₁ p e text₂ →
-          Printed (behindText weak c (nodesIn count nodes) recording) text 0 e text₂
+          Printed (linesOf weak rule recording) text₁ p e text₂ →
+          Printed (behindOf weak rule recording) text 0 e text₂
       unfolding behindText
       behind-printed text₂ e two =
           rw (← chosen-own weak rule recording v own, ← spelled .same)
-          (printed-seq (take (l .count) (l .bytes)) (foundLines recording c (nodesIn count nodes) (evidenceOf rule recording weak)) text text₁ text₂ 0 p e verdict-room one two)
+          (printed-seq (take (l .count) (l .bytes)) (linesOf weak rule recording) text text₁ text₂ 0 p e verdict-room one two)
 
 pub ruleset behind-laws = (needs, line-counted, behind-accepted, verdict-room, lines-ready, behind-printed)

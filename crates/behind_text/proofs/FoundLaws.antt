@@ -1,15 +1,14 @@
 -- The lines of the pairs that are found, from the numbers that they are in lent space.
-use mathlib.Core.Path.{_≡_, refl, sym, ap, ap₂, _∙_}
+use mathlib.Core.Path.{_≡_, refl, sym, ap, ap₂}
 use mathlib.Core.Bool.{Bool, true, false, true≢false}
 use mathlib.Core.List.{List, [], _∷_, _++_, map}
 use Prim.Native.Nat.{ℕ, zero, suc, _+_, _-_, _*_, _/_, _%_, _<_, _≤_}
 use native.Mathlib.Omega.{arith}
-use native.Mathlib.Nat.{zero-add}
-use lib.ListN.{length, getD, drop, length-append, List·getD-append}
+use lib.ListN.{length, getD, length-append, List·getD-append}
 use Rattle.definitions.specs.Limits.{maxRuleNodes, maxStates, maxPairs, atomCount}
 use Rattle.definitions.specs.Bounded.{bitOf, bit}
 use Rattle.definitions.specs.Nodes.{Kind, Node, nodeOf}
-use Rattle.definitions.specs.Tables.{Rule, isAtom, nodesIn, nodesRefusal}
+use Rattle.definitions.specs.Tables.{Rule, isAtom, nodesIn}
 use Rattle.definitions.specs.Recordings.{Recording, maskOf, runsAt}
 use Rattle.definitions.specs.Projection.{localTrace}
 use Rattle.definitions.specs.Evidence.{Found, nodeAt, pairWord}
@@ -17,7 +16,7 @@ use Rattle.definitions.specs.Operations.{evidenceOf}
 use Rattle.definitions.specs.Why.{stateOfPlace, foundText, foundLines}
 use Rattle.theorems.proofs.NodeWords.{by-kind}
 use Rattle.theorems.proofs.NodeLaws.{accepted-rule}
-use Rattle.theorems.proofs.RuleNodes.{RuleNode, RuleNodes, rule-nodes, rule-length, rule-few}
+use Rattle.theorems.proofs.RuleNodes.{RuleNode, rule-nodes, rule-length, rule-few}
 use Rattle.theorems.proofs.NodeReadings.{rule-at}
 use Rattle.theorems.proofs.LastMarks.{last-adds-none}
 use Rattle.theorems.proofs.ScheduleIndependence.{Accepted}
@@ -29,7 +28,7 @@ use Rattle.projection.proofs.LengthLaws.{length-of}
 use Rattle.projection.proofs.PlaceLaws.{few-runs, countable, local-places}
 use Rattle.walk.proofs.WalkLaws.{node-at}
 use Rattle.judges.proofs.CheckedNodes.{nodes-there}
-use Rattle.evidence_text.specs.Pairs.{maxPairBytes, pairOf, pairIn, pairsIn, PairReady}
+use Rattle.evidence_text.specs.Pairs.{maxPairBytes, pairIn, pairsIn, PairReady}
 use Rattle.evidence_text.proofs.StateLaws.{state-low}
 use Rattle.evidence_text.proofs.LineLaws.{line-length}
 

@@ -1,12 +1,15 @@
--- What printing of an accepted rule and recording asks: space for the longest lines there can be.
+-- What is printed of an accepted rule and recording, and what that asks: space for the longest lines there can be.
 use mathlib.Core.Path.{_≡_}
+use mathlib.Core.Bool.{Bool}
 use mathlib.Core.List.{List, _++_}
 use Prim.Native.Nat.{ℕ, _+_, _*_, _<_, _≤_}
 use lib.ListN.{length, drop}
 use Rattle.definitions.specs.Limits.{maxPairs}
-use Rattle.definitions.specs.Tables.{Rule}
+use Rattle.definitions.specs.Tables.{Rule, nodesIn}
 use Rattle.definitions.specs.Recordings.{Recording, recordingRefusal}
 use Rattle.definitions.specs.Projection.{localTrace}
+use Rattle.definitions.specs.Operations.{evidenceOf}
+use Rattle.definitions.specs.Why.{foundLines, behindText}
 use Rattle.theorems.proofs.ScheduleIndependence.{Accepted}
 use Rattle.evidence_text.specs.Pairs.{maxPairBytes}
 
@@ -17,6 +20,14 @@ maxVerdictBytes = 11
 -- with a line for each of the most pairs that lent space can hold
 abbrev pub maxBehindBytes : ℕ
 maxBehindBytes = maxVerdictBytes + maxPairs * maxPairBytes
+
+-- a line for each reading behind the verdict
+abbrev pub linesOf : (weak : Bool) (r : Rule) (R : Recording) → List ℕ
+linesOf weak r R = foundLines R (r .controller) (nodesIn (r .count) (r .nodes)) (evidenceOf r R weak)
+
+-- the verdict, and these
+abbrev pub behindOf : (weak : Bool) (r : Rule) (R : Recording) → List ℕ
+behindOf weak r R = behindText weak (r .controller) (nodesIn (r .count) (r .nodes)) R
 
 -- an accepted recording that has the controller
 pub record TraceReady (R : Recording) (c : ℕ) : Type 0 where

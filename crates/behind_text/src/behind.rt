@@ -1,10 +1,8 @@
 // The verdict, and a line for each reading behind it.
-ghost use Rattle.definitions.specs.Why.{foundLines, behindText};
-ghost use Rattle.definitions.specs.Tables.{nodesIn};
-ghost use Rattle.definitions.specs.Operations.{evidenceOf};
 ghost use Rattle.printing.specs.Printing.{Printed};
 ghost use Rattle.judges.specs.Headings.{ruleIn, recordingIn};
-ghost use Rattle.behind_text.specs.Behind.{TraceReady, TraceIs, LinesReady, BehindReady};
+ghost use Rattle.behind_text.specs.Behind.{linesOf, behindOf, TraceReady, TraceIs, LinesReady, BehindReady};
+use super::verdict::VERDICT_BYTES;
 use super::verdict::verdict_line;
 use evidence::accepted::evidence_accepted;
 use evidence_text::line::put_pairs;
@@ -15,6 +13,12 @@ use judges::local::judge_accepted;
 use printing::put;
 use projection::places::project_into;
 use traces::masks::mask_at;
+
+// The bytes of the longest line of a reading.
+const PAIR_BYTES: usize = 40;
+
+// The bytes of the most that is printed: the verdict, and a line for each of the most pairs that lent space can hold.
+pub const MOST_BYTES: usize = VERDICT_BYTES + Limits::PAIRS * PAIR_BYTES;
 
 // The words of a local trace, and past them what does not matter.
 struct Places {
@@ -50,7 +54,7 @@ fn put_evidence(
     text: &mut [u8],
 ) -> usize
     requires { ⌜ LinesReady (ruleIn rule (now nodes)) (recordingIn recording (now masks) (now states)) at (now text) ⌝ }
-    ensures { λ r. ⌜ Printed (foundLines (recordingIn recording (now (masks .entry)) (now (states .entry))) (rule .controller) (nodesIn (rule .count) (now (nodes .entry))) (evidenceOf (ruleIn rule (now (nodes .entry))) (recordingIn recording (now (masks .entry)) (now (states .entry))) weak)) (now (text .entry)) at r (now (text .exit)) ⌝ }
+    ensures { λ r. ⌜ Printed (linesOf weak (ruleIn rule (now (nodes .entry))) (recordingIn recording (now (masks .entry)) (now (states .entry)))) (now (text .entry)) at r (now (text .exit)) ⌝ }
 {
     let local = local_places(rule, recording, masks, states);
     let places = local.words;
@@ -79,7 +83,7 @@ pub fn put_behind(
     text: &mut [u8],
 ) -> usize
     requires { ⌜ BehindReady (ruleIn rule (now nodes)) (recordingIn recording (now masks) (now states)) (now text) ⌝ }
-    ensures { λ r. ⌜ Printed (behindText weak (rule .controller) (nodesIn (rule .count) (now (nodes .entry))) (recordingIn recording (now (masks .entry)) (now (states .entry)))) (now (text .entry)) 0 r (now (text .exit)) ⌝ }
+    ensures { λ r. ⌜ Printed (behindOf weak (ruleIn rule (now (nodes .entry))) (recordingIn recording (now (masks .entry)) (now (states .entry)))) (now (text .entry)) 0 r (now (text .exit)) ⌝ }
 {
     let line = verdict_line(weak, judge_accepted(rule, nodes, recording, masks, states));
     let bytes = line.bytes;

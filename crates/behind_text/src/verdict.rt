@@ -3,9 +3,12 @@ ghost use Rattle.definitions.specs.Why.{verdictText};
 ghost use Rattle.behind_text.specs.Verdict.{chosen, Spelled};
 use judges::verdicts::Verdicts;
 
+// The bytes of the longest one.
+pub const VERDICT_BYTES: usize = 11;
+
 // A line: so many bytes of these.
 pub struct VerdictLine {
-    pub bytes: [u8; 11],
+    pub bytes: [u8; VERDICT_BYTES],
     pub count: usize,
 }
 

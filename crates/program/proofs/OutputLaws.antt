@@ -117,7 +117,7 @@ module _ (x y r : RefT (List ℕ)) (nodes masks states nodes′ masks′ states�
 
   -- accepted
   module _ (z : getD heading 0 0 ≡ 0) where
-    pub accepts : R ≡ 0
+    accepts : R ≡ 0
     accepts = sym first-is ∙ z
 
     texts : TextsAccepted (x .now) (y .now)

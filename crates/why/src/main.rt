@@ -1,13 +1,13 @@
 // Tells the verdict that the first line on standard input asks for, of the rule and the recording after it, and the readings
 // behind it, on standard output. On standard error it says where a refused line stands, or what could not be read or written.
+use asked_reading::Asked;
+use asked_reading::asked_by;
 use formulas::limits::Limits;
 use libc::STDERR_FILENO;
 use libc::STDOUT_FILENO;
 use refused_line::find::refused_line;
 use standard_streams::input::read_input;
 use standard_streams::told::say_line;
-use why_program::asked::Asked;
-use why_program::asked::asked_by;
 use why_program::why;
 
 // Where a reading was asked for, the refused line of the texts after that line. An input that is too long has none.

@@ -1,33 +1,32 @@
 -- Laws of the program: the texts of the input are read, and their refusal or the verdict and what is behind it are printed.
-use mathlib.Core.Path.{_≡_, refl, ap, ap₂, sym, _∙_}
+use mathlib.Core.Path.{_≡_, ap, ap₂, sym, _∙_}
 use mathlib.Core.Bool.{Bool, true, false}
 use mathlib.Core.List.{List, []}
-use Prim.Native.Nat.{ℕ, _+_, _-_, _<_, _≤_}
+use Prim.Native.Nat.{ℕ, _-_, _<_, _≤_}
 use native.Mathlib.Omega.{arith}
 use lib.ListN.{length, take, drop, getD, length-take, length-drop}
 use denote.Ref.{RefT}
 use borrow.Author.Needs.{needs}
-use borrow.Author.Tests.{ne-eqb, eq-eqb, lt-ltb}
+use borrow.Author.Tests.{ne-eqb, eq-eqb, lt-ltb, le-ltb}
 use Rattle.definitions.specs.Limits.{maxInputBytes, inputLong, ruleForm, maxRuleNodes, maxControllers, maxStates}
 use Rattle.definitions.specs.Bounded.{pick}
-use Rattle.definitions.specs.Tables.{Rule, nodesIn}
-use Rattle.definitions.specs.Recordings.{Recording}
 use Rattle.definitions.specs.RecordingText.{jointNumber}
 use Rattle.definitions.specs.Program.{ruleIn, recordingIn, refusedText}
-use Rattle.definitions.specs.Why.{behindText, whyTexts, whyOutput}
+use Rattle.definitions.specs.Why.{asks, whyTexts, whyOutput}
+use Rattle.theorems.proofs.Choice.{by-test}
 use Rattle.printing.specs.Printing.{Printed}
 use Rattle.fields.proofs.PartLaws.{part-to-end}
 use Rattle.joint_text.specs.Joining.{ReadJoint}
 use Rattle.program.specs.Splitting.{SplitAt}
-use Rattle.program.specs.Output.{foundRule, foundRecording, Found, OutputIs}
+use Rattle.program.specs.Output.{foundRule, foundRecording, OutputIs}
 use Rattle.program.specs.declared.split.Parts.{Parts}
-use Rattle.program.proofs.OutputLaws.{refused-length, first-is, line-is, accepts, rule-is, recording-is, refusal-room, tables-found, nodes-counted, masks-counted, states-counted, rule-counted, printed-all}
-use Rattle.behind_text.specs.Behind.{BehindReady}
-use Rattle.why_program.specs.Asking.{AskedIs}
+use Rattle.program.proofs.OutputLaws.{refused-length, first-is, line-is, rule-is, recording-is, refusal-room, tables-found, nodes-counted, masks-counted, states-counted, rule-counted, printed-all}
+use Rattle.behind_text.specs.Behind.{behindOf, BehindReady}
+use Rattle.asked_reading.specs.Asking.{askedIn, AskedIs}
 use Rattle.why_program.specs.Output.{maxWhyBytes, FoundRoom, WhyRoom, InputRoom}
-use Rattle.why_program.specs.declared.asked.Asked.{Asked}
-use Rattle.why_program.specs.declared.asked.Asked.the-variants.{Reading, Nothing}
-use Rattle.why_program.proofs.AskedLaws.{output-reading, output-nothing, reading-inside, nothing-counts}
+use Rattle.asked_reading.specs.declared.Asked.{Asked}
+use Rattle.asked_reading.specs.declared.Asked.the-variants.{Reading, Nothing}
+use Rattle.asked_reading.proofs.AskedLaws.{reading-inside, nothing-counts}
 
 -- ---- `put_found`
 module _ (heading nodes masks states text : List ℕ) (f : FoundRoom heading nodes masks states text) where
@@ -78,14 +77,11 @@ module _ (weak : Bool) (x y r : RefT (List ℕ)) (nodes masks states nodes′ ma
       room = room .room;
     }
 
-    abbrev behind : Rule → Recording → List ℕ
-    behind rule recording = behindText weak (rule .controller) (nodesIn (rule .count) (rule .nodes)) recording
-
-    pub found-printed : (e : ℕ) (text′ : List ℕ) → Printed (behind (foundRule heading nodes′) (foundRecording heading masks′ states′)) text 0 e text′ →
+    pub found-printed : (e : ℕ) (text′ : List ℕ) → Printed (behindOf weak (foundRule heading nodes′) (foundRecording heading masks′ states′)) text 0 e text′ →
         Printed (whyTexts weak (x .now) (y .now)) text 0 e text′
     unfolding whyTexts pick
     found-printed e text′ p =
-        let same = ap₂ behind
+        let same = ap₂ (behindOf weak)
         (rule-is x y r nodes masks states nodes′ masks′ states′ heading text j (room .texts) nodesRoom masksRoom statesRoom z)
         (recording-is x y r nodes masks states nodes′ masks′ states′ heading text j (room .texts) nodesRoom masksRoom statesRoom z) in
         rw (eq-eqb R 0 (sym number-is ∙ z), ← same) p
@@ -110,6 +106,26 @@ module _ (input text : List ℕ) (room : InputRoom input text) (s : Parts) (is :
   asked-printed weak e text′ p = rw (← is .rule, ← is .recording, ← part-to-end input (s .«recording_at»)) p
 
 pub ruleset split-laws = (needs, rule-counted, asked-room, asked-printed)
+
+-- ---- what is printed by each answer
+unfoldable answerText : List ℕ → Asked → List ℕ
+answerText input (Reading weak at) = whyTexts weak (ruleIn (drop at input)) (recordingIn (drop at input))
+answerText input (Nothing len) = refusedText ruleForm (take len input)
+
+by-answer : (input : List ℕ) → length input ≤ maxInputBytes → whyOutput input ≡ answerText input (askedIn input)
+unfolding whyOutput askedIn answerText pick
+by-answer input short =
+    rw (le-ltb maxInputBytes (length input) short)
+    (by-test (asks true input) (λ t. rw t) (λ t. by-test (asks false input) (λ s. rw (t, s)) (λ s. rw (t, s))))
+
+module _ (input : List ℕ) (short : length input ≤ maxInputBytes) (r : Asked) (is : AskedIs input r) where
+  output-reading : (weak : Bool) (at : ℕ) → r ≡ Reading weak at → whyOutput input ≡ whyTexts weak (ruleIn (drop at input)) (recordingIn (drop at input))
+  unfolding answerText
+  output-reading weak at e = by-answer input short ∙ ap (answerText input) (sym (is .is) ∙ e)
+
+  output-nothing : (len : ℕ) → r ≡ Nothing len → whyOutput input ≡ refusedText ruleForm (take len input)
+  unfolding answerText
+  output-nothing len e = by-answer input short ∙ ap (answerText input) (sym (is .is) ∙ e)
 
 -- ---- `why`
 module _ (input output : List ℕ) (full : length output ≡ maxWhyBytes) where

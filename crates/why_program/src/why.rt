@@ -1,12 +1,13 @@
 // The program: the first line asks for a reading, and both texts after it are read, judged, and printed of.
-ghost use Rattle.definitions.specs.Tables.{nodesIn};
 ghost use Rattle.definitions.specs.Program.{ruleIn, recordingIn};
-ghost use Rattle.definitions.specs.Why.{behindText, whyTexts, whyOutput};
+ghost use Rattle.definitions.specs.Why.{whyTexts, whyOutput};
 ghost use Rattle.printing.specs.Printing.{Printed};
 ghost use Rattle.program.specs.Output.{foundRule, foundRecording, OutputIs};
+ghost use Rattle.behind_text.specs.Behind.{behindOf};
 ghost use Rattle.why_program.specs.Output.{FoundRoom, WhyRoom, InputRoom};
-use super::asked::Asked;
-use super::asked::asked_by;
+use asked_reading::Asked;
+use asked_reading::asked_by;
+use behind_text::behind::MOST_BYTES;
 use behind_text::behind::put_behind;
 use formulas::limits::Limits;
 use formulas::limits::Refusal;
@@ -16,13 +17,8 @@ use judges::headings::RuleHeading;
 use program::split::split;
 use report::put_refused;
 
-// The bytes of the longest line: of a verdict, and of a reading behind it.
-const VERDICT_BYTES: usize = 11;
-
-const PAIR_BYTES: usize = 40;
-
-// The bytes of the longest output; a refusal has fewer.
-pub const OUTPUT_BYTES: usize = VERDICT_BYTES + Limits::PAIRS * PAIR_BYTES;
+// The bytes of the longest output: that of an accepted rule and recording. A refusal has fewer.
+pub const OUTPUT_BYTES: usize = MOST_BYTES;
 
 // Of the tables that were read with this heading.
 fn put_found(
@@ -34,7 +30,7 @@ fn put_found(
     text: &mut [u8],
 ) -> usize
     requires { ⌜ FoundRoom (now heading) (now nodes) (now masks) (now states) (now text) ⌝ }
-    ensures { λ r. ⌜ Printed (behindText weak ((foundRule (now (heading .entry)) (now (nodes .entry))) .controller) (nodesIn ((foundRule (now (heading .entry)) (now (nodes .entry))) .count) ((foundRule (now (heading .entry)) (now (nodes .entry))) .nodes)) (foundRecording (now (heading .entry)) (now (masks .entry)) (now (states .entry)))) (now (text .entry)) 0 r (now (text .exit)) ⌝ }
+    ensures { λ r. ⌜ Printed (behindOf weak (foundRule (now (heading .entry)) (now (nodes .entry))) (foundRecording (now (heading .entry)) (now (masks .entry)) (now (states .entry)))) (now (text .entry)) 0 r (now (text .exit)) ⌝ }
 {
     let rule = RuleHeading {
         controller: heading[1] as usize,

@@ -1,8 +1,8 @@
 -- `asked_by` meets its contract.
 use borrow.Author.Needs.{needs}
-use Rattle.why_program.proofs.AskedLaws.{asked-laws}
-use Rattle.why_program.proofs.asked.asked_by.Statement.{statement}
-use Rattle.why_program.proofs.asked.asked_by.Tie as tie
+use Rattle.asked_reading.proofs.AskedLaws.{asked-laws}
+use Rattle.asked_reading.proofs.asked_by.Statement.{statement}
+use Rattle.asked_reading.proofs.asked_by.Tie as tie
 
 first-line-requires : tie.Need-first-line-requires
 first-line-requires c κs = search needs

@@ -7,8 +7,8 @@ use lib.ListN.{length}
 use Rattle.definitions.specs.Bounded.{pick}
 use Rattle.definitions.specs.Lines.{lineLength, restAt}
 use Rattle.definitions.specs.Why.{asks}
-use Rattle.why_program.specs.declared.asked.Asked.{Asked}
-use Rattle.why_program.specs.declared.asked.Asked.the-variants.{Reading, Nothing}
+use Rattle.asked_reading.specs.declared.Asked.{Asked}
+use Rattle.asked_reading.specs.declared.Asked.the-variants.{Reading, Nothing}
 
 -- a reading of the texts after that line, or nothing
 unfoldable pub askedIn : List ℕ → Asked

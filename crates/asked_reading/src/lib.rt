@@ -1,5 +1,5 @@
-// What the first line of the input asks for.
-ghost use Rattle.why_program.specs.Asking.{AskedIs};
+// What the first line of the input of the program `why` asks for. The texts after it are not read here.
+ghost use Rattle.asked_reading.specs.Asking.{AskedIs};
 use fields::scan;
 use lines::next::first_line;
 

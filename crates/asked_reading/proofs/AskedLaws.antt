@@ -1,26 +1,23 @@
--- Laws of what the first line asks for: one for each return, and what is printed by each answer.
-use mathlib.Core.Path.{_≡_, refl, ap, sym, _∙_}
-use mathlib.Core.Bool.{Bool, true, false, _&&_, and-false}
+-- Laws of what the first line asks for: one for each return, and the parts that a caller takes.
+use mathlib.Core.Path.{_≡_, ap, sym}
+use mathlib.Core.Bool.{Bool, true, false}
 use mathlib.Core.List.{List}
-use Prim.Native.Nat.{ℕ, _+_, _<_, _≤_}
+use Prim.Native.Nat.{ℕ, _≤_}
 use native.Mathlib.Omega.{arith}
-use lib.ListN.{length, take, drop, length-drop}
+use lib.ListN.{length, take, length-drop}
 use lib.Seq.{length-take-le}
 use borrow.Author.Needs.{needs}
-use borrow.Author.Tests.{le-ltb, ltb-true}
-use Rattle.definitions.specs.Limits.{maxInputBytes, ruleForm}
+use borrow.Author.Tests.{ltb-true}
 use Rattle.definitions.specs.Bounded.{pick}
-use Rattle.definitions.specs.Lines.{newline, before, lineLength, lineOf, isClosed, restAt, restOf, same}
-use Rattle.definitions.specs.Program.{ruleIn, recordingIn, refusedText}
-use Rattle.definitions.specs.Why.{readingWord, asks, whyTexts, whyOutput}
-use Rattle.theorems.proofs.Choice.{by-test}
+use Rattle.definitions.specs.Lines.{newline, before, isClosed, restAt, same}
+use Rattle.definitions.specs.Why.{readingWord, asks}
 use Rattle.theorems.proofs.InputSplit.{rest-length}
 use Rattle.lines.specs.Reading.{FirstLine}
 use Rattle.lines.specs.declared.next.Line.{Line}
 use Rattle.lines.proofs.NextLaws.{short-closed, whole-open, line-counts}
-use Rattle.why_program.specs.Asking.{askedIn, placeOf, AskedIs}
-use Rattle.why_program.specs.declared.asked.Asked.{Asked}
-use Rattle.why_program.specs.declared.asked.Asked.the-variants.{Reading, Nothing}
+use Rattle.asked_reading.specs.Asking.{askedIn, AskedIs}
+use Rattle.asked_reading.specs.declared.Asked.{Asked}
+use Rattle.asked_reading.specs.declared.Asked.the-variants.{Reading, Nothing}
 
 -- ---- `asked_by`
 module _ (input : List ℕ) (l : Line) (is : FirstLine input l) where
@@ -61,26 +58,6 @@ module _ (input : List ℕ) (l : Line) (is : FirstLine input l) where
         asked-nothing e = record { is = rw (asks-is true weakly w, n, asks-is false strongly s, e, is .length-is); inside = is .within }
 
 pub ruleset asked-laws = (needs, line-length, asked-open, asked-weak, asked-strong, asked-nothing)
-
--- ---- what is printed by each answer
-unfoldable answerText : List ℕ → Asked → List ℕ
-answerText input (Reading weak at) = whyTexts weak (ruleIn (drop at input)) (recordingIn (drop at input))
-answerText input (Nothing len) = refusedText ruleForm (take len input)
-
-by-answer : (input : List ℕ) → length input ≤ maxInputBytes → whyOutput input ≡ answerText input (askedIn input)
-unfolding whyOutput askedIn answerText pick
-by-answer input short =
-    rw (le-ltb maxInputBytes (length input) short)
-    (by-test (asks true input) (λ t. rw t) (λ t. by-test (asks false input) (λ s. rw (t, s)) (λ s. rw (t, s))))
-
-module _ (input : List ℕ) (short : length input ≤ maxInputBytes) (r : Asked) (is : AskedIs input r) where
-  pub output-reading : (weak : Bool) (at : ℕ) → r ≡ Reading weak at → whyOutput input ≡ whyTexts weak (ruleIn (drop at input)) (recordingIn (drop at input))
-  unfolding answerText
-  output-reading weak at e = by-answer input short ∙ ap (answerText input) (sym (is .is) ∙ e)
-
-  pub output-nothing : (len : ℕ) → r ≡ Nothing len → whyOutput input ≡ refusedText ruleForm (take len input)
-  unfolding answerText
-  output-nothing len e = by-answer input short ∙ ap (answerText input) (sym (is .is) ∙ e)
 
 -- ---- the parts that a caller takes by it
 module _ (input : List ℕ) (r : Asked) (is : AskedIs input r) where
