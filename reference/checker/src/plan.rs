@@ -107,7 +107,7 @@ impl Plan {
     pub fn probe(seed: u64) -> Plan {
         Plan {
             seed,
-            random_batches: 2,
+            random_batches: 5,
             damaged_texts: 1,
             ending_batches: 2,
             list_length: 2,
