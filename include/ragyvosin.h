@@ -95,7 +95,8 @@ enum {
     RGV_TABLE_NODES = 1024,
     RGV_PAIR_WORDS = 6,
     RGV_ROW_WORDS = 6144,      /* 1,024 row pairs */
-    RGV_RULE_BYTES = 1024
+    RGV_RULE_BYTES = 1024,
+    RGV_PAIRS = 8192           /* a node and a place: 64 times 128 */
 };
 
 /*
@@ -179,6 +180,24 @@ uint8_t rgv_judge_local(size_t controller, size_t count,
                         const uint32_t *masks, size_t masks_len,
                         const uint64_t *states, size_t states_len,
                         size_t values[2]);
+
+/*
+ * The readings behind a verdict of rgv_judge_local: the weak one where `weak`
+ * is not 0, else the strong one. A reading is a pair of a node of kind atom and
+ * a place of the local trace, as one number: place * RGV_RULE_NODES + node, so
+ * pair / 64 is the place and pair % 64 the node. Each stands a single time, by
+ * place, then node. Every local trace of the same length and own mask that has
+ * the same bits there gets the same verdict. Full size: pairs RGV_PAIRS.
+ * values: number of pairs. Refusals: 13, 2, 3, 4, 6, 7, 10, 8, 11.
+ */
+uint8_t rgv_evidence(size_t controller, size_t count,
+                     const uint32_t *nodes, size_t nodes_len,
+                     size_t controllers, size_t states_count,
+                     const uint32_t *masks, size_t masks_len,
+                     const uint64_t *states, size_t states_len,
+                     uint8_t weak,
+                     uint32_t *pairs, size_t pairs_len,
+                     size_t values[1]);
 
 /*
  * Rewrites a rule over the whole recording, for a mask of own atoms: plain or

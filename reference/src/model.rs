@@ -15,6 +15,7 @@ pub mod rewriting;
 pub mod semantics;
 pub mod text;
 pub mod trace;
+pub mod why;
 
 use evidence::{walk, AsWorded, Pair};
 use formula::{check_formula, check_nodes, Formula, Language, Node};
@@ -171,6 +172,15 @@ pub fn read_recording(
 fn refused_part(source: Source, refused: RefusedLine) -> (u8, Part) {
     let part = Part { source, start: refused.line.start, length: refused.line.len() };
     (refused.number, part)
+}
+
+/// The bytes that a part is of.
+fn part_of<'a>(part: Part, rule_text: &'a [u8], recording_text: &'a [u8]) -> &'a [u8] {
+    let text = match part.source {
+        Source::Rule => rule_text,
+        Source::Recording => recording_text,
+    };
+    &text[part.start..part.start + part.length]
 }
 
 /// Both texts: the whole rule text, the whole recording text, then 11.
@@ -429,11 +439,7 @@ fn program_tables(input: &[u8]) -> Result<Tables, (u8, &[u8])> {
         read_joint(rule_text, recording_text, &mut nodes, &mut masks, &mut states, &mut heading);
     let [number, controller, count, controllers, length] = heading.map(|value| value as usize);
     if number != 0 {
-        let text = match part.source {
-            Source::Rule => rule_text,
-            Source::Recording => recording_text,
-        };
-        return Err((number as u8, &text[part.start..part.start + part.length]));
+        return Err((number as u8, part_of(part, rule_text, recording_text)));
     }
     Ok(Tables { controller, count, controllers, length, nodes, masks, states })
 }

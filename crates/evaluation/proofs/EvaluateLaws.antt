@@ -9,10 +9,10 @@ use lib.ListN.{length, take, drop, getD, length-append, length-drop, take-append
 use lib.Seq.{take-at, drop-at, drop-drop}
 use borrow.Author.Needs.{needs}
 use borrow.Author.Tests.{lt-ltb, le-ltb, ltb-true, eqb-true}
-use Rattle.definitions.specs.Limits.{pairWords}
-use Rattle.definitions.specs.Nodes.{node, nodeOf, kindOf}
+use Rattle.definitions.specs.Limits.{maxStates, pairWords}
+use Rattle.definitions.specs.Nodes.{Node, node, nodeOf, kindOf}
 use Rattle.definitions.specs.Tables.{nodesIn}
-use Rattle.definitions.specs.Readings.{Rows, noRows, nodeRows, rowsOf, rowWords, pairsWords}
+use Rattle.definitions.specs.Readings.{Trace, Rows, noRows, nodeRows, rowsOf, rowWords, pairsWords}
 use Rattle.theorems.proofs.Choice.{both-true}
 use Rattle.formulas.specs.Meaning.{meaning, OfWord}
 use Rattle.formulas.specs.declared.node.Node as code
@@ -43,6 +43,20 @@ both-made p q n r s m o = record {
   secondFirst = o .weak .count ∙ sym (m .weak .count);
   secondEven = o .strong .count ∙ sym (m .weak .count);
 }
+
+-- the pair of node k, where rows are laid
+pub pair-of-rows : (t : Trace) (ns : List Node) (l rest : List ℕ) → t .places ≤ maxStates → l ≡ pairsWords (rowsOf t ns) ++ rest → (k : ℕ) → k < length ns
+    → (p : Pair) → p ≡ pairOfNode l k → PairMade p (t .places) (getD (rowsOf t ns) k noRows)
+unfolding pairAt
+pair-of-rows t ns l rest few laid k h p e =
+    let hk : k < length (rowsOf t ns) = rw (rows-length t ns) h in
+    let sizes = rows-sized t ns k hk in
+    record {
+      weak = loaded l (k * pairWords) (t .places) ((getD (rowsOf t ns) k noRows) .weak) (p .weak) (ap (λ (q : Pair). q .weak) e)
+          (ap (λ (ws : List ℕ). take 3 (drop (k * pairWords) ws)) laid ∙ weak-words (rowsOf t ns) rest k hk) (sizes .0) few;
+      strong = loaded l (k * pairWords + 3) (t .places) ((getD (rowsOf t ns) k noRows) .strong) (p .strong) (ap (λ (q : Pair). q .strong) e)
+          (ap (λ (ws : List ℕ). take 3 (drop (k * pairWords + 3) ws)) laid ∙ strong-words (rowsOf t ns) rest k hk) (sizes .1) few;
+    }
 
 -- ---- a node's turn
 
@@ -87,17 +101,10 @@ module _ (nodes : List ℕ) (i : ℕ) (states : List ℕ) (n c own : ℕ) (rows 
   laid-whole : rows ≡ pairsWords before ++ drop (i * pairWords) rows
   laid-whole = sym (take-append-drop (i * pairWords) rows) ∙ ap (λ (l : List ℕ). l ++ drop (i * pairWords) rows) (ready .laid)
 
-  pair-loaded : (k : ℕ) (p : Pair) → p ≡ pairAt rows (k * pairWords) → k < i → PairMade p n (getD before k noRows)
-  unfolding pairAt
+  pair-loaded : (k : ℕ) (p : Pair) → p ≡ pairOfNode rows k → k < i → PairMade p n (getD before k noRows)
   pair-loaded k p e h =
-      let hk : k < length before = rw before-length h in
-      let sizes = rows-sized (traceOf states n c own) (nodesIn i nodes) k hk in
-      record {
-        weak = loaded rows (k * pairWords) n ((getD before k noRows) .weak) (p .weak) (ap (λ (q : Pair). q .weak) e)
-            (ap (λ (l : List ℕ). take 3 (drop (k * pairWords) l)) laid-whole ∙ weak-words before (drop (i * pairWords) rows) k hk) (sizes .0) (ready .few);
-        strong = loaded rows (k * pairWords + 3) n ((getD before k noRows) .strong) (p .strong) (ap (λ (q : Pair). q .strong) e)
-            (ap (λ (l : List ℕ). take 3 (drop (k * pairWords + 3) l)) laid-whole ∙ strong-words before (drop (i * pairWords) rows) k hk) (sizes .1) (ready .few);
-      }
+      let few : k < length (nodesIn i nodes) = omega (arith, nodes-length nodes i (omega (arith, ready .counted))) in
+      pair-of-rows (traceOf states n c own) (nodesIn i nodes) rows (drop (i * pairWords) rows) (ready .few) laid-whole k few p e
 
   module _ (x : code.Node) (word : OfWord (getD nodes i 0) x) where
     fit-of : Fit i (meaning x)

@@ -12,14 +12,15 @@ use lib.Seq.{take-at, drop-at, drop-drop, take-suc, set-split, length-take-le}
 use borrow.Author.Needs.{needs}
 use Rattle.definitions.specs.Limits.{maxStates, maxRuleNodes, pairWords}
 use Rattle.definitions.specs.Bounded.{orElse}
+use Rattle.definitions.specs.Nodes.{Node}
 use Rattle.definitions.specs.Tables.{Rule, ruleOf, ruleRefusal, nodesRefusal, nodesIn}
 use Rattle.definitions.specs.Recordings.{Recording, recordingOf, maskOf, recordingRefusal, controllerRefusal}
 use Rattle.definitions.specs.Projection.{localTrace}
-use Rattle.definitions.specs.Readings.{local, rowsOf, pairsWords, verdicts, localVerdicts}
+use Rattle.definitions.specs.Readings.{Trace, local, rowsOf, pairsWords, verdicts, localVerdicts}
 use Rattle.definitions.specs.Operations.{verdictValues, judgeLocalNumber, judgeLocalAnswer}
 use Rattle.theorems.proofs.Choice.{or-else-none}
 use Rattle.theorems.proofs.NodeLaws.{accepted-rule}
-use Rattle.theorems.proofs.RuleNodes.{rule-some, rule-few}
+use Rattle.theorems.proofs.RuleNodes.{rule-some, rule-few, rule-length}
 use Rattle.theorems.proofs.ScheduleIndependence.{Accepted}
 use Rattle.lent.specs.Space.{laid}
 use Rattle.traces.specs.Joining.{traceRefusal}
@@ -29,13 +30,15 @@ use Rattle.projection.proofs.LengthLaws.{length-of}
 use Rattle.projection.proofs.PlaceLaws.{projectable, local-places, few-local}
 use Rattle.evaluation.specs.Traced.{traceOf}
 use Rattle.evaluation.specs.Nodes.{Evaluable, rowsTo}
-use Rattle.evaluation.proofs.TableLaws.{nodes-length}
+use Rattle.evaluation.proofs.TableLaws.{rows-length, nodes-length}
+use Rattle.rows.proofs.StoredLaws.{pairs-length}
 use Rattle.judges.specs.declared.verdicts.Verdicts.{Verdicts}
 use Rattle.judges.specs.declared.verdicts.Judgement.the-variants.{Judged, Refused}
-use Rattle.judges.specs.Verdicts.{meant, answerOf, ownVerdicts, OwnReady, Topped, topsIn}
+use Rattle.judges.specs.Verdicts.{meant, answerOf, ownVerdicts, Topped, topsIn}
+use Rattle.judges.specs.Local.{ownTrace, OwnReady, OwnRows}
 use Rattle.judges.proofs.CheckedNodes.{nodes-fit, nodes-there}
 use Rattle.judges.proofs.TraceLaws.{local-rows}
-use Rattle.judges.proofs.TopLaws.{topped, tops-verdicts, same-verdicts}
+use Rattle.judges.proofs.TopLaws.{topped, tops-verdicts}
 use Rattle.judges.proofs.WholeLaws.{answer-refused, accepted-controller}
 
 -- ---- places widened
@@ -72,10 +75,9 @@ module _ (words : List ℕ) (n : ℕ) (entry : List ℕ) (i : ℕ) (l : List ℕ
   pub widening-done : n ≤ i → l ≡ take n words ++ drop n entry
   widening-done h = let e : i ≡ n = omega (arith, so .within) in rw e at (so .laid)
 
--- ---- an accepted rule over the local trace of an accepted recording
+-- ---- the rows of an accepted rule over the local trace of an accepted recording
 
-module _ (c count : ℕ) (nodes : List ℕ) (C n : ℕ) (masks states words places rows : List ℕ)
-    (ready : OwnReady (ruleOf c count nodes) (recordingOf C n masks states) words places rows) where
+module _ (c count : ℕ) (nodes : List ℕ) (C n : ℕ) (masks states rows : List ℕ) (ready : OwnReady (ruleOf c count nodes) (recordingOf C n masks states) rows) where
   abbrev r : Rule
   r = ruleOf c count nodes
 
@@ -85,11 +87,8 @@ module _ (c count : ℕ) (nodes : List ℕ) (C n : ℕ) (masks states words plac
   A : Accepted r R
   A = ready .accepted
 
-  pub own-some : 1 ≤ count
-  own-some = omega (arith, rule-some r (A .rule))
-
-  pub own-projectable : Projectable n c states words
-  own-projectable = projectable R c words (A .recording) (A .controller) (ready .wordsRoom)
+  pub own-projectable : (words : List ℕ) → maxStates ≤ length words → Projectable n c states words
+  own-projectable words room = projectable R c words (A .recording) (A .controller) room
 
   nodes-accepted : nodesRefusal false 0 count nodes ≡ 0
   nodes-accepted = (accepted-rule r (A .rule)) .1
@@ -100,19 +99,21 @@ module _ (c count : ℕ) (nodes : List ℕ) (C n : ℕ) (masks states words plac
     L = last + 1
 
     length-few : L ≤ maxStates
-    length-few = omega (arith, few-local n c states words own-projectable, own-projectable .fewStates)
+    length-few =
+        let p : Projectable n c states rows = own-projectable rows (omega (arith, ready .room)) in
+        omega (arith, few-local n c states rows p, p .fewStates)
 
     pub own-length : Fits w64 L
     own-length = record { fits = omega (arith, length-few) }
 
-    pub own-few : (words′ : List ℕ) → length words′ ≡ length words → L ≤ length words′
-    own-few words′ kept = omega (arith, length-few, ready .wordsRoom)
+    pub own-few : (words words′ : List ℕ) → maxStates ≤ length words → length words′ ≡ length words → L ≤ length words′
+    own-few words words′ room kept = omega (arith, length-few)
 
-    pub own-room : L ≤ length places
-    own-room = omega (arith, length-few, ready .placesRoom)
+    pub own-room : (places : List ℕ) → maxStates ≤ length places → L ≤ length places
+    own-room places room = omega (arith, length-few)
 
-    module _ (mask : ℕ) (me : mask ≡ getD masks c 0) (words′ : List ℕ) (p : words′ ≡ laid (placesIn n mask c states) words)
-        (places′ : List ℕ) (w : places′ ≡ take L words′ ++ drop L places) where
+    module _ (mask : ℕ) (me : mask ≡ getD masks c 0) (words words′ : List ℕ) (p : words′ ≡ laid (placesIn n mask c states) words)
+        (places places′ : List ℕ) (w : places′ ≡ take L words′ ++ drop L places) where
       abbrev content : List ℕ
       content = placesIn n mask c states
 
@@ -129,26 +130,61 @@ module _ (c count : ℕ) (nodes : List ℕ) (C n : ℕ) (masks states words plac
         few = length-few;
         there = rw (front, length-append) (omega (arith, size));
         controller = omega arith;
-        room = omega (arith, rule-few r (A .rule), ready .rowsRoom);
+        room = omega (arith, rule-few r (A .rule), ready .room);
       }
 
-      module _ (rows′ : List ℕ) (evaluated : rows′ ≡ pairsWords (rowsTo nodes count places′ L 0 mask) ++ drop (count * pairWords) rows) where
-        below : count - 1 < count
-        below = omega (arith, own-some)
+      pub own-laid : (rows′ : List ℕ) → rows′ ≡ pairsWords (rowsTo nodes count places′ L 0 mask) ++ drop (count * pairWords) rows → OwnRows r R rows L rows′
+      own-laid rows′ evaluated =
+          let own : mask ≡ maskOf R c = me ∙ own-mask R c (A .controller) in
+          let trace : content ≡ localTrace R c = ap (λ (m : ℕ). placesIn n m c states) own ∙ local-places R c in
+          let same : rowsOf (local mask content) (nodesIn count nodes) ≡ rowsTo nodes count places′ L 0 mask =
+          rw (front, ← size) (local-rows mask 0 content (drop (length content) places) count nodes nodes-accepted) in
+          let rs : rowsOf (ownTrace r R) (nodesIn count nodes) ≡ rowsTo nodes count places′ L 0 mask =
+          ap₂ (λ (m : ℕ) (l : List ℕ). rowsOf (local m l) (nodesIn count nodes)) (sym own) (sym trace) ∙ same in
+          let ns : length (nodesIn count nodes) ≡ count = nodes-length nodes count (own-evaluable .counted) in
+          let len : length (pairsWords (rowsTo nodes count places′ L 0 mask)) ≡ count * pairWords =
+          omega (arith, pairs-length (rowsTo nodes count places′ L 0 mask), rows-length (traceOf places′ L 0 mask) (nodesIn count nodes)) in
+          record {
+            long = sym size ∙ ap length trace;
+            few = length-few;
+            rows = evaluated ∙ rw (rs, len);
+          }
 
-        pub own-topped : Topped rows′ (count - 1) (count - 1)
-        own-topped = topped nodes count places′ L 0 mask rows rows′ (drop (count * pairWords) rows) (count - 1) (count - 1) own-evaluable evaluated below below
+-- ---- the verdicts, from the rows
 
-        pub own-judged : (v : Verdicts) → v ≡ topsIn rows′ (count - 1) (count - 1) → meant v ≡ ownVerdicts r R
-        own-judged v e =
-            let own : mask ≡ maskOf R c = me ∙ own-mask R c (A .controller) in
-            let ns : length (nodesIn count nodes) ≡ count = nodes-length nodes count (own-evaluable .counted) in
-            let trace : content ≡ localTrace R c = ap (λ (m : ℕ). placesIn n m c states) own ∙ local-places R c in
-            let same : rowsOf (local mask content) (nodesIn count nodes) ≡ rowsOf (traceOf places′ L 0 mask) (nodesIn count nodes) =
-            rw (front, ← size) (local-rows mask 0 content (drop (length content) places) count nodes nodes-accepted) in
-            tops-verdicts nodes count places′ L 0 mask rows rows′ (drop (count * pairWords) rows) (count - 1) (count - 1) own-evaluable evaluated below below v e
-            ∙ (sym (same-verdicts (local mask content) (traceOf places′ L 0 mask) (nodesIn count nodes) (count - 1) (count - 1) same)
-            ∙ rw ns (ap₂ (λ (m : ℕ) (l : List ℕ). verdicts (local m l) (nodesIn count nodes) (count - 1) (count - 1)) own trace))
+module _ (c count : ℕ) (nodes : List ℕ) (C n : ℕ) (masks states : List ℕ) (given : Accepted (ruleOf c count nodes) (recordingOf C n masks states)) where
+  pub own-ready : (rows : List ℕ) → maxRuleNodes * pairWords ≤ length rows → OwnReady (ruleOf c count nodes) (recordingOf C n masks states) rows
+  own-ready rows room = record { accepted = given; room = room }
+
+  pub own-some : 1 ≤ count
+  own-some = omega (arith, rule-some (ruleOf c count nodes) (given .rule))
+
+  module _ (entry rows : List ℕ) (places : ℕ) (own : OwnRows (ruleOf c count nodes) (recordingOf C n masks states) entry places rows) where
+    abbrev t : Trace
+    t = ownTrace (ruleOf c count nodes) (recordingOf C n masks states)
+
+    abbrev ns : List Node
+    ns = nodesIn count nodes
+
+    abbrev rest : List ℕ
+    rest = drop (length (pairsWords (rowsOf t ns))) entry
+
+    few : t .places ≤ maxStates
+    few = omega (arith, own .long, own .few)
+
+    all : length ns ≡ count
+    all = rule-length (ruleOf c count nodes) (given .rule)
+
+    below : count - 1 < length ns
+    below = omega (arith, own-some, all)
+
+    pub own-topped : Topped rows (count - 1) (count - 1)
+    own-topped = topped t ns rows rest (count - 1) (count - 1) few (own .rows) below below
+
+    pub own-judged : (v : Verdicts) → v ≡ topsIn rows (count - 1) (count - 1) → meant v ≡ ownVerdicts (ruleOf c count nodes) (recordingOf C n masks states)
+    own-judged v e =
+        tops-verdicts t ns rows rest (count - 1) (count - 1) few (own .rows) below below v e
+        ∙ ap (λ (m : ℕ). verdicts t ns (m - 1) (m - 1)) (sym all)
 
 -- ---- the check, and the answers
 
@@ -183,6 +219,8 @@ module _ (c count : ℕ) (nodes : List ℕ) (C n : ℕ) (masks states : List ℕ
 
 pub ruleset widen-laws = (needs, widening-none, widening-length, widening-room, widening-more, widening-done)
 
-pub ruleset own-laws = (needs, own-some, own-projectable, own-length, own-few, own-room, own-evaluable, own-topped, own-judged)
+pub ruleset rows-laws = (needs, own-projectable, own-length, own-few, own-room, own-evaluable, own-laid)
+
+pub ruleset own-laws = (needs, own-ready, own-some, own-topped, own-judged)
 
 pub ruleset local-laws = (needs, local-number, local-refused, local-accepted, local-judged)

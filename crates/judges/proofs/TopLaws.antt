@@ -2,24 +2,23 @@
 use mathlib.Core.Path.{_≡_, refl, ap, _∙_}
 use mathlib.Core.Bool.{Bool}
 use mathlib.Core.List.{List, _++_}
-use Prim.Native.Nat.{ℕ, _+_, _*_, _<_}
+use Prim.Native.Nat.{ℕ, _+_, _*_, _<_, _≤_}
 use native.Mathlib.Omega.{arith}
-use lib.ListN.{length, take, drop, getD, length-append}
+use lib.ListN.{length, getD, length-append}
 use borrow.Author.Needs.{needs}
-use Rattle.definitions.specs.Limits.{pairWords}
+use Rattle.definitions.specs.Limits.{maxStates, pairWords}
 use Rattle.definitions.specs.Nodes.{Node}
-use Rattle.definitions.specs.Tables.{nodesIn}
-use Rattle.definitions.specs.Readings.{Trace, Rows, noRows, rowsOf, verdict, pairsWords, verdicts}
+use Rattle.definitions.specs.Readings.{Trace, noRows, rowsOf, verdict, pairsWords, verdicts}
 use Rattle.rows.specs.declared.row.Row.{Row}
 use Rattle.mark_words.specs.Marks.{markAt}
 use Rattle.rows.specs.Marks.{marks, Whole, Made}
 use Rattle.rows.specs.Stored.{rowAt}
-use Rattle.rows.proofs.StoredLaws.{loaded, pairs-length, weak-words, strong-words}
+use Rattle.rows.proofs.StoredLaws.{pairs-length}
+use Rattle.evaluation.specs.Pairs.{pairAt, pairOfNode}
+use Rattle.evaluation.proofs.TableLaws.{rows-length}
+use Rattle.evaluation.proofs.EvaluateLaws.{pair-of-rows}
 use Rattle.judges.specs.declared.verdicts.Verdicts.{Verdicts}
-use Rattle.evaluation.specs.Traced.{traceOf}
-use Rattle.evaluation.specs.Nodes.{Evaluable, rowsTo}
 use Rattle.judges.specs.Verdicts.{meant, Topped, topsIn}
-use Rattle.evaluation.proofs.TableLaws.{rows-length, rows-sized, nodes-length}
 
 module _ (rows : List ℕ) (weakTop strongTop : ℕ) where
   pub weak-whole : (r : Row) → Topped rows weakTop strongTop → r ≡ rowAt rows (weakTop * pairWords) → Whole r
@@ -33,31 +32,19 @@ module _ (rows : List ℕ) (weakTop strongTop : ℕ) where
   unfolding topsIn
   tops-read a b x y e f g h = cc
 
-module _ (nodes : List ℕ) (count : ℕ) (states : List ℕ) (n c own : ℕ) (entry l rest : List ℕ) (weakTop strongTop : ℕ)
-    (given : Evaluable nodes count states n c entry) (laid : l ≡ pairsWords (rowsTo nodes count states n c own) ++ rest)
-    (weakBelow : weakTop < count) (strongBelow : strongTop < count) where
-  abbrev all : List Rows
-  all = rowsTo nodes count states n c own
+-- where the rows of a table are laid, its verdicts are the marks at its tops
+module _ (t : Trace) (ns : List Node) (l rest : List ℕ) (weakTop strongTop : ℕ) (few : t .places ≤ maxStates) (laid : l ≡ pairsWords (rowsOf t ns) ++ rest)
+    (weakBelow : weakTop < length ns) (strongBelow : strongTop < length ns) where
+  words-length : length l ≡ length ns * pairWords + length rest
+  words-length = ap length laid ∙ rw length-append (omega (arith, pairs-length (rowsOf t ns), rows-length t ns))
 
-  all-length : length all ≡ count
-  all-length = rows-length (traceOf states n c own) (nodesIn count nodes) ∙ nodes-length nodes count (given .counted)
+  weak-made : Made (rowAt l (weakTop * pairWords)) (t .places) ((getD (rowsOf t ns) weakTop noRows) .weak)
+  unfolding pairAt
+  weak-made = (pair-of-rows t ns l rest few laid weakTop weakBelow (pairOfNode l weakTop) refl) .weak
 
-  words-length : length l ≡ count * pairWords + length rest
-  words-length = ap length laid ∙ rw length-append (omega (arith, pairs-length all, all-length))
-
-  weak-made : Made (rowAt l (weakTop * pairWords)) n ((getD all weakTop noRows) .weak)
-  weak-made =
-      let h : weakTop < length all = rw all-length weakBelow in
-      loaded l (weakTop * pairWords) n ((getD all weakTop noRows) .weak) (rowAt l (weakTop * pairWords)) refl
-      (ap (λ (ws : List ℕ). take 3 (drop (weakTop * pairWords) ws)) laid ∙ weak-words all rest weakTop h)
-      ((rows-sized (traceOf states n c own) (nodesIn count nodes) weakTop h) .0) (given .few)
-
-  strong-made : Made (rowAt l (strongTop * pairWords + 3)) n ((getD all strongTop noRows) .strong)
-  strong-made =
-      let h : strongTop < length all = rw all-length strongBelow in
-      loaded l (strongTop * pairWords + 3) n ((getD all strongTop noRows) .strong) (rowAt l (strongTop * pairWords + 3)) refl
-      (ap (λ (ws : List ℕ). take 3 (drop (strongTop * pairWords + 3) ws)) laid ∙ strong-words all rest strongTop h)
-      ((rows-sized (traceOf states n c own) (nodesIn count nodes) strongTop h) .1) (given .few)
+  strong-made : Made (rowAt l (strongTop * pairWords + 3)) (t .places) ((getD (rowsOf t ns) strongTop noRows) .strong)
+  unfolding pairAt
+  strong-made = (pair-of-rows t ns l rest few laid strongTop strongBelow (pairOfNode l strongTop) refl) .strong
 
   pub topped : Topped l weakTop strongTop
   topped = record {
@@ -67,13 +54,8 @@ module _ (nodes : List ℕ) (count : ℕ) (states : List ℕ) (n c own : ℕ) (e
     strong = strong-made .whole;
   }
 
-  pub tops-verdicts : (r : Verdicts) → r ≡ topsIn l weakTop strongTop → meant r ≡ verdicts (traceOf states n c own) (nodesIn count nodes) weakTop strongTop
+  pub tops-verdicts : (r : Verdicts) → r ≡ topsIn l weakTop strongTop → meant r ≡ verdicts t ns weakTop strongTop
   unfolding topsIn verdict
   tops-verdicts r e = rw (e, weak-made .marked, strong-made .marked)
-
--- the same rows give the same verdicts
-pub same-verdicts : (t u : Trace) (ns : List Node) (weakTop strongTop : ℕ) → rowsOf t ns ≡ rowsOf u ns → verdicts t ns weakTop strongTop ≡ verdicts u ns weakTop strongTop
-unfolding verdict
-same-verdicts t u ns weakTop strongTop e = rw e
 
 pub ruleset top-laws = (needs, weak-whole, strong-whole, tops-read)

@@ -1,5 +1,5 @@
 -- One law for each need of judging the whole recording.
-use mathlib.Core.Path.{_≡_, refl, sym, ap, _∙_}
+use mathlib.Core.Path.{_≡_, refl, sym, _∙_}
 use mathlib.Core.Bool.{true, _&&_}
 use mathlib.Core.List.{List, [], _++_}
 use Prim.Native.Nat.{ℕ, _+_, _*_, _-_, _<_, _≤_}
@@ -22,16 +22,16 @@ use Rattle.lent.specs.Space.{laid, cleared}
 use Rattle.rows.proofs.StoredLaws.{pairs-length}
 use Rattle.lent.proofs.LeftLaws.{laid-past, laid-begins, left-filled, lent-number, lent-full, zeroed-within, zeroed-left}
 use Rattle.traces.specs.Joining.{traceRefusal}
-use Rattle.evaluation.specs.Traced.{traceOf, everyAtom}
+use Rattle.evaluation.specs.Traced.{everyAtom}
 use Rattle.evaluation.specs.Nodes.{Evaluable, rowsTo}
 use Rattle.evaluation.proofs.TableLaws.{rows-length, nodes-length}
 use Rattle.judges.specs.declared.verdicts.Verdicts.{Verdicts}
 use Rattle.judges.specs.declared.verdicts.Judgement.the-variants.{Judged, Refused}
-use Rattle.judges.specs.Verdicts.{meant, answerOf, Topped, topsIn}
+use Rattle.judges.specs.Verdicts.{answerOf, Topped, topsIn}
 use Rattle.judges.specs.Whole.{wholeIn, WholeReady, WholeVerdicts, WholeJudged}
 use Rattle.judges.proofs.CheckedNodes.{nodes-fit, nodes-there}
 use Rattle.judges.proofs.TraceLaws.{whole-rows}
-use Rattle.judges.proofs.TopLaws.{topped, tops-verdicts, same-verdicts}
+use Rattle.judges.proofs.TopLaws.{topped, tops-verdicts}
 
 -- ---- an accepted table
 
@@ -79,26 +79,35 @@ module _ (count : ℕ) (nodes : List ℕ) (weakTop strongTop n : ℕ) (states : 
     pub whole-fits : Fits w64 (count * pairWords)
     whole-fits = record { fits = omega (arith, A .few) }
 
+    ns-length : length (nodesIn count nodes) ≡ count
+    ns-length = nodes-length nodes count (whole-evaluable .counted)
+
+    weak-below : weakTop < length (nodesIn count nodes)
+    weak-below = omega (arith, ns-length, A .weakBelow)
+
+    strong-below : strongTop < length (nodesIn count nodes)
+    strong-below = omega (arith, ns-length, A .strongBelow)
+
     module _ (l : List ℕ) (evaluated : l ≡ pairsWords (rowsTo nodes count states n c everyAtom) ++ drop (count * pairWords) entry) where
+      abbrev words : List ℕ
+      words = pairsWords (rowsOf (wholeIn n states c) (nodesIn count nodes))
+
+      rows-laid : l ≡ words ++ drop (count * pairWords) entry
+      rows-laid = rw (whole-rows (recordingOf 0 n [] states) c count nodes (A .nodes)) evaluated
+
       pub whole-topped : Topped l weakTop strongTop
-      whole-topped =
-          topped nodes count states n c everyAtom entry l (drop (count * pairWords) entry) weakTop strongTop whole-evaluable evaluated (A .weakBelow) (A .strongBelow)
+      whole-topped = topped (wholeIn n states c) (nodesIn count nodes) l (drop (count * pairWords) entry) weakTop strongTop (ready .few) rows-laid weak-below strong-below
 
       pub whole-verdicts : (v : Verdicts) (exit : List ℕ) → v ≡ topsIn l weakTop strongTop → exit ≡ cleared l (count * pairWords) maxRowWords
           → WholeVerdicts t n states c entry v exit
       whole-verdicts v exit e x =
-          let rs = rows-length (traceOf states n c everyAtom) (nodesIn count nodes) in
-          let ns = nodes-length nodes count (whole-evaluable .counted) in
-          let words : List ℕ = pairsWords (rowsTo nodes count states n c everyAtom) in
-          let len : length words ≡ count * pairWords = omega (arith, pairs-length (rowsTo nodes count states n c everyAtom)) in
-          let over : l ≡ laid words entry = rw len evaluated in
-          let same : rowsOf (wholeIn n states c) (nodesIn count nodes) ≡ rowsTo nodes count states n c everyAtom =
-          whole-rows (recordingOf 0 n [] states) c count nodes (A .nodes) in
+          let rs = rows-length (wholeIn n states c) (nodesIn count nodes) in
+          let len : length words ≡ count * pairWords = omega (arith, ns-length, pairs-length (rowsOf (wholeIn n states c) (nodesIn count nodes))) in
+          let over : l ≡ laid words entry = rw len rows-laid in
           record {
-            verdicts = tops-verdicts nodes count states n c everyAtom entry l (drop (count * pairWords) entry) weakTop strongTop whole-evaluable evaluated (A .weakBelow) (A .strongBelow) v e
-                ∙ sym (same-verdicts (wholeIn n states c) (traceOf states n c everyAtom) (nodesIn count nodes) weakTop strongTop same);
-            rows = rw same (left-filled accepted maxRowWords words entry l exit (laid-past maxRowWords words entry l (omega (arith, A .few, len)) over)
-                (count * pairWords) refl len (laid-begins (count * pairWords) words entry l len over) x);
+            verdicts = tops-verdicts (wholeIn n states c) (nodesIn count nodes) l (drop (count * pairWords) entry) weakTop strongTop (ready .few) rows-laid weak-below strong-below v e;
+            rows = left-filled accepted maxRowWords words entry l exit (laid-past maxRowWords words entry l (omega (arith, A .few, len)) over)
+                (count * pairWords) refl len (laid-begins (count * pairWords) words entry l len over) x;
           }
 
 -- ---- the check

@@ -1,3 +1,4 @@
 pub mod Headings
 pub mod Verdicts
+pub mod Local
 pub mod Whole

@@ -2,14 +2,13 @@
 use mathlib.Core.List.{List, []}
 use Prim.Native.Nat.{ℕ, _+_, _*_, _≤_}
 use lib.ListN.{length}
-use Rattle.definitions.specs.Limits.{accepted, maxStates, maxRuleNodes, pairWords}
+use Rattle.definitions.specs.Limits.{accepted, pairWords}
 use Rattle.definitions.specs.Tables.{Rule, nodesIn}
 use Rattle.definitions.specs.Recordings.{Recording, maskOf}
 use Rattle.definitions.specs.Projection.{localTrace}
 use Rattle.definitions.specs.Readings as readings
 use Rattle.definitions.specs.Readings.{localVerdicts}
 use Rattle.definitions.specs.Operations.{Answer, answer, verdictValues}
-use Rattle.theorems.proofs.ScheduleIndependence.{Accepted}
 use Rattle.mark_words.specs.Marks.{markAt}
 use Rattle.rows.specs.Marks.{marks, Whole}
 use Rattle.rows.specs.Stored.{rowAt}
@@ -29,13 +28,6 @@ answerOf (Refused number) = answer number []
 -- the verdicts of a rule on its own local trace
 abbrev pub ownVerdicts : Rule → Recording → readings.Verdicts
 ownVerdicts r R = localVerdicts (nodesIn (r .count) (r .nodes)) (maskOf R (r .controller)) (localTrace R (r .controller))
-
--- an accepted rule and recording, and space for the places and the rows
-pub record OwnReady (r : Rule) (R : Recording) (words places rows : List ℕ) : Type 0 where
-  pub accepted : Accepted r R
-  pub wordsRoom : maxStates ≤ length words
-  pub placesRoom : maxStates ≤ length places
-  pub rowsRoom : maxRuleNodes * pairWords ≤ length rows
 
 -- the weak row of one node and the strong row of another
 pub record Topped (rows : List ℕ) (weakTop strongTop : ℕ) : Type 0 where

@@ -8,7 +8,8 @@ ghost use Rattle.definitions.specs.Recordings.{recordingOf};
 ghost use Rattle.definitions.specs.Operations.{judgeLocalNumber, judgeLocalAnswer};
 ghost use Rattle.theorems.proofs.ScheduleIndependence.{Accepted};
 ghost use Rattle.judges.specs.Headings.{ruleIn, recordingIn};
-ghost use Rattle.judges.specs.Verdicts.{meant, answerOf, ownVerdicts, OwnReady};
+ghost use Rattle.judges.specs.Local.{OwnReady, OwnRows};
+ghost use Rattle.judges.specs.Verdicts.{meant, answerOf, ownVerdicts};
 use super::headings::RecordingHeading;
 use super::headings::RuleHeading;
 use super::verdicts::Judgement;
@@ -49,30 +50,29 @@ fn widen(words: &[u32], n: usize, places: &mut [u64])
     }
 }
 
-// "the last is the rule"
-fn judge_in(
+// The rows of an accepted rule over its local trace; answers how many places that has. Its words need no lent space.
+pub fn local_rows(
     rule: RuleHeading,
     nodes: &[u32],
     recording: RecordingHeading,
     masks: &[u32],
     states: &[u64],
-    words: &mut [u32],
-    places: &mut [u64],
     rows: &mut [u64],
-) -> Verdicts
-    requires { ⌜ OwnReady (ruleIn rule (now nodes)) (recordingIn recording (now masks) (now states)) (now words) (now places) (now rows) ⌝ }
-    ensures { λ r. ⌜ meant r ≡ ownVerdicts (ruleIn rule (now (nodes .entry))) (recordingIn recording (now (masks .entry)) (now (states .entry))) ⌝ }
+) -> usize
+    requires { ⌜ OwnReady (ruleIn rule (now nodes)) (recordingIn recording (now masks) (now states)) (now rows) ⌝ }
+    ensures { λ r. ⌜ OwnRows (ruleIn rule (now (nodes .entry))) (recordingIn recording (now (masks .entry)) (now (states .entry))) (now (rows .entry)) r (now (rows .exit)) ⌝ }
 {
+    let mut words = [0u32; Limits::STATES];
+    let mut places = [0u64; Limits::STATES];
     let c = rule.controller;
-    let last = rule.count - 1;
     let mask = mask_at(masks, c);
-    let length = project_into(recording.count, mask, c, states, words) + 1;
-    widen(words, length, places);
-    evaluate(nodes, rule.count, places, length, 0, mask, rows);
-    at_tops(rows, last, last)
+    let length = project_into(recording.count, mask, c, states, &mut words) + 1;
+    widen(&words, length, &mut places);
+    evaluate(nodes, rule.count, &places, length, 0, mask, rows);
+    length
 }
 
-// An accepted rule on the local trace of an accepted recording: its rows need no lent space.
+// An accepted rule on the local trace of an accepted recording: "the last is the rule". Its rows need no lent space.
 pub fn judge_accepted(
     rule: RuleHeading,
     nodes: &[u32],
@@ -83,19 +83,10 @@ pub fn judge_accepted(
     requires { ⌜ Accepted (ruleIn rule (now nodes)) (recordingIn recording (now masks) (now states)) ⌝ }
     ensures { λ r. ⌜ meant r ≡ ownVerdicts (ruleIn rule (now (nodes .entry))) (recordingIn recording (now (masks .entry)) (now (states .entry))) ⌝ }
 {
-    let mut words = [0u32; Limits::STATES];
-    let mut places = [0u64; Limits::STATES];
     let mut rows = [0u64; Limits::RULE_NODES * Limits::PAIR_WORDS];
-    judge_in(
-        rule,
-        nodes,
-        recording,
-        masks,
-        states,
-        &mut words,
-        &mut places,
-        &mut rows,
-    )
+    local_rows(rule, nodes, recording, masks, states, &mut rows);
+    let last = rule.count - 1;
+    at_tops(&rows, last, last)
 }
 
 // "judge a rule on its local trace"

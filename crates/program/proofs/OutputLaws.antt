@@ -32,13 +32,13 @@ use Rattle.joint_text.specs.Joining.{ReadJoint}
 use Rattle.report.specs.Reporting.{maxOutputBytes, reportText}
 use Rattle.program.specs.Judged.{ReportIs}
 use Rattle.program.specs.Splitting.{SplitAt}
-use Rattle.program.specs.Output.{TextsRoom, foundRule, foundRecording, Found, ProgramPrinted}
+use Rattle.program.specs.Output.{TextsRoom, foundRule, foundRecording, Found, OutputIs}
 use Rattle.report.specs.declared.Report.{Report}
 use Rattle.program.specs.declared.split.Parts.{Parts}
 use Rattle.program.proofs.RecordingAccepted.{TextsAccepted, texts-accepted, recording-fine, masks-count, states-count}
 
 -- ---- how long a refusal is
-refused-length : (n : ℕ) (line : List ℕ) → n < 100 → length line ≤ maxInputBytes → length (refusedText n line) ≤ maxOutputBytes
+pub refused-length : (n : ℕ) (line : List ℕ) → n < 100 → length line ≤ maxInputBytes → length (refusedText n line) ≤ maxOutputBytes
 unfolding refusedText
 refused-length n line h l =
     omega (
@@ -79,7 +79,7 @@ module _ (x y r : RefT (List ℕ)) (nodes masks states nodes′ masks′ states�
   unfolding readJointHeading
   heading-is = j .heading ∙ rw number-is
 
-  first-is : getD heading 0 0 ≡ R
+  pub first-is : getD heading 0 0 ≡ R
   first-is = ap (λ (l : List ℕ). getD l 0 0) heading-is
 
   -- refused
@@ -93,7 +93,7 @@ module _ (x y r : RefT (List ℕ)) (nodes masks states nodes′ masks′ states�
     chosen true = refl
     chosen false = refl
 
-    line-is : r .now ≡ bytesOf (x .now) (y .now) (jointPart (x .now) (y .now))
+    pub line-is : r .now ≡ bytesOf (x .now) (y .now) (jointPart (x .now) (y .now))
     line-is = j .part .reads ∙ rw (part-is, chosen ((jointPart (x .now) (y .now)) .ofRule))
 
     chosen-length : (b : Bool) → length (pick b (x .now) (y .now)) ≤ maxInputBytes
@@ -157,10 +157,10 @@ module _ (x y r : RefT (List ℕ)) (nodes masks states nodes′ masks′ states�
     states-held =
         held maxStates (getD heading 4 0) ((scanRecording (y .now)) .states) states states′ (states-count (y .now) (texts .recordingRead) ∙ sym states-are) (rw zero at (j .statesLeft))
 
-    recording-is : foundRecording heading masks′ states′ ≡ scanned (scanRecording (y .now))
+    pub recording-is : foundRecording heading masks′ states′ ≡ scanned (scanRecording (y .now))
     recording-is = rw (masks-held, states-held, controllers-are, states-are)
 
-    rule-is : foundRule heading nodes′
+    pub rule-is : foundRule heading nodes′
         ≡ ruleOf ((scanRule (x .now)) .controller) ((scanRule (x .now)) .count) ((scanRule (x .now)) .words)
     rule-is = rw (nodes-held, controller-is, count-is)
 
@@ -218,26 +218,25 @@ pub ruleset found-laws = (needs, nodes-counted, masks-counted, states-counted)
 pub rule-counted : (input : List ℕ) (s : Parts) → SplitAt input s → s .«rule_end» ≡ length (take (s .«rule_end») input)
 rule-counted input s is = sym (length-take-le (s .«rule_end») input (is .ruleInside))
 
-module _ (input output : List ℕ) (full : length output ≡ maxOutputBytes) where
-  -- what is printed from the first byte on
-  printed-all : (text : List ℕ) (r : ℕ) (output′ : List ℕ) → length output′ ≡ length output → Printed text output 0 r output′ → programOutput input ≡ text
-      → ProgramPrinted input output r output′
-  unfolding laidAt
-  printed-all text r output′ kept p is =
-      let z : 0 + length text ≡ length text = omega arith in
-      let e : output′ ≡ text ++ drop (length text) output = p .lies ∙ rw z in
-      record {
-        count = rw is (p .next ∙ z);
-        printed = rw is e;
-        within = omega (arith, p .next, ap length e, length-append text (drop (length text) output));
-      }
+-- what is printed from the first byte on
+pub printed-all : (text output : List ℕ) (r : ℕ) (output′ : List ℕ) → Printed text output 0 r output′ → OutputIs text output r output′
+unfolding laidAt
+printed-all text output r output′ p =
+    let z : 0 + length text ≡ length text = omega arith in
+    let e : output′ ≡ text ++ drop (length text) output = p .lies ∙ rw z in
+    record {
+      count = p .next ∙ z;
+      lies = e;
+      within = omega (arith, p .next, ap length e, length-append text (drop (length text) output));
+    }
 
+module _ (input output : List ℕ) (full : length output ≡ maxOutputBytes) where
   pub long-room : length (refusedText 14 []) ≤ length output
   long-room = omega (arith, refused-length 14 [] (omega arith) (omega arith))
 
-  pub long-printed : maxInputBytes < length input → (r : ℕ) (output′ : List ℕ) → length output′ ≡ length output → Printed (refusedText 14 []) output 0 r output′ → ProgramPrinted input output r output′
+  pub long-printed : maxInputBytes < length input → (r : ℕ) (output′ : List ℕ) → Printed (refusedText 14 []) output 0 r output′ → OutputIs (programOutput input) output r output′
   unfolding programOutput pick
-  long-printed h r output′ kept p = printed-all (refusedText 14 []) r output′ kept p (rw (lt-ltb maxInputBytes (length input) h))
+  long-printed h r output′ p = rw (lt-ltb maxInputBytes (length input) h) (printed-all (refusedText 14 []) output r output′ p)
 
   module _ (short : length input ≤ maxInputBytes) (s : Parts) (is : SplitAt input s) where
     pub texts-room : TextsRoom (take (s .«rule_end») input) (take (length input - s .«recording_at») (drop (s .«recording_at») input)) output
@@ -247,17 +246,17 @@ module _ (input output : List ℕ) (full : length output ≡ maxOutputBytes) whe
       textRoom = omega arith;
     }
 
-    pub texts-printed : (r : ℕ) (output′ : List ℕ) → length output′ ≡ length output
+    pub texts-printed : (r : ℕ) (output′ : List ℕ)
         → Printed (textsOutput (take (s .«rule_end») input) (take (length input - s .«recording_at») (drop (s .«recording_at») input))) output 0 r output′
-        → ProgramPrinted input output r output′
+        → OutputIs (programOutput input) output r output′
     unfolding programOutput pick
-    texts-printed r output′ kept p =
-        printed-all _ r output′ kept p (rw (le-ltb maxInputBytes (length input) short, part-to-end input (s .«recording_at»), is .rule, is .recording))
+    texts-printed r output′ p =
+        rw (le-ltb maxInputBytes (length input) short, ← is .rule, ← is .recording, ← part-to-end input (s .«recording_at»)) (printed-all _ output r output′ p)
 
 pub ruleset judge-laws = (needs, long-room, long-printed, rule-counted, texts-room, texts-printed)
 
 -- ---- what a caller uses: `&output[..r]` has as many bytes as it says
-pub printed-counts : (input output output′ : List ℕ) (r : ℕ) → ProgramPrinted input output r output′ → r ≡ length (take r output′)
-printed-counts input output output′ r p = sym (length-take-le r output′ (p .within))
+pub printed-counts : (printed output output′ : List ℕ) (r : ℕ) → OutputIs printed output r output′ → r ≡ length (take r output′)
+printed-counts printed output output′ r p = sym (length-take-le r output′ (p .within))
 
 pub ruleset caller-laws = (needs, printed-counts)

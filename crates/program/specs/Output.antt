@@ -6,7 +6,6 @@ use lib.ListN.{length, take, drop, getD}
 use Rattle.definitions.specs.Limits.{maxInputBytes}
 use Rattle.definitions.specs.Tables.{Rule, ruleOf}
 use Rattle.definitions.specs.Recordings.{Recording, recordingOf}
-use Rattle.definitions.specs.Program.{programOutput}
 use Rattle.theorems.proofs.ScheduleIndependence.{Accepted}
 use Rattle.report.specs.Reporting.{maxOutputBytes}
 
@@ -31,8 +30,8 @@ pub record Found (heading nodes masks states : List ℕ) : Type 0 where
   pub statesThere : getD heading 4 0 ≤ length states
   pub both : Accepted (foundRule heading nodes) (foundRecording heading masks states)
 
--- the bytes printed of an input, from the first byte of the output on, and their count; no other byte of the output is touched
-pub record ProgramPrinted (input output : List ℕ) (r : ℕ) (output′ : List ℕ) : Type 0 where
-  pub count : r ≡ length (programOutput input)
-  pub printed : output′ ≡ programOutput input ++ drop (length (programOutput input)) output
+-- the output begins with the bytes that are printed, and r is their count; no other byte of it is touched
+pub record OutputIs (printed output : List ℕ) (r : ℕ) (output′ : List ℕ) : Type 0 where
+  pub count : r ≡ length printed
+  pub lies : output′ ≡ printed ++ drop (length printed) output
   pub within : r ≤ length output′

@@ -1,7 +1,7 @@
 // The program: both texts are read, judged, and printed of.
-ghost use Rattle.definitions.specs.Program.{textsOutput};
+ghost use Rattle.definitions.specs.Program.{textsOutput, programOutput};
 ghost use Rattle.printing.specs.Printing.{Printed};
-ghost use Rattle.program.specs.Output.{TextsRoom, foundRule, foundRecording, Found, ProgramPrinted};
+ghost use Rattle.program.specs.Output.{TextsRoom, foundRule, foundRecording, Found, OutputIs};
 ghost use Rattle.program.specs.Judged.{ReportIs};
 use super::split::split;
 use super::tables::judge_tables;
@@ -69,7 +69,7 @@ fn judge_texts<'a>(rule: &'a [u8], recording: &'a [u8], text: &mut [u8]) -> usiz
 
 // From the input to what is printed of it, and how many bytes that is.
 pub fn judge(input: &[u8], output: &mut [u8; OUTPUT_BYTES]) -> usize
-    ensures { λ r. ⌜ ProgramPrinted (now (input .entry)) (now (output .entry)) r (now (output .exit)) ⌝ }
+    ensures { λ r. ⌜ OutputIs (programOutput (now (input .entry))) (now (output .entry)) r (now (output .exit)) ⌝ }
 {
     if Limits::INPUT_BYTES < input.len() {
         return put_refused(Refusal::INPUT_LONG as u32, &input[..0], output);

@@ -22,15 +22,15 @@ use Rattle.projection.specs.Places.{statesOnly, runsIn, placesIn, Projec
 
 -- ---- the states in which a component runs, one state more
 module _ (run : ℕ → Bool) where
-  runs-on : (k : ℕ) → run k ≡ true → runStates run (k + 1) ≡ runStates run k ++ (k ∷ [])
+  pub runs-on : (k : ℕ) → run k ≡ true → runStates run (k + 1) ≡ runStates run k ++ (k ∷ [])
   unfolding pick
   runs-on k r = rw (add-one k, r)
 
-  runs-off : (k : ℕ) → run k ≡ false → runStates run (k + 1) ≡ runStates run k
+  pub runs-off : (k : ℕ) → run k ≡ false → runStates run (k + 1) ≡ runStates run k
   unfolding pick
   runs-off k r = rw (add-one k, r, append-nil)
 
-  few-runs : (k : ℕ) → length (runStates run k) ≤ k
+  pub few-runs : (k : ℕ) → length (runStates run k) ≤ k
   unfolding pick
   few-runs zero = omega arith
   few-runs (suc k) = go (run k) (few-runs k)
@@ -39,13 +39,13 @@ module _ (run : ℕ → Bool) where
       go true h = omega (arith, length-append (runStates run k) (k ∷ []))
       go false h = rw append-nil (omega arith)
 
-after-snoc : (rs : List ℕ) (n : ℕ) → afterLast (rs ++ (n ∷ [])) ≡ suc n
+pub after-snoc : (rs : List ℕ) (n : ℕ) → afterLast (rs ++ (n ∷ [])) ≡ suc n
 after-snoc [] n = refl
 after-snoc (r ∷ []) n = refl
 after-snoc (r ∷ s ∷ rs) n = after-snoc (s ∷ rs) n
 
 module _ (run : ℕ → Bool) where
-  after-near : (k : ℕ) → afterLast (runStates run k) ≤ k
+  pub after-near : (k : ℕ) → afterLast (runStates run k) ≤ k
   unfolding pick
   after-near zero = omega arith
   after-near (suc k) = go (run k) (after-near k)

@@ -1,1 +1,2 @@
 pub mod SameVerdicts
+pub mod SameEvidence

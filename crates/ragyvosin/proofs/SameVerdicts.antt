@@ -75,11 +75,11 @@ judged-is (Refused number) u e =
     absurd (omega (arith, ap (λ (a : Answer). length (a .values)) (rw none at e)))
 
 -- ---- judging over the whole recording answers what judging on the local trace answers
-judged-whole : (short : Bool) (r : Rule) (R : Recording) (v : Judgement) → Accepted r R → JudgedWhole short r R v → JudgedLocally r R v
+pub judged-whole : (short : Bool) (r : Rule) (R : Recording) (v : Judgement) → Accepted r R → JudgedWhole short r R v → JudgedLocally r R v
 judged-whole short r R v A j =
     rw (j .rewrites, j .tables) at (j .judges) ∙ rewritten-judging short r R (j .table) (j .rows) A (j .fullTable) (j .fullRows)
 
-judged-locally : (r : Rule) (R : Recording) (v : Judgement) → Accepted r R → JudgedLocally r R v →
+pub judged-locally : (r : Rule) (R : Recording) (v : Judgement) → Accepted r R → JudgedLocally r R v →
     v ≡ Judged (ownVerdicts r (maskOf R (r .controller)) (localTrace R (r .controller)))
 judged-locally r R v A e = judged-is v (ownVerdicts r (maskOf R (r .controller)) (localTrace R (r .controller))) (e ∙ local-judging r R A)
 

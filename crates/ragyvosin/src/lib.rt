@@ -1,21 +1,24 @@
-// The operations of document 01, and reading a rule in one line: each answer and each lent slice is what the definition of its operation says, on every input.
-// `ruleRead` to `rewritten` list document 01's number and values for each case of an answer.
-// `same-verdicts-all-four-times` (proofs/SameVerdicts) says what these contracts give together: schedule independence.
+// The operations of document 01, reading a rule in one line, and the readings behind a verdict: each answer and each lent slice is what the definition
+// of its operation says, on every input. `ruleRead` to `rewritten` list document 01's number and values for each case of an answer.
+// What these contracts give together: `same-verdicts-all-four-times` (proofs/SameVerdicts), schedule independence, and `same-bits-same-verdict`
+// (proofs/SameEvidence), what the readings behind a verdict promise.
 ghost use mathlib.Core.Path.{_≡_};
 ghost use mathlib.Core.Bool.{true, false};
 ghost use Rattle.definitions.specs.Tables.{ruleOf, tableOf};
 ghost use Rattle.definitions.specs.Recordings.{recordingOf};
 ghost use Rattle.definitions.specs.Operations.{readRuleAnswer, readRuleNodes, writeRuleAnswer, writeRuleText, readRecordingAnswer, readRecordingMasks, readRecordingStates};
 ghost use Rattle.definitions.specs.Operations.{readJointHeading, readJointNodes, readJointMasks, readJointStates, readJointPart, projectAnswer, projectPlaces, judgeLocalAnswer};
-ghost use Rattle.definitions.specs.Operations.{rewriteAnswer, rewriteTable, judgeRecordingAnswer, judgeRecordingRows};
+ghost use Rattle.definitions.specs.Operations.{evidenceAnswer, evidencePairs, rewriteAnswer, rewriteTable, judgeRecordingAnswer, judgeRecordingRows};
 ghost use Rattle.definitions.specs.OneLine.{readLineAnswer, readLineNodes};
 ghost use Rattle.formula_reader.specs.Reading.{readAnswer as ruleRead};
 ghost use Rattle.formula_writer.specs.Writing.{writeAnswer as ruleWritten};
 ghost use Rattle.trace_reader.specs.Reading.{readAnswer as recordingRead};
 ghost use Rattle.projection.specs.Answers.{answerOf as projected};
 ghost use Rattle.judges.specs.Verdicts.{answerOf as judged};
+ghost use Rattle.evidence.specs.Answers.{answerOf as explained};
 ghost use Rattle.rewriting.specs.Answers.{answerOf as rewritten};
 ghost use Rattle.ragyvosin.specs.Parts.{placeIn, bytesIn};
+pub use evidence::evidence::Explanation;
 pub use formula_reader::RuleRead;
 pub use formula_writer::RuleWritten;
 pub use judges::verdicts::Judgement;
@@ -111,6 +114,34 @@ pub fn judge_local(
         states_count,
         masks,
         states,
+    )
+}
+
+// "the readings .. that decide the weak or the strong verdict, as chosen": how many pairs of a node and a place, and the pairs
+pub fn evidence(
+    controller: usize,
+    count: usize,
+    nodes: &[u32],
+    controllers: usize,
+    states_count: usize,
+    masks: &[u32],
+    states: &[u64],
+    weak: bool,
+    pairs: &mut [u32],
+) -> Explanation
+    ensures { λ r. ⌜ explained r ≡ evidenceAnswer (ruleOf controller count (now (nodes .entry))) (recordingOf controllers «states_count» (now (masks .entry)) (now (states .entry))) weak (now (pairs .entry)) ⌝ }
+    ensures { λ _. ⌜ now (pairs .exit) ≡ evidencePairs (ruleOf controller count (now (nodes .entry))) (recordingOf controllers «states_count» (now (masks .entry)) (now (states .entry))) weak (now (pairs .entry)) ⌝ }
+{
+    evidence::evidence::evidence(
+        controller,
+        count,
+        nodes,
+        controllers,
+        states_count,
+        masks,
+        states,
+        weak,
+        pairs,
     )
 }
 

@@ -25,6 +25,9 @@ use Rattle.judges.specs.Verdicts.{answerOf as judged}
 use Rattle.judges.specs.declared.verdicts.Verdicts.{Verdicts}
 use Rattle.judges.specs.declared.verdicts.Judgement.{Judgement}
 use Rattle.judges.specs.declared.verdicts.Judgement.the-variants as judgement
+use Rattle.evidence.specs.Answers.{answerOf as explained}
+use Rattle.evidence.specs.declared.evidence.Explanation.{Explanation}
+use Rattle.evidence.specs.declared.evidence.Explanation.the-variants as explanation
 use Rattle.rewriting.specs.Answers.{answerOf as rewritten}
 use Rattle.rewriting.specs.declared.rewrite.Rewriting.{Rewriting}
 use Rattle.rewriting.specs.declared.rewrite.Rewriting.the-variants as rewriting
@@ -88,6 +91,15 @@ module _ (w : Judgement) where
   unfolding heading judged answer
   judgement-refused number e = rw (e, refused-values number)
 
+module _ (w : Explanation) where
+  pub explanation-laid : (n : ℕ) → w ≡ explanation.Pairs n → 0 ∷ n ∷ [] ≡ heading 1 (explained w)
+  unfolding heading explained answer pick
+  explanation-laid n e = rw e
+
+  pub explanation-refused : (number : ℕ) → w ≡ explanation.Refused number → number ∷ 0 ∷ [] ≡ heading 1 (explained w)
+  unfolding heading explained answer
+  explanation-refused number e = rw (e, refused-values number)
+
 module _ (w : Rewriting) where
   pub rewriting-laid : (count weakTop strongTop : ℕ) → w ≡ rewriting.Rewritten count weakTop strongTop → 0 ∷ count ∷ weakTop ∷ strongTop ∷ [] ≡ heading 3 (rewritten w)
   unfolding heading
@@ -109,6 +121,8 @@ pub ruleset case-laws = (
   projection-refused,
   judgement-laid,
   judgement-refused,
+  explanation-laid,
+  explanation-refused,
   rewriting-laid,
   rewriting-refused,
 )

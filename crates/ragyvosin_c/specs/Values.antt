@@ -1,6 +1,8 @@
 -- An answer as C has it: the number is returned, and the values lie in an array of fixed length.
+use mathlib.Core.Bool.{Bool, not}
 use mathlib.Core.List.{List, [], _∷_, _++_}
 use Prim.Native.Nat.{ℕ, _-_}
+use lib.Dec.{eqb}
 use lib.ListN.{length, replicate}
 use Rattle.definitions.specs.Bounded.{pick}
 use Rattle.definitions.specs.Operations.{Answer}
@@ -13,3 +15,7 @@ heading width a = a .number ∷ (a .values ++ replicate (width - length (a .valu
 -- a part of a text: 0 for the rule text or 1 for the recording text, its start and its length
 unfoldable pub partValues : Part → List ℕ
 partValues p = pick (p .ofRule) 0 1 ∷ p .from ∷ p .count ∷ []
+
+-- a yes or no as a byte: yes where it is not 0
+abbrev pub isSet : ℕ → Bool
+isSet b = not (eqb b 0)

@@ -6,11 +6,12 @@ ghost use Rattle.definitions.specs.Tables.{ruleOf, tableOf};
 ghost use Rattle.definitions.specs.Recordings.{recordingOf};
 ghost use Rattle.definitions.specs.Operations.{readRuleAnswer, readRuleNodes, writeRuleAnswer, writeRuleText, readRecordingAnswer, readRecordingMasks, readRecordingStates};
 ghost use Rattle.definitions.specs.Operations.{readJointHeading, readJointNodes, readJointMasks, readJointStates, readJointPart, projectAnswer, projectPlaces, judgeLocalAnswer};
-ghost use Rattle.definitions.specs.Operations.{rewriteAnswer, rewriteTable, judgeRecordingAnswer, judgeRecordingRows};
+ghost use Rattle.definitions.specs.Operations.{evidenceAnswer, evidencePairs, rewriteAnswer, rewriteTable, judgeRecordingAnswer, judgeRecordingRows};
 ghost use Rattle.definitions.specs.OneLine.{readLineAnswer, readLineNodes};
-ghost use Rattle.ragyvosin_c.specs.Values.{heading, partValues};
+ghost use Rattle.ragyvosin_c.specs.Values.{heading, partValues, isSet};
 use formulas::choice::pick_index;
 use joint_text::joint::join;
+use values::of_explanation;
 use values::of_judgement;
 use values::of_projection;
 use values::of_recording_read;
@@ -168,6 +169,40 @@ pub extern "C" fn rgv_judge_local(
         states,
     );
     let laid = of_judgement(answer);
+    let laid_values = laid.values;
+    *values = laid_values;
+    laid.number
+}
+
+// Value: number of pairs. The weak verdict's where `weak` is not 0.
+#[no_mangle]
+pub extern "C" fn rgv_evidence(
+    controller: usize,
+    count: usize,
+    nodes: &[u32],
+    controllers: usize,
+    states_count: usize,
+    masks: &[u32],
+    states: &[u64],
+    weak: u8,
+    pairs: &mut [u32],
+    values: &mut [usize; 1],
+) -> u8
+    ensures { λ r. ⌜ r ∷ now (values .exit) ≡ heading 1 (evidenceAnswer (ruleOf controller count (now (nodes .entry))) (recordingOf controllers «states_count» (now (masks .entry)) (now (states .entry))) (isSet weak) (now (pairs .entry))) ⌝ }
+    ensures { λ _. ⌜ now (pairs .exit) ≡ evidencePairs (ruleOf controller count (now (nodes .entry))) (recordingOf controllers «states_count» (now (masks .entry)) (now (states .entry))) (isSet weak) (now (pairs .entry)) ⌝ }
+{
+    let answer = ragyvosin::evidence(
+        controller,
+        count,
+        nodes,
+        controllers,
+        states_count,
+        masks,
+        states,
+        weak != 0,
+        pairs,
+    );
+    let laid = of_explanation(answer);
     let laid_values = laid.values;
     *values = laid_values;
     laid.number

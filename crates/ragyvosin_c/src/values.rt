@@ -6,9 +6,11 @@ ghost use Rattle.formula_writer.specs.Writing.{writeAnswer as ruleWritten};
 ghost use Rattle.trace_reader.specs.Reading.{readAnswer as recordingRead};
 ghost use Rattle.projection.specs.Answers.{answerOf as projected};
 ghost use Rattle.judges.specs.Verdicts.{answerOf as judged};
+ghost use Rattle.evidence.specs.Answers.{answerOf as explained};
 ghost use Rattle.rewriting.specs.Answers.{answerOf as rewritten};
 ghost use Rattle.ragyvosin_c.specs.Values.{heading};
 use formulas::limits::Refusal;
+use ragyvosin::Explanation;
 use ragyvosin::Judgement;
 use ragyvosin::Projection;
 use ragyvosin::RecordingRead;
@@ -105,6 +107,21 @@ pub fn of_judgement(answer: Judgement) -> Two
         Judgement::Refused(number) => Two {
             number,
             values: [0, 0],
+        },
+    }
+}
+
+pub fn of_explanation(answer: Explanation) -> One
+    ensures { λ r. ⌜ r .number ∷ r .values ≡ heading 1 (explained answer) ⌝ }
+{
+    match answer {
+        Explanation::Pairs(count) => One {
+            number: Refusal::NONE,
+            values: [count],
+        },
+        Explanation::Refused(number) => One {
+            number,
+            values: [0],
         },
     }
 }

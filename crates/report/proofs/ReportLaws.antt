@@ -23,14 +23,14 @@ module _ (xs ys o : List ℕ) (at : ℕ) (room : at + length (xs ++ ys) ≤ leng
   sizes : length (xs ++ ys) ≡ length xs + length ys
   sizes = length-append xs ys
 
-  first-room : at + length xs ≤ length o
+  pub first-room : at + length xs ≤ length o
   first-room = omega (arith, sizes)
 
   module _ (o′ : List ℕ) (r : ℕ) (first : Printed xs o at r o′) where
-    rest-room : length o′ ≡ length o → r + length ys ≤ length o′
+    pub rest-room : length o′ ≡ length o → r + length ys ≤ length o′
     rest-room kept = omega (arith, sizes, first .next)
 
-    both : (o″ : List ℕ) (q : ℕ) → Printed ys o′ r q o″ → Printed (xs ++ ys) o at q o″
+    pub both : (o″ : List ℕ) (q : ℕ) → Printed ys o′ r q o″ → Printed (xs ++ ys) o at q o″
     both o″ q rest = printed-seq xs ys o o′ o″ at r q first-room first rest
 
 -- ---- `end_of`

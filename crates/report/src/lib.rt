@@ -64,7 +64,7 @@ fn end_of(v: Verdicts) -> Ending
 }
 
 // A word, a number and how the line ends.
-fn put_line(word: &[u8], number: u32, end: &[u8], at: usize, text: &mut [u8]) -> usize
+pub fn put_line(word: &[u8], number: u32, end: &[u8], at: usize, text: &mut [u8]) -> usize
     requires { ⌜ at + length (countedLine (now word) number (now end)) ≤ length (now text) ⌝ }
     ensures { λ r. ⌜ Printed (countedLine (now (word .entry)) number (now (end .entry))) (now (text .entry)) at r (now (text .exit)) ⌝ }
 {

@@ -12,7 +12,7 @@ use borrow.Author.Needs.{needs}
 use borrow.Author.Tests.{eq-eqb, ne-eqb}
 use Rattle.definitions.specs.Limits.{maxStates, pairWords}
 use Rattle.definitions.specs.Bounded.{tabulate}
-use Rattle.definitions.specs.Nodes.{Or, kindOf}
+use Rattle.definitions.specs.Nodes.{Or}
 use Rattle.definitions.specs.Readings.{Rows, rowOf, rowWords, prevAt}
 use Rattle.definitions.specs.Evidence.{sameReading}
 use Rattle.theorems.proofs.Recursions.{prev-recursion}
@@ -25,10 +25,9 @@ use Rattle.rows.proofs.PackedLaws.{marks-length, retold}
 use Rattle.rows.proofs.RowLaws.{not-on, prev-on}
 use Rattle.rows.proofs.StoredLaws.{row-here, row-before, row-past}
 use Rattle.evaluation.specs.declared.pair.Pair.{Pair}
-use Rattle.evaluation.specs.Nodes.{isLeaf}
 use Rattle.evaluation.specs.Pairs.{rowsIn, PairMade, Operable, operated, pairAt, pairOfNode}
 use Rattle.evaluation.proofs.KindLaws.{kind-or}
-use Rattle.evaluation.proofs.PairLaws.{pairOf}
+use Rattle.evaluation.proofs.PairLaws.{pairOf, or-pair}
 use Rattle.evaluation.proofs.EvaluateLaws.{rows-in, both-made}
 use Rattle.walk_steps.specs.Steps.{bothOf}
 use Rattle.walk.specs.Wanted.{PairWhole, Put, Wished, Held, none, chosen, started, wished}
@@ -70,18 +69,30 @@ module _ (l l′ l″ : List ℕ) (j : ℕ) (p : Pair) (v : PairWhole p) (room :
 
 -- ---- wanted
 
-pub or-operator : isLeaf (kindOf 3) ≡ false
-or-operator = rw kind-or
+module _ (l : List ℕ) (j : ℕ) (p taken : Pair) (e : p ≡ pairOfNode l j) (o : Operable (pairOfNode l j) taken) where
+  pub weak-whole : Whole (p .weak)
+  weak-whole = rw e (o .firstWeak)
 
-pub made-whole : (p : Pair) (n : ℕ) (r : Rows) → PairMade p n r → PairWhole p
-made-whole p n r m = record { weak = m .weak .whole; strong = m .strong .whole }
+  pub strong-whole : Whole (p .strong)
+  strong-whole = rw e (o .firstStrong)
 
-pub loaded-operable : (l : List ℕ) (j : ℕ) (p taken : Pair) → p ≡ pairOfNode l j → Operable (pairOfNode l j) taken → Operable p taken
-loaded-operable l j p taken e o = rw e o
+  pub weak-even : p .weak .count ≡ taken .weak .count
+  weak-even = rw e (sym (o .secondFirst))
 
-pub wish-done : (l l′ : List ℕ) (j : ℕ) (p taken both : Pair) → p ≡ pairOfNode l j
-    → PairMade both (p .weak .count) (operated (kindOf 3) (p .weak .count) (rowsIn p) (rowsIn taken)) → Put l j both l′ → Wished l j taken l′
-wish-done l l′ j p taken both e m u = record { here = rw (u .here) (rw (e, kind-or) at m); others = u .others }
+  pub strong-even : p .strong .count ≡ taken .strong .count
+  strong-even = rw e (o .firstEven ∙ sym (o .secondEven))
+
+  pub wish-done : (weak strong : Row) (l′ : List ℕ)
+      → Made weak (p .weak .count) (tabulate (p .weak .count) (λ k. markAt (marks (p .weak)) k || markAt (marks (taken .weak)) k))
+      → Made strong (p .strong .count) (tabulate (p .strong .count) (λ k. markAt (marks (p .strong)) k || markAt (marks (taken .strong)) k))
+      → Put l j (pairOf weak strong) l′ → Wished l j taken l′
+  wish-done weak strong l′ a b u = record {
+    here = rw (u .here) (rw (e, kind-or) at (or-pair 3 p taken weak strong (rw e o) refl a b));
+    others = u .others;
+  }
+
+pub both-whole : (weak strong : Row) (n m : ℕ) (a b : List Bool) → Made weak n a → Made strong m b → PairWhole (pairOf weak strong)
+both-whole weak strong n m a b v u = record { weak = v .whole; strong = u .whole }
 
 -- ---- what is held
 
@@ -207,4 +218,4 @@ module _ (n count : ℕ) (weak : Bool) (l : List ℕ) (p : Pair) (some : 0 < cou
           go (no e) = ne-eqb j (count - 1) e ∙ sym (ne-eqb (suc j) count (λ q. e (omega arith)))
 
 pub ruleset wanted-laws =
-    (needs, put-laid, or-operator, made-whole, loaded-operable, wish-done, blank-none, blank-whole, blank-room, blank-more, blank-done, chosen-weak, chosen-strong, start-operable, start-done)
+    (needs, put-laid, weak-whole, strong-whole, weak-even, strong-even, both-whole, wish-done, blank-none, blank-whole, blank-room, blank-more, blank-done, chosen-weak, chosen-strong, start-operable, start-done)

@@ -7,9 +7,7 @@ ghost use Rattle.evaluation.specs.Pairs.{PairMade, pairOfNode, Operable};
 ghost use Rattle.walk.specs.Wanted.{PairWhole, Put, Wished, Held, none, chosen, started};
 use evaluation::evaluate::pair_of_node;
 use evaluation::pair::Pair;
-use evaluation::pair::operate;
 use formulas::limits::Limits;
-use formulas::node::Node;
 use rows::row::Row;
 use rows::stored::store;
 
@@ -27,8 +25,17 @@ pub fn want(wanted: &mut [u64], j: usize, taken: Pair)
     requires { ⌜ (j * pairWords + pairWords ≤ length (now wanted)) × (Operable (pairOfNode (now wanted) j) taken) ⌝ }
     ensures { λ _. ⌜ Wished (now (wanted .entry)) j taken (now (wanted .exit)) ⌝ }
 {
-    let both = operate(Node::OR, pair_of_node(wanted, j), taken);
-    put(wanted, j, both);
+    let p = pair_of_node(wanted, j);
+    let weak = p.weak.or(taken.weak);
+    let strong = p.strong.or(taken.strong);
+    put(
+        wanted,
+        j,
+        Pair {
+            weak: weak,
+            strong: strong,
+        },
+    );
 }
 
 fn blank(count: usize, n: usize, wanted: &mut [u64])

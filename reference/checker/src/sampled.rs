@@ -77,6 +77,10 @@ fn input(random: &mut Random, operation: Operation) -> Input {
             Input::JudgeLocal { rule, recording }
         }
         Operation::JudgeRecording => whole_input(random),
+        Operation::Evidence => {
+            let (rule, recording) = rule_and_recording(random);
+            Input::evidence(rule, recording, random.once_in(2))
+        }
         _ => {
             let short = operation == Operation::RewriteShort;
             Input::rewrite(short, formulas::any_rule(random, RULE_NODES), mask(random))
@@ -166,7 +170,10 @@ fn beginnings(check: &mut Check, random: &mut Random) -> Result<(), Difference> 
 fn batch(check: &mut Check, plan: &Plan, number: usize) -> Result<(), Difference> {
     let mut random = plan.random(Section::Random, number);
     for operation in Operation::ALL {
-        let inputs = if operation == Operation::JudgeRecording { 12 } else { 50 };
+        let inputs = match operation {
+            Operation::JudgeRecording | Operation::Evidence => 12,
+            _ => 50,
+        };
         for _ in 0..inputs {
             let input = input(&mut random, operation).lent_anew(&mut random);
             check.compare(&input)?;

@@ -3,7 +3,7 @@
 //! controllers. All five operations on tables, every lent entry.
 
 mod judge;
-mod views;
+pub mod views;
 
 use std::sync::atomic::{AtomicU8, Ordering};
 

@@ -4,7 +4,7 @@
 //! and the operation's values, which are zero on a refusal. Nothing that safe
 //! code passes is outside what the library takes: it has no precondition.
 //!
-//! Words of a node, a state and a row pair are those of `include/ragyvosin.h`.
+//! Words of a node, a state, a row pair and a reading are those of `include/ragyvosin.h`.
 
 #![warn(missing_docs)]
 
@@ -29,6 +29,8 @@ pub mod full {
     pub const ROW_WORDS: usize = 6 * TABLE_NODES;
     /// Bytes of a rule text.
     pub const RULE_BYTES: usize = 1024;
+    /// Pairs of a node and a place.
+    pub const PAIRS: usize = RULE_NODES * PLACES;
 }
 
 /// A rule as tables have it; `nodes` may have any length.
@@ -221,6 +223,36 @@ pub fn judge_local(rule: Rule, recording: Recording) -> (u8, [usize; 2]) {
             recording.masks.len(),
             recording.states.as_ptr(),
             recording.states.len(),
+            &mut values,
+        )
+    };
+    (number, values)
+}
+
+/// The readings behind the weak or the strong verdict: how many pairs of a node and a place.
+pub fn evidence(
+    rule: Rule,
+    recording: Recording,
+    weak: bool,
+    pairs: &mut [u32],
+) -> (u8, [usize; 1]) {
+    let mut values = [usize::MAX; 1];
+    // SAFETY: as in `read_rule`.
+    let number = unsafe {
+        sys::rgv_evidence(
+            rule.controller,
+            rule.count,
+            rule.nodes.as_ptr(),
+            rule.nodes.len(),
+            recording.controllers,
+            recording.count,
+            recording.masks.as_ptr(),
+            recording.masks.len(),
+            recording.states.as_ptr(),
+            recording.states.len(),
+            weak as u8,
+            pairs.as_mut_ptr(),
+            pairs.len(),
             &mut values,
         )
     };

@@ -80,6 +80,23 @@ extern "C" {
         values: *mut [usize; 2],
     ) -> u8;
 
+    pub fn rgv_evidence(
+        controller: usize,
+        count: usize,
+        nodes: *const u32,
+        nodes_len: usize,
+        controllers: usize,
+        states_count: usize,
+        masks: *const u32,
+        masks_len: usize,
+        states: *const u64,
+        states_len: usize,
+        weak: u8,
+        pairs: *mut u32,
+        pairs_len: usize,
+        values: *mut [usize; 1],
+    ) -> u8;
+
     pub fn rgv_rewrite_plain(
         controller: usize,
         count: usize,

@@ -1,5 +1,5 @@
 -- `main` meets its contract.
-use Rattle.judge.proofs.MainLaws.{main-laws}
+use Rattle.standard_streams.proofs.InputLaws.{main-laws}
 use Rattle.judge.proofs.main.Statement.{statement}
 use Rattle.judge.proofs.main.Tie as tie
 

@@ -1,0 +1,3 @@
+pub mod VerdictLaws
+pub mod FoundLaws
+pub mod BehindLaws

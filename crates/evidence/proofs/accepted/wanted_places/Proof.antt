@@ -1,0 +1,34 @@
+-- `evidence::accepted::wanted_places` meets its contract.
+use borrow.Author.Needs.{needs}
+use Rattle.evidence.proofs.AcceptedLaws.{wanted-laws}
+use Rattle.evidence.proofs.accepted.wanted_places.Statement.{statement}
+use Rattle.evidence.proofs.accepted.wanted_places.Tie as tie
+
+slice-aggregate-local-rows : tie.Need-slice-aggregate-local-rows
+slice-aggregate-local-rows c = search needs
+
+local-rows-requires : tie.Need-local-rows-requires
+local-rows-requires c κs = search needs
+
+slice-aggregate-walk : tie.Need-slice-aggregate-walk
+slice-aggregate-walk c = search needs
+
+walk-requires : tie.Need-walk-requires
+walk-requires c κs = search wanted-laws
+
+same-length : tie.Need-same-length
+same-length c = search needs
+
+returns : tie.Need-returns
+returns c = search wanted-laws
+
+pub wanted-places-spec : {M : Type 1} → statement M
+wanted-places-spec =
+    tie.close
+    (tie.spec
+    slice-aggregate-local-rows
+    local-rows-requires
+    slice-aggregate-walk
+    walk-requires
+    same-length
+    returns)

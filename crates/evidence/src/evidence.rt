@@ -1,0 +1,55 @@
+// The readings behind a verdict as an operation: of any rule on any recording, in lent space.
+ghost use Rattle.definitions.specs.Tables.{ruleOf};
+ghost use Rattle.definitions.specs.Recordings.{recordingOf};
+ghost use Rattle.evidence.specs.Answers.{EvidenceIs};
+use super::accepted::evidence_accepted;
+use formulas::choice::or_else;
+use formulas::choice::pick;
+use formulas::choice::pick_index;
+use formulas::limits::Limits;
+use formulas::limits::Refusal;
+use judges::headings::RecordingHeading;
+use judges::headings::RuleHeading;
+use judges::local::local_refusal;
+use lent::clear_u32;
+
+pub enum Explanation {
+    Pairs(usize),
+    Refused(u8),
+}
+
+// "the readings .. that decide the weak or the strong verdict, as chosen": 13 leaves the lent pairs alone, another refusal zeroes them.
+pub fn evidence(
+    controller: usize,
+    count: usize,
+    nodes: &[u32],
+    controllers: usize,
+    states_count: usize,
+    masks: &[u32],
+    states: &[u64],
+    weak: bool,
+    pairs: &mut [u32],
+) -> Explanation
+    ensures { λ r. ⌜ EvidenceIs (ruleOf controller count (now (nodes .entry))) (recordingOf controllers «states_count» (now (masks .entry)) (now (states .entry))) weak (now (pairs .entry)) r (now (pairs .exit)) ⌝ }
+{
+    let rule = RuleHeading {
+        controller: controller,
+        count: count,
+    };
+    let recording = RecordingHeading {
+        controllers: controllers,
+        count: states_count,
+    };
+    let short = pick(
+        pairs.len() < Limits::PAIRS,
+        Refusal::LENT_SHORT,
+        Refusal::NONE,
+    );
+    let refusal = or_else(short, local_refusal(rule, nodes, recording, masks, states));
+    if refusal != Refusal::NONE {
+        let zeroed = pick_index(refusal == Refusal::LENT_SHORT, 0, Limits::PAIRS);
+        clear_u32(pairs, 0, zeroed);
+        return Explanation::Refused(refusal);
+    }
+    Explanation::Pairs(evidence_accepted(rule, nodes, recording, masks, states, weak, pairs))
+}

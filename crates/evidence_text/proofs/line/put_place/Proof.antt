@@ -1,0 +1,42 @@
+-- `put_place` meets its contract.
+use borrow.Author.Needs.{needs}
+use Rattle.evidence_text.proofs.LineLaws.{place-laws}
+use Rattle.evidence_text.proofs.line.put_place.Statement.{statement}
+use Rattle.evidence_text.proofs.line.put_place.Tie as tie
+
+slice-aggregate-put-line : tie.Need-slice-aggregate-put-line
+slice-aggregate-put-line c = search needs
+
+slice-aggregate-put-line-2 : tie.Need-slice-aggregate-put-line-2
+slice-aggregate-put-line-2 c = search needs
+
+put-line-requires : tie.Need-put-line-requires
+put-line-requires c κs = search place-laws
+
+slice-aggregate-put-line-3 : tie.Need-slice-aggregate-put-line-3
+slice-aggregate-put-line-3 c = search needs
+
+slice-aggregate-put-line-4 : tie.Need-slice-aggregate-put-line-4
+slice-aggregate-put-line-4 c = search needs
+
+put-line-requires-2 : tie.Need-put-line-requires-2
+put-line-requires-2 c κs = search place-laws
+
+same-length : tie.Need-same-length
+same-length c = search needs
+
+returns : tie.Need-returns
+returns c = search place-laws
+
+pub put-place-spec : {M : Type 1} → statement M
+put-place-spec =
+    tie.close
+    (tie.spec
+    slice-aggregate-put-line
+    slice-aggregate-put-line-2
+    put-line-requires
+    slice-aggregate-put-line-3
+    slice-aggregate-put-line-4
+    put-line-requires-2
+    same-length
+    returns)

@@ -1,0 +1,25 @@
+-- What is read lies in the space for it, and what is printed in the output.
+use mathlib.Core.Path.{_≡_, refl, sym}
+use Prim.Native.Nat.{ℕ, _≤_}
+use mathlib.Core.List.{List}
+use native.Mathlib.Omega.{arith}
+use lib.ListN.{length, take}
+use lib.Seq.{length-take-le}
+use borrow.Author.Needs.{needs}
+use Rattle.program.proofs.OutputLaws.{printed-counts}
+
+-- so many bytes were read into a space
+pub record Reading (entry space : List ℕ) (count : ℕ) : Type 0 where
+  pub kept : length space ≡ length entry
+  pub within : count ≤ length space
+
+pub reading-none : (space : List ℕ) → Reading space space 0
+reading-none space = record { kept = refl; within = omega arith }
+
+pub ruleset read-laws = (needs, reading-none)
+
+-- ---- what a `main` takes of the space and of the output
+pub read-counts : (space : List ℕ) (n : ℕ) → n ≤ length space → n ≡ length (take n space)
+read-counts space n h = sym (length-take-le n space h)
+
+pub ruleset main-laws = (needs, read-counts, printed-counts)

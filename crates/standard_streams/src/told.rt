@@ -1,0 +1,20 @@
+// Where a refused line stands, on standard error.
+use libc::STDERR_FILENO;
+use refused_line::find;
+
+// Says of which text the refused line is, and its number there: a line of three fields.
+pub fn say_line(line: find::Line) {
+    match line {
+        find::Line::OfRule(number) => {
+            io::write_all(STDERR_FILENO, b"line\trule\t");
+            io::print_decimal(STDERR_FILENO, number as u64);
+            io::write_all(STDERR_FILENO, b"\n");
+        }
+        find::Line::OfRecording(number) => {
+            io::write_all(STDERR_FILENO, b"line\trecording\t");
+            io::print_decimal(STDERR_FILENO, number as u64);
+            io::write_all(STDERR_FILENO, b"\n");
+        }
+        find::Line::Nowhere => {}
+    }
+}

@@ -1,0 +1,39 @@
+// Tells the verdict that the first line on standard input asks for, of the rule and the recording after it, and the readings
+// behind it, on standard output. On standard error it says where a refused line stands, or what could not be read or written.
+use asked_reading::Asked;
+use asked_reading::asked_by;
+use formulas::limits::Limits;
+use libc::STDERR_FILENO;
+use libc::STDOUT_FILENO;
+use refused_line::find::refused_line;
+use standard_streams::input::read_input;
+use standard_streams::told::say_line;
+use why_program::why;
+
+// Where a reading was asked for, the refused line of the texts after that line. An input that is too long has none.
+fn say_refused(input: &[u8]) {
+    if Limits::INPUT_BYTES < input.len() {
+        return;
+    }
+    if let Asked::Reading(_, at) = asked_by(input) {
+        say_line(refused_line(&input[at..]));
+    }
+}
+
+fn main() {
+    // One byte more than the limit tells an input that is too long.
+    let mut space = [0u8; Limits::INPUT_BYTES + 1];
+    let input = read_input(&mut space);
+    if input.failed {
+        io::write_all(STDERR_FILENO, b"why: standard input cannot be read\n");
+        return;
+    }
+    let length = input.count;
+    let mut output = [0u8; why::OUTPUT_BYTES];
+    let printed = why::why(&space[..length], &mut output);
+    if io::write_all(STDOUT_FILENO, &output[..printed]) {
+        say_refused(&space[..length]);
+    } else {
+        io::write_all(STDERR_FILENO, b"why: standard output cannot be written\n");
+    }
+}

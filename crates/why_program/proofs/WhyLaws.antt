@@ -1,0 +1,158 @@
+-- Laws of the program: the texts of the input are read, and their refusal or the verdict and what is behind it are printed.
+use mathlib.Core.Path.{_≡_, ap, ap₂, sym, _∙_}
+use mathlib.Core.Bool.{Bool, true, false}
+use mathlib.Core.List.{List, []}
+use Prim.Native.Nat.{ℕ, _-_, _<_, _≤_}
+use native.Mathlib.Omega.{arith}
+use lib.ListN.{length, take, drop, getD, length-take, length-drop}
+use denote.Ref.{RefT}
+use borrow.Author.Needs.{needs}
+use borrow.Author.Tests.{ne-eqb, eq-eqb, lt-ltb, le-ltb}
+use Rattle.definitions.specs.Limits.{maxInputBytes, inputLong, ruleForm, maxRuleNodes, maxControllers, maxStates}
+use Rattle.definitions.specs.Bounded.{pick}
+use Rattle.definitions.specs.RecordingText.{jointNumber}
+use Rattle.definitions.specs.Program.{ruleIn, recordingIn, refusedText}
+use Rattle.definitions.specs.Why.{asks, whyTexts, whyOutput}
+use Rattle.theorems.proofs.Choice.{by-test}
+use Rattle.printing.specs.Printing.{Printed}
+use Rattle.fields.proofs.PartLaws.{part-to-end}
+use Rattle.joint_text.specs.Joining.{ReadJoint}
+use Rattle.program.specs.Splitting.{SplitAt}
+use Rattle.program.specs.Output.{foundRule, foundRecording, OutputIs}
+use Rattle.program.specs.declared.split.Parts.{Parts}
+use Rattle.program.proofs.OutputLaws.{refused-length, first-is, line-is, rule-is, recording-is, refusal-room, tables-found, nodes-counted, masks-counted, states-counted, rule-counted, printed-all}
+use Rattle.behind_text.specs.Behind.{behindOf, BehindReady}
+use Rattle.asked_reading.specs.Asking.{askedIn, AskedIs}
+use Rattle.why_program.specs.Output.{maxWhyBytes, FoundRoom, WhyRoom, InputRoom}
+use Rattle.asked_reading.specs.declared.Asked.{Asked}
+use Rattle.asked_reading.specs.declared.Asked.the-variants.{Reading, Nothing}
+use Rattle.asked_reading.proofs.AskedLaws.{reading-inside, nothing-counts}
+
+-- ---- `put_found`
+module _ (heading nodes masks states text : List ℕ) (f : FoundRoom heading nodes masks states text) where
+  pub found-nodes : getD heading 2 0 ≡ length (take (getD heading 2 0) nodes)
+  found-nodes = nodes-counted heading nodes masks states (f .found)
+
+  pub found-masks : getD heading 3 0 ≡ length (take (getD heading 3 0) masks)
+  found-masks = masks-counted heading nodes masks states (f .found)
+
+  pub found-states : getD heading 4 0 ≡ length (take (getD heading 4 0) states)
+  found-states = states-counted heading nodes masks states (f .found)
+
+  pub found-ready : BehindReady (foundRule heading nodes) (foundRecording heading masks states) text
+  found-ready = record { accepted = f .found .both; room = f .room }
+
+pub ruleset found-laws = (needs, found-nodes, found-masks, found-states, found-ready)
+
+-- ---- `why_texts`
+module _ (weak : Bool) (x y r : RefT (List ℕ)) (nodes masks states nodes′ masks′ states′ heading text : List ℕ)
+    (j : ReadJoint x y nodes masks states r nodes′ masks′ states′ heading) (room : WhyRoom (x .now) (y .now) text)
+    (nodesRoom : maxRuleNodes ≤ length nodes) (masksRoom : maxControllers ≤ length masks) (statesRoom : maxStates ≤ length states) where
+  abbrev R : ℕ
+  R = jointNumber (x .now) (y .now)
+
+  number-is : getD heading 0 0 ≡ R
+  number-is = first-is x y r nodes masks states nodes′ masks′ states′ heading text j (room .texts) nodesRoom masksRoom statesRoom
+
+  -- refused
+  module _ (z : getD heading 0 0 ≡ 0 → ⊥) where
+    pub refused-room : length (refusedText (getD heading 0 0) (r .now)) ≤ length text
+    refused-room = refusal-room x y r nodes masks states nodes′ masks′ states′ heading text j (room .texts) nodesRoom masksRoom statesRoom z
+
+    pub refused-printed : (e : ℕ) (text′ : List ℕ) → Printed (refusedText (getD heading 0 0) (r .now)) text 0 e text′ →
+        Printed (whyTexts weak (x .now) (y .now)) text 0 e text′
+    unfolding whyTexts pick
+    refused-printed e text′ p =
+        rw (
+          ne-eqb R 0 (λ q. z (number-is ∙ q)),
+          ← line-is x y r nodes masks states nodes′ masks′ states′ heading text j (room .texts) nodesRoom masksRoom statesRoom z,
+          ← number-is,
+        ) p
+
+  -- accepted
+  module _ (z : getD heading 0 0 ≡ 0) where
+    pub found-room : FoundRoom heading nodes′ masks′ states′ text
+    found-room = record {
+      found = tables-found x y r nodes masks states nodes′ masks′ states′ heading text j (room .texts) nodesRoom masksRoom statesRoom z;
+      room = room .room;
+    }
+
+    pub found-printed : (e : ℕ) (text′ : List ℕ) → Printed (behindOf weak (foundRule heading nodes′) (foundRecording heading masks′ states′)) text 0 e text′ →
+        Printed (whyTexts weak (x .now) (y .now)) text 0 e text′
+    unfolding whyTexts pick
+    found-printed e text′ p =
+        let same = ap₂ (behindOf weak)
+        (rule-is x y r nodes masks states nodes′ masks′ states′ heading text j (room .texts) nodesRoom masksRoom statesRoom z)
+        (recording-is x y r nodes masks states nodes′ masks′ states′ heading text j (room .texts) nodesRoom masksRoom statesRoom z) in
+        rw (eq-eqb R 0 (sym number-is ∙ z), ← same) p
+
+pub ruleset texts-laws = (needs, refused-room, refused-printed, found-room, found-printed)
+
+-- ---- `why_asked`
+module _ (input text : List ℕ) (room : InputRoom input text) (s : Parts) (is : SplitAt input s) where
+  pub asked-room : WhyRoom (take (s .«rule_end») input) (take (length input - s .«recording_at») (drop (s .«recording_at») input)) text
+  asked-room = record {
+    texts = record {
+      ruleFits = rw length-take (omega (arith, room .fits));
+      recordingFits = rw (part-to-end input (s .«recording_at»), length-drop) (omega (arith, room .fits));
+      textRoom = omega (arith, room .room);
+    };
+    room = room .room;
+  }
+
+  pub asked-printed : (weak : Bool) (e : ℕ) (text′ : List ℕ)
+      → Printed (whyTexts weak (take (s .«rule_end») input) (take (length input - s .«recording_at») (drop (s .«recording_at») input))) text 0 e text′
+      → Printed (whyTexts weak (ruleIn input) (recordingIn input)) text 0 e text′
+  asked-printed weak e text′ p = rw (← is .rule, ← is .recording, ← part-to-end input (s .«recording_at»)) p
+
+pub ruleset split-laws = (needs, rule-counted, asked-room, asked-printed)
+
+-- ---- what is printed by each answer
+unfoldable answerText : List ℕ → Asked → List ℕ
+answerText input (Reading weak at) = whyTexts weak (ruleIn (drop at input)) (recordingIn (drop at input))
+answerText input (Nothing len) = refusedText ruleForm (take len input)
+
+by-answer : (input : List ℕ) → length input ≤ maxInputBytes → whyOutput input ≡ answerText input (askedIn input)
+unfolding whyOutput askedIn answerText pick
+by-answer input short =
+    rw (le-ltb maxInputBytes (length input) short)
+    (by-test (asks true input) (λ t. rw t) (λ t. by-test (asks false input) (λ s. rw (t, s)) (λ s. rw (t, s))))
+
+module _ (input : List ℕ) (short : length input ≤ maxInputBytes) (r : Asked) (is : AskedIs input r) where
+  output-reading : (weak : Bool) (at : ℕ) → r ≡ Reading weak at → whyOutput input ≡ whyTexts weak (ruleIn (drop at input)) (recordingIn (drop at input))
+  unfolding answerText
+  output-reading weak at e = by-answer input short ∙ ap (answerText input) (sym (is .is) ∙ e)
+
+  output-nothing : (len : ℕ) → r ≡ Nothing len → whyOutput input ≡ refusedText ruleForm (take len input)
+  unfolding answerText
+  output-nothing len e = by-answer input short ∙ ap (answerText input) (sym (is .is) ∙ e)
+
+-- ---- `why`
+module _ (input output : List ℕ) (full : length output ≡ maxWhyBytes) where
+  pub long-room : length (refusedText inputLong []) ≤ length output
+  long-room = omega (arith, refused-length inputLong [] (omega arith) (omega arith))
+
+  pub long-printed : maxInputBytes < length input → (r : ℕ) (output′ : List ℕ) → Printed (refusedText inputLong []) output 0 r output′ →
+      OutputIs (whyOutput input) output r output′
+  unfolding whyOutput pick
+  long-printed h r output′ p = rw (lt-ltb maxInputBytes (length input) h) (printed-all (refusedText inputLong []) output r output′ p)
+
+  module _ (short : length input ≤ maxInputBytes) (a : Asked) (is : AskedIs input a) where
+    module _ (weak : Bool) (at : ℕ) (e : a ≡ Reading weak at) where
+      pub reading-room : InputRoom (take (length input - at) (drop at input)) output
+      reading-room = record { fits = rw (part-to-end input at, length-drop) (omega arith); room = omega arith }
+
+      pub reading-printed : (r : ℕ) (output′ : List ℕ)
+          → Printed (whyTexts weak (ruleIn (take (length input - at) (drop at input))) (recordingIn (take (length input - at) (drop at input)))) output 0 r output′
+          → OutputIs (whyOutput input) output r output′
+      reading-printed r output′ p =
+          rw (output-reading input short a is weak at e) (rw (part-to-end input at) at (printed-all _ output r output′ p))
+
+    module _ (len : ℕ) (e : a ≡ Nothing len) where
+      pub nothing-room : length (refusedText ruleForm (take len input)) ≤ length output
+      nothing-room = omega (arith, refused-length ruleForm (take len input) (omega arith) (rw length-take (omega arith)))
+
+      pub nothing-printed : (r : ℕ) (output′ : List ℕ) → Printed (refusedText ruleForm (take len input)) output 0 r output′ → OutputIs (whyOutput input) output r output′
+      nothing-printed r output′ p = rw (output-nothing input short a is len e) (printed-all _ output r output′ p)
+
+pub ruleset why-laws = (needs, long-room, long-printed, reading-inside, reading-room, reading-printed, nothing-counts, nothing-room, nothing-printed)

@@ -1,0 +1,26 @@
+-- What the program prints.
+use Prim.Native.Nat.{ℕ, _≤_}
+use mathlib.Core.List.{List}
+use lib.ListN.{length}
+use Rattle.definitions.specs.Limits.{maxInputBytes}
+use Rattle.program.specs.Output.{TextsRoom, Found}
+use Rattle.behind_text.specs.Behind.{maxBehindBytes}
+
+-- the longest output: that of an accepted rule and recording; a refusal has fewer bytes
+abbrev pub maxWhyBytes : ℕ
+maxWhyBytes = maxBehindBytes
+
+-- accepted tables in lent space, and space for what is printed of them
+pub record FoundRoom (heading nodes masks states text : List ℕ) : Type 0 where
+  pub found : Found heading nodes masks states
+  pub room : maxWhyBytes ≤ length text
+
+-- two texts of one input, and space for what is printed of them
+pub record WhyRoom (rule recording text : List ℕ) : Type 0 where
+  pub texts : TextsRoom rule recording text
+  pub room : maxWhyBytes ≤ length text
+
+-- the input of the program `judge`, and space for what is printed of it
+pub record InputRoom (input text : List ℕ) : Type 0 where
+  pub fits : length input ≤ maxInputBytes
+  pub room : maxWhyBytes ≤ length text

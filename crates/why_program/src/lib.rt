@@ -1,0 +1,2 @@
+// The program `why` as a function: from the bytes of its input to the bytes that it prints.
+pub mod why;
