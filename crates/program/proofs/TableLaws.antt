@@ -17,10 +17,9 @@ use Rattle.definitions.specs.Projection.{localTrace}
 use Rattle.definitions.specs.Readings as readings
 use Rattle.definitions.specs.Readings.{whole}
 use Rattle.definitions.specs.Lines.{tab, newline, digits}
-use Rattle.definitions.specs.Operations.{sizeRefusal}
 use Rattle.definitions.specs.Program.{yesNo, localWord, ownWord, plainWord, shortWord, localText, verdictsText, ownText, rewrittenText, judgedText}
 use Rattle.theorems.proofs.Choice.{none-or-else}
-use Rattle.theorems.proofs.RewrittenAccepted.{rewritten-size, rewritten-fits}
+use Rattle.theorems.proofs.RewrittenAccepted.{rewritten-size}
 use Rattle.theorems.proofs.ScheduleIndependence.{Accepted}
 use Rattle.projection.specs.Places.{runsIn, Projectable, Countable}
 use Rattle.projection.proofs.PlaceLaws.{projectable, countable, local-places, few-local}
@@ -105,17 +104,12 @@ module _ (r : Rule) (R : Recording) (A : Accepted r R) (v : Report) where
   few : (z : Bool) → length ((rewrittenFor z r R) .nodes) ≤ maxTableNodes
   few z = rewritten-size z r (maskOf R c) (A .rule)
 
-  sizes : orElse (sizeRefusal (rewrittenFor false r R)) (sizeRefusal (rewrittenFor true r R)) ≡ 0
-  sizes =
-      none-or-else (sizeRefusal (rewrittenFor false r R)) (sizeRefusal (rewrittenFor true r R)) (rewritten-fits false r (maskOf R c) (A .rule))
-      (rewritten-fits true r (maskOf R c) (A .rule))
-
   lines : judgedText c ns R
       ≡ localText (length (localTrace R c))
       ++ (ownText ns (maskOf R c) (localTrace R c)
       ++ (rewrittenText plainWord (whole R c) (rewrittenFor false r R) ++ rewrittenText shortWord (whole R c) (rewrittenFor true r R)))
-  unfolding judgedText pick
-  lines = rw sizes
+  unfolding judgedText
+  lines = refl
 
   module _ (L : v .places ≡ length (localTrace R c)) (own : meant (v .own) ≡ ownVerdicts r R) (plain : RewrittenIs false r R (v .plain)) (short : RewrittenIs true r R (v .short)) where
     line-is : (z : Bool) (word : List ℕ) (w : Rewritten) → RewrittenIs z r R w → rewrittenLine word w ≡ rewrittenText word (whole R c) (rewrittenFor z r R)

@@ -10,8 +10,8 @@ use lib.Dec.{leb, ltb}
 use borrow.Author.Tests.{eqb-true, le-leb, lt-leb, le-ltb}
 use Rattle.definitions.specs.Limits.{accepted, maxRuleNodes, maxInputBytes, ruleForm, ruleLimits, inputLong}
 use Rattle.definitions.specs.Bounded.{bitOf, pick, orElse}
-use Rattle.definitions.specs.Nodes.{Atom, Until, node, nodeWord, kindOf}
-use Rattle.definitions.specs.Tables.{Rule, ruleOf, nodeRefusal, nodesRefusal, ruleHeadingRefusal, ruleRefusal}
+use Rattle.definitions.specs.Nodes.{Atom, Until, Node, node, nodeWord, nodeOf, kindOf}
+use Rattle.definitions.specs.Tables.{Rule, nodeRefusal, nodesRefusal, ruleHeadingRefusal, ruleRefusal, nodesIn}
 use Rattle.definitions.specs.Rewriting.{Draft, step, rewriting}
 use Rattle.definitions.specs.RuleText.{scanRule}
 use Rattle.definitions.specs.Lines.{newline, carriageReturn, isEmpty, isClosed, lineOf, restOf, Parsed, formed, malformed, onParsed, decimal, digits}
@@ -22,6 +22,7 @@ use Rattle.theorems.proofs.Choice.{none-or-else, both-true, refuse-no, 
 use Rattle.theorems.proofs.SplitLaws.{Without, without-one, without-append, split-found, split-rest}
 use Rattle.theorems.proofs.EndingLaws.{Unbroken, line-split, line-returned, by-ending}
 use Rattle.theorems.proofs.DecimalLaws.{digits-without, two-digits, printed-reads, read-prints}
+use Rattle.theorems.proofs.RuleNodes.{rule-some}
 use Rattle.theorems.proofs.Counts.{cost, costs, opened, rewriting-count}
 use Rattle.theorems.proofs.RewrittenAccepted.{rewritten-most}
 use Rattle.theorems.proofs.RoundTrips.{written-then-read}
@@ -33,7 +34,7 @@ untils-cost mask D zero = omega arith
 untils-cost mask D (suc m) = omega (arith, untils-cost mask (step false mask D (node Until 0 0)) m)
 
 -- "Its plain table, with atom 0 foreign .. 13 + 11 times n nodes"
-pub longest-count : (mask n : ℕ) → bitOf mask 0 ≡ false → 0 < n → length ((rewriting false mask (longestNodes n)) .nodes) ≡ mostNodes n
+longest-count : (mask n : ℕ) → bitOf mask 0 ≡ false → 0 < n → length ((rewriting false mask (longestNodes n)) .nodes) ≡ mostNodes n
 unfolding pick
 longest-count mask n foreign h =
     let first : cost false mask [] Atom 0 0 ≡ 5 = rw foreign in
@@ -82,6 +83,34 @@ pub longest-read : (n : ℕ) → 0 < n → n ≤ maxRuleNodes
     → scanRule (longestText n) ≡ record { number = 0; controller = 0; count = n; words = map nodeWord (longestNodes n); rest = [] }
 unfolding longestText
 longest-read n h l = rw (longest-words n h) at (written-then-read (longestRule n) (longest-accepted n h l))
+
+-- ---- the tables of the rule, as it is held
+untils-back : (m : ℕ) → map nodeOf (map nodeWord (replicate m (node Until 0 0))) ≡ replicate m (node Until 0 0)
+unfolding kindOf pick
+untils-back zero = refl
+untils-back (suc m) = ap (λ (l : List Node). node Until 0 0 ∷ l) (untils-back m)
+
+nodes-back : (n : ℕ) → 0 < n → nodesIn n (map nodeWord (longestNodes n)) ≡ longestNodes n
+unfolding kindOf pick
+nodes-back n h = ap (map nodeOf) (longest-words n h) ∙ ap (λ (l : List Node). node Atom 0 0 ∷ l) (untils-back (n - 1))
+
+-- "with atom 0 foreign": its plain table
+pub longest-table : (mask n : ℕ) → bitOf mask 0 ≡ false → 0 < n → length ((rewrittenOf false (longestRule n) mask) .nodes) ≡ mostNodes n
+longest-table mask n foreign h = ap (λ (l : List Node). length ((rewriting false mask l) .nodes)) (nodes-back n h) ∙ longest-count mask n foreign h
+
+-- "24 for n = 1 and 717 for n = 64"
+pub longest-of-one : length ((rewrittenOf false (longestRule 1) 0) .nodes) ≡ 24
+unfolding bitOf
+longest-of-one = longest-table 0 1 refl (omega arith)
+
+pub longest-of-all : length ((rewrittenOf false (longestRule maxRuleNodes) 0) .nodes) ≡ 717
+unfolding bitOf
+longest-of-all = longest-table 0 maxRuleNodes refl (omega arith)
+
+-- "the longest of all rules with n nodes under any masks": no table of an accepted rule, plain or short, has more nodes
+pub none-longer : (short : Bool) (r : Rule) (mask foreign : ℕ) → ruleRefusal r ≡ 0 → bitOf foreign 0 ≡ false
+    → length ((rewrittenOf short r mask) .nodes) ≤ length ((rewrittenOf false (longestRule (r .count)) foreign) .nodes)
+none-longer short r mask foreign h f = omega (arith, rewritten-most short r mask h, longest-table foreign (r .count) f (rule-some r h))
 
 -- ---- the program
 no-bytes : (l : List ℕ) → length l ≡ 0 → l ≡ []
