@@ -12,7 +12,7 @@ use borrow.Author.Tests.{ne-eqb, eqb-true, eqb-false, le-ltb, lt-ltb, ltb-true, 
 use Rattle.definitions.specs.Limits.{accepted, maxRuleBytes, maxInputBytes, lentShort, ruleForm, inputLong}
 use Rattle.definitions.specs.Bounded.{pick}
 use Rattle.definitions.specs.Tables.{Rule, ruleRefusal}
-use Rattle.definitions.specs.Lines.{tab, newline, isEmpty, lineLength, isClosed, restOf, digits}
+use Rattle.definitions.specs.Lines.{tab, newline, isEmpty, lineOf, isClosed, restOf, digits}
 use Rattle.definitions.specs.Operations.{Answer, answer, tooShort, left, textOf, writeRuleNumber, writeRuleAnswer, writeRuleText}
 use Rattle.definitions.specs.Program.{refusedWord}
 use Rattle.definitions.specs.LinePrograms.{inputRefusal, refusalText, refusalOr}
@@ -24,10 +24,11 @@ use Rattle.printing.specs.Printing.{laidAt, Printed}
 use Rattle.printing.proofs.PrintLaws.{digits-fit, printed-seq}
 use Rattle.lines.specs.Reading.{FirstLine}
 use Rattle.lines.specs.declared.next.Line.{Line}
-use Rattle.lines.proofs.NextLaws.{short-closed, whole-open}
+use Rattle.lines.proofs.NextLaws.{short-closed, whole-open, line-part}
 use Rattle.formula_writer.specs.Writing.{WroteRule, writeAnswer}
 use Rattle.formula_writer.specs.declared.RuleWritten.{RuleWritten}
 use Rattle.formula_writer.specs.declared.RuleWritten.the-variants.{Length, Refused}
+use Rattle.line_program.specs.declared.input.OnlyLine.{OnlyLine}
 use Rattle.line_program.specs.Printing.{OnlyLineOf, Prints, ruleOutput}
 
 -- ---- `only_line`
@@ -152,7 +153,19 @@ module _ (rule : Rule) (o : List ℕ) (room : length o ≡ maxRuleBytes) (w : Ru
 
 pub ruleset rule-laws = (needs, rule-written, rule-refused)
 
--- ---- what a caller uses: `&output[..r]` has as many bytes as it says
+-- ---- what a program uses: of an input that is refused, and of the only line of one that isn't
+module _ (input : List ℕ) (l : OnlyLine) (is : OnlyLineOf input l) where
+  pub input-refused : (l .number ≡ 0 → ⊥) → (text : List ℕ) (k : ℕ) (o : List ℕ) → Prints (refusalText (l .number)) k o → Prints (refusalOr (inputRefusal input) text) k o
+  unfolding refusalOr
+  input-refused z text k o p =
+      rw (← is .number, pick-false (eqb (l .number) accepted) text (refusalText (l .number)) (ne-eqb (l .number) accepted z)) p
+
+  pub input-printed : l .number ≡ 0 → (printed : List ℕ → List ℕ) (k : ℕ) (o : List ℕ) → Prints (printed (take (l .len) input)) k o
+      → Prints (refusalOr (inputRefusal input) (printed (lineOf input))) k o
+  unfolding refusalOr pick
+  input-printed z printed k o p = rw (← line-part input (l .len) (is .line), ← is .number, z) p
+
+-- ---- what `main` uses: `&output[..r]` has as many bytes as it says
 pub printed-counts : (printed output : List ℕ) (r : ℕ) → Prints printed r output → r ≡ length (take r output)
 printed-counts printed output r p = sym (length-take-le r output (p .within))
 
