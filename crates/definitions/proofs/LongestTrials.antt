@@ -2,11 +2,11 @@
 use mathlib.Core.Path.{_≡_, refl}
 use Prim.Native.Nat.{ℕ, zero, suc}
 use Prim.Native.String.{String}
-use mathlib.Core.Bool.{true, false}
+use mathlib.Core.Bool.{false}
 use mathlib.Core.List.{List, [], _∷_, _++_}
 use lib.ListN.{length, replicate}
 use Rattle.definitions.specs.Limits.{maxInputBytes}
-use Rattle.definitions.specs.Nodes.{Atom, Until, Since, node}
+use Rattle.definitions.specs.Nodes.{Atom, Since, node}
 use Rattle.definitions.specs.Rewriting.{rewriting}
 use Rattle.definitions.specs.Lines.{bytes}
 use Rattle.definitions.specs.RuleText.{scanRule}

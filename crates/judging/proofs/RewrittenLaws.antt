@@ -8,7 +8,7 @@ use lib.ListN.{length, drop, getD, replicate}
 use lib.Dec.{ltb}
 use borrow.Author.Needs.{needs}
 use borrow.Author.Tests.{ltb-false, ne-eqb}
-use Rattle.definitions.specs.Limits.{accepted, lentShort, noController, maxTableNodes, maxRowWords}
+use Rattle.definitions.specs.Limits.{accepted, lentShort, maxTableNodes, maxRowWords}
 use Rattle.definitions.specs.Bounded.{pick, orElse}
 use Rattle.definitions.specs.Nodes.{nodeWord}
 use Rattle.definitions.specs.Tables.{Rule, ruleRefusal, tableRefusal, nodesIn, ruleOf, tableOf}

@@ -1,22 +1,22 @@
 -- Laws of the only line of an input, and of what is printed: one for each call that wants room, and for each return.
-use mathlib.Core.Path.{_≡_, refl, sym, ap, _∙_}
+use mathlib.Core.Path.{_≡_, sym, ap, _∙_}
 use Prim.Native.Nat.{ℕ, _+_, _-_, _^_, _<_, _≤_}
 use native.Mathlib.Omega.{arith}
-use mathlib.Core.Bool.{Bool, true, false, _&&_}
+use mathlib.Core.Bool.{_&&_}
 use mathlib.Core.List.{List, [], _∷_, _++_, append-nil}
 use lib.ListN.{length, take, drop, getD, replicate, length-append, length-drop, length-replicate, drop-of-length-le}
 use lib.Seq.{take-at, length-take-le}
 use lib.Dec.{eqb, ltb}
 use borrow.Author.Needs.{needs}
-use borrow.Author.Tests.{ne-eqb, eqb-true, eqb-false, le-ltb, lt-ltb, ltb-true, ltb-false, eq-eqb}
+use borrow.Author.Tests.{ne-eqb, eqb-true, eqb-false, le-ltb, ltb-true, ltb-false, eq-eqb}
 use Rattle.definitions.specs.Limits.{accepted, maxRuleBytes, maxInputBytes, lentShort, ruleForm, inputLong}
 use Rattle.definitions.specs.Bounded.{pick}
 use Rattle.definitions.specs.Tables.{Rule, ruleRefusal}
 use Rattle.definitions.specs.Lines.{tab, newline, isEmpty, lineOf, isClosed, restOf, digits}
-use Rattle.definitions.specs.Operations.{Answer, answer, tooShort, left, textOf, writeRuleNumber, writeRuleAnswer, writeRuleText}
+use Rattle.definitions.specs.Operations.{Answer, answer, tooShort, textOf, writeRuleNumber, writeRuleAnswer, writeRuleText}
 use Rattle.definitions.specs.Program.{refusedWord}
 use Rattle.definitions.specs.LinePrograms.{inputRefusal, refusalText, refusalOr}
-use Rattle.theorems.proofs.Choice.{by-test, pick-true, pick-false}
+use Rattle.theorems.proofs.Choice.{by-test, pick-false}
 use Rattle.theorems.proofs.LentSpace.{left-accepted}
 use Rattle.theorems.proofs.RoundTrips.{text-fits}
 use Rattle.lent.specs.Space.{cleared}

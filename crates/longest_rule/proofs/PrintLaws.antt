@@ -2,23 +2,21 @@
 use mathlib.Core.Path.{_≡_, refl, sym, ap, _∙_}
 use Prim.Native.Nat.{ℕ, zero, suc, _-_, _<_, _≤_}
 use native.Mathlib.Omega.{arith}
-use mathlib.Core.Bool.{true, false, _&&_}
+use mathlib.Core.Bool.{true, false}
 use mathlib.Core.List.{List, [], _∷_, map}
-use lib.ListN.{length, take, set, replicate}
-use lib.Dec.{eqb, leb}
+use lib.ListN.{take, set, replicate}
+use lib.Dec.{leb}
 use borrow.Author.Needs.{needs}
-use borrow.Author.Tests.{le-leb, leb-true, eqb-true}
-use Rattle.definitions.specs.Limits.{accepted, maxRuleNodes, ruleForm, ruleLimits}
+use borrow.Author.Tests.{leb-true}
+use Rattle.definitions.specs.Limits.{maxRuleNodes, ruleForm}
 use Rattle.definitions.specs.Bounded.{pick, within, orElse}
 use Rattle.definitions.specs.Nodes as table
 use Rattle.definitions.specs.Nodes.{Atom, Until, nodeWord}
-use Rattle.definitions.specs.Tables.{Rule, ruleOf, ruleHeadingRefusal, ruleRefusal}
+use Rattle.definitions.specs.Tables.{ruleOf, ruleHeadingRefusal, ruleRefusal}
 use Rattle.definitions.specs.Lines.{lineOf, onParsed, decimal}
-use Rattle.definitions.specs.RuleText.{ruleText}
-use Rattle.definitions.specs.Operations.{textOf}
 use Rattle.definitions.specs.LinePrograms.{refusalText, refusalOr}
 use Rattle.definitions.specs.Longest.{longestNodes, longestRule, longestText, countRefusal, countOutput, longestOutput}
-use Rattle.theorems.proofs.Choice.{by-test, both-true, pick-false}
+use Rattle.theorems.proofs.Choice.{by-test, both-true}
 use Rattle.theorems.proofs.RoundTrips.{same-accepted}
 use Rattle.theorems.proofs.Longest.{longest-accepted}
 use Rattle.formulas.specs.Meaning.{meaning, Built}

@@ -14,7 +14,7 @@ use Rattle.definitions.specs.Nodes.{nodeWord}
 use Rattle.definitions.specs.Tables.{Rule, nodesIn, ruleRefusal, ruleOf}
 use Rattle.definitions.specs.Rewriting as table
 use Rattle.definitions.specs.Rewriting.{emit, closing, closed, lastImage, rewriting}
-use Rattle.definitions.specs.Operations.{answer, rewrittenOf, rewriteNumber, rewriteAnswer, rewriteTable}
+use Rattle.definitions.specs.Operations.{answer, rewriteNumber, rewriteAnswer, rewriteTable}
 use Rattle.theorems.proofs.Counts.{emit-count}
 use Rattle.theorems.proofs.NodeLaws.{accepted-rule}
 use Rattle.theorems.proofs.RuleNodes.{rule-some, rule-few}

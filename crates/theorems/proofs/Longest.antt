@@ -2,21 +2,21 @@
 use mathlib.Core.Path.{_≡_, refl, ap, sym, _∙_}
 use Prim.Native.Nat.{ℕ, zero, suc, _+_, _-_, _*_, _≤_, _<_}
 use native.Mathlib.Omega.{arith}
-use mathlib.Core.Bool.{Bool, true, false, _&&_}
+use mathlib.Core.Bool.{Bool, false, _&&_}
 use mathlib.Core.List.{List, [], _∷_, _++_, map, append-assoc}
 use lib.ListN.{length, take, replicate, length-replicate, length-map, length-append}
 use lib.Seq.{take-all}
-use lib.Dec.{leb, ltb}
+use lib.Dec.{ltb}
 use borrow.Author.Tests.{eqb-true, le-leb, lt-leb, le-ltb}
-use Rattle.definitions.specs.Limits.{accepted, maxRuleNodes, maxInputBytes, ruleForm, ruleLimits, inputLong}
+use Rattle.definitions.specs.Limits.{accepted, maxRuleNodes, maxInputBytes, ruleForm, inputLong}
 use Rattle.definitions.specs.Bounded.{bitOf, pick, orElse}
 use Rattle.definitions.specs.Nodes.{Atom, Until, Node, node, nodeWord, nodeOf, kindOf}
 use Rattle.definitions.specs.Tables.{Rule, nodeRefusal, nodesRefusal, ruleHeadingRefusal, ruleRefusal, nodesIn}
 use Rattle.definitions.specs.Rewriting.{Draft, step, rewriting}
 use Rattle.definitions.specs.RuleText.{scanRule}
-use Rattle.definitions.specs.Lines.{newline, carriageReturn, isEmpty, isClosed, lineOf, restOf, Parsed, formed, malformed, onParsed, decimal, digits}
+use Rattle.definitions.specs.Lines.{newline, carriageReturn, isEmpty, isClosed, lineOf, restOf, formed, onParsed, decimal, digits}
 use Rattle.definitions.specs.Operations.{rewrittenOf}
-use Rattle.definitions.specs.LinePrograms.{inputRefusal, refusalText, refusalOr}
+use Rattle.definitions.specs.LinePrograms.{inputRefusal, refusalOr}
 use Rattle.definitions.specs.Longest.{longestNodes, longestRule, longestText, mostNodes, countRefusal, countOutput, longestOutput}
 use Rattle.theorems.proofs.Choice.{none-or-else, both-true, refuse-no, accept-yes}
 use Rattle.theorems.proofs.SplitLaws.{Without, without-one, without-append, split-found, split-rest}
