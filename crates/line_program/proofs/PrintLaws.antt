@@ -29,7 +29,7 @@ use Rattle.formula_writer.specs.Writing.{WroteRule, writeAnswer}
 use Rattle.formula_writer.specs.declared.RuleWritten.{RuleWritten}
 use Rattle.formula_writer.specs.declared.RuleWritten.the-variants.{Length, Refused}
 use Rattle.line_program.specs.declared.input.OnlyLine.{OnlyLine}
-use Rattle.line_program.specs.Printing.{OnlyLineOf, Prints, ruleOutput}
+use Rattle.line_program.specs.Printing.{OnlyLineOf, Prints, writtenOutput}
 
 -- ---- `only_line`
 module _ (input : List ℕ) (l : Line) (is : FirstLine input l) where
@@ -124,8 +124,8 @@ module _ (rule : Rule) (o : List ℕ) (room : length o ≡ maxRuleBytes) (w : Ru
     unfolding answer
     fine = sym (ap (λ (a : Answer). a .number) written)
 
-    pub rule-written : Prints (ruleOutput rule) end o′
-    unfolding ruleOutput refusalOr answer pick writeRuleText
+    pub rule-written : Prints (writtenOutput rule) end o′
+    unfolding writtenOutput refusalOr answer pick writeRuleText
     rule-written =
         let x = textOf rule in
         let n : end ≡ length x = ap (λ (a : Answer). getD (a .values) 0 0) (rw fine at written) in
@@ -146,8 +146,8 @@ module _ (rule : Rule) (o : List ℕ) (room : length o ≡ maxRuleBytes) (w : Ru
     unfolding answer pick
     some-number z = let l : _≡_ {A = ℕ} 0 1 = ap (λ (a : Answer). length (a .values)) (rw z at refused-is) in omega arith
 
-    pub rule-refused : (k : ℕ) (o″ : List ℕ) → Prints (refusalText number) k o″ → Prints (ruleOutput rule) k o″
-    unfolding ruleOutput refusalOr
+    pub rule-refused : (k : ℕ) (o″ : List ℕ) → Prints (refusalText number) k o″ → Prints (writtenOutput rule) k o″
+    unfolding writtenOutput refusalOr
     rule-refused k o″ p =
         rw (pick-false (eqb (ruleRefusal rule) accepted) (textOf rule) (refusalText (ruleRefusal rule)) (ne-eqb (ruleRefusal rule) accepted some-number), ← number-of) p
 

@@ -22,5 +22,5 @@ pub record Prints (printed : List ℕ) (r : ℕ) (output : List ℕ) : Type 0 wh
   pub within : r ≤ length output
 
 -- the text of a rule, or its refusal
-unfoldable pub ruleOutput : Rule → List ℕ
-ruleOutput r = refusalOr (ruleRefusal r) (textOf r)
+unfoldable pub writtenOutput : Rule → List ℕ
+writtenOutput r = refusalOr (ruleRefusal r) (textOf r)

@@ -5,7 +5,7 @@ ghost use Rattle.definitions.specs.Limits.{maxRuleBytes};
 ghost use Rattle.definitions.specs.Tables.{ruleOf};
 ghost use Rattle.definitions.specs.LinePrograms.{refusalText};
 ghost use Rattle.printing.specs.Printing.{Printed};
-ghost use Rattle.line_program.specs.Printing.{Prints, ruleOutput};
+ghost use Rattle.line_program.specs.Printing.{Prints, writtenOutput};
 use fields::scan;
 use formula_writer::RuleWritten;
 use formula_writer::write_rule;
@@ -37,7 +37,7 @@ pub fn print_rule(
     nodes: &[u32],
     output: &mut [u8; Limits::RULE_BYTES],
 ) -> usize
-    ensures { λ r. ⌜ Prints (ruleOutput (ruleOf controller count (now (nodes .entry)))) r (now (output .exit)) ⌝ }
+    ensures { λ r. ⌜ Prints (writtenOutput (ruleOf controller count (now (nodes .entry)))) r (now (output .exit)) ⌝ }
 {
     match write_rule(controller, count, nodes, output) {
         RuleWritten::Length(end) => end,

@@ -26,7 +26,7 @@ use Rattle.fields.specs.declared.number.Field.{Field}
 use Rattle.fields.specs.declared.number.Field.the-variants.{Number, Malformed}
 use Rattle.fields.proofs.FieldLaws.{cap-exact, cap-within-limits, capped-read, capped-malformed}
 use Rattle.lines.proofs.NextLaws.{line-part-laws}
-use Rattle.line_program.specs.Printing.{OnlyLineOf, Prints, ruleOutput}
+use Rattle.line_program.specs.Printing.{OnlyLineOf, Prints, writtenOutput}
 use Rattle.line_program.specs.declared.input.OnlyLine.{OnlyLine}
 use Rattle.line_program.proofs.PrintLaws.{input-refused, input-printed}
 
@@ -54,8 +54,8 @@ abbrev Begins : List ℕ → Type 0
 Begins ws = (n : ℕ) → 0 < n → n ≤ maxRuleNodes → take n ws ≡ map nodeWord (longestNodes n)
 
 module _ (ws : List ℕ) (begins : Begins ws) (n : ℕ) where
-  inside : within 1 maxRuleNodes n ≡ true → ruleOutput (ruleOf 0 n ws) ≡ refusalOr (countRefusal n) (longestText n)
-  unfolding ruleOutput countRefusal longestText pick
+  inside : within 1 maxRuleNodes n ≡ true → writtenOutput (ruleOf 0 n ws) ≡ refusalOr (countRefusal n) (longestText n)
+  unfolding writtenOutput countRefusal longestText pick
   inside e =
       let b = both-true (leb 1 n) (leb n maxRuleNodes) e in
       let some = leb-true 1 n (b .0) in
@@ -63,11 +63,11 @@ module _ (ws : List ℕ) (begins : Begins ws) (n : ℕ) where
       let t = begins n some few in
       rw (same-accepted (longestRule n) ws t (longest-accepted n some few), t, e)
 
-  outside : within 1 maxRuleNodes n ≡ false → ruleOutput (ruleOf 0 n ws) ≡ refusalOr (countRefusal n) (longestText n)
-  unfolding ruleOutput ruleRefusal ruleHeadingRefusal countRefusal refusalOr orElse pick
+  outside : within 1 maxRuleNodes n ≡ false → writtenOutput (ruleOf 0 n ws) ≡ refusalOr (countRefusal n) (longestText n)
+  unfolding writtenOutput ruleRefusal ruleHeadingRefusal countRefusal refusalOr orElse pick
   outside e = rw e
 
-  rule-of-count : ruleOutput (ruleOf 0 n ws) ≡ refusalOr (countRefusal n) (longestText n)
+  rule-of-count : writtenOutput (ruleOf 0 n ws) ≡ refusalOr (countRefusal n) (longestText n)
   rule-of-count = by-test (within 1 maxRuleNodes n) inside outside
 
 -- a count that a field tells up to its largest number is refused as it is
@@ -87,14 +87,14 @@ module _ (line : List ℕ) (f : Field) (e : f ≡ capped (decimal line)) where
   count-malformed x k o p = rw (capped-malformed (decimal line) f e x) p
 
   pub count-printed : (c : ℕ) → f ≡ Number c → (u a : Node) → Built Until 0 0 u → Built Atom 0 0 a → (v w : ℕ) → v ≡ nodeWord (meaning u) → w ≡ nodeWord (meaning a)
-      → (k : ℕ) (o : List ℕ) → Prints (ruleOutput (ruleOf 0 c (set (replicate maxRuleNodes v) 0 w))) k o → Prints (countOutput line) k o
+      → (k : ℕ) (o : List ℕ) → Prints (writtenOutput (ruleOf 0 c (set (replicate maxRuleNodes v) 0 w))) k o → Prints (countOutput line) k o
   unfolding countOutput onParsed
   count-printed c x u a un an v w vs ws k o p =
       let z = capped-read (decimal line) f c e x in
       let ve : v ≡ nodeWord (table.node Until 0 0) = vs ∙ ap nodeWord (un .meant) in
       let we : w ≡ nodeWord (table.node Atom 0 0) = ws ∙ ap nodeWord (an .meant) in
       let b : Begins (set (replicate maxRuleNodes v) 0 w) = λ n h l. rw (ve, we) (first-nodes n 63 h l) in
-      let q : ruleOutput (ruleOf 0 c (set (replicate maxRuleNodes v) 0 w)) ≡ refusalOr (countRefusal (z .number)) (longestText (z .number))
+      let q : writtenOutput (ruleOf 0 c (set (replicate maxRuleNodes v) 0 w)) ≡ refusalOr (countRefusal (z .number)) (longestText (z .number))
       = rule-of-count (set (replicate maxRuleNodes v) 0 w) b c ∙ (ap (λ (n : ℕ). refusalOr (countRefusal n) (longestText n)) (z .answered) ∙ cap-count (z .number)) in
       rw (z .is) (rw q at p)
 

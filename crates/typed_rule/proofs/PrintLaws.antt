@@ -27,8 +27,7 @@ use Rattle.formula_reader.specs.Reading.{readAnswer}
 use Rattle.formula_reader.specs.declared.RuleRead.{RuleRead}
 use Rattle.formula_reader.specs.declared.RuleRead.the-variants.{Rule, Refused}
 use Rattle.line_text.specs.Reading.{ReadLine}
-use Rattle.line_program.specs.Printing as printing
-use Rattle.line_program.specs.Printing.{OnlyLineOf, Prints}
+use Rattle.line_program.specs.Printing.{OnlyLineOf, Prints, writtenOutput}
 use Rattle.line_program.specs.declared.input.OnlyLine.{OnlyLine}
 use Rattle.line_program.proofs.PrintLaws.{input-refused, input-printed}
 
@@ -81,11 +80,11 @@ module _ (controller : ℕ) (line nodes exit : List ℕ) (r : RuleRead) (v : Rea
         let c : count ≡ length (lineNodes line) = cc in
         rw (o, c, v .nodes)
 
-    pub line-printed : (k : ℕ) (o : List ℕ) → Prints (printing.ruleOutput (ruleOf owner count exit)) k o → Prints (lineOutput controller line) k o
-    unfolding printing.ruleOutput refusalOr pick
+    pub line-printed : (k : ℕ) (o : List ℕ) → Prints (writtenOutput (ruleOf owner count exit)) k o → Prints (lineOutput controller line) k o
+    unfolding writtenOutput refusalOr pick
     line-printed k o p =
-        let q : printing.ruleOutput (ruleOf owner count exit) ≡ lineOutput controller line
-        = ap printing.ruleOutput read-rule ∙ (rw (line-rule-accepted controller line nodes read-number) (line-rule-text controller line nodes read-number)) in
+        let q : writtenOutput (ruleOf owner count exit) ≡ lineOutput controller line
+        = ap writtenOutput read-rule ∙ (rw (line-rule-accepted controller line nodes read-number) (line-rule-text controller line nodes read-number)) in
         rw q at p
 
 pub ruleset line-laws = (needs, line-refused, line-printed)
