@@ -25,11 +25,12 @@ fn expect(tally: &Tally, numbers: &[u8], often: usize) {
     assert!(tally.values().all(|times| *times >= often));
 }
 
-/// The answer to a recording as tables.
-fn project(recording: &RecordingTable, controller: usize) -> Result<usize, u8> {
+/// The local trace that a recording as tables is answered.
+fn project(recording: &RecordingTable, controller: usize) -> Result<Vec<u32>, u8> {
     let RecordingTable { controllers, length, masks, states } = recording;
     let mut places = [0; limits::PLACES];
-    model::project(*controllers, *length, masks, states, controller, &mut places)
+    let local = model::project(*controllers, *length, masks, states, controller, &mut places)?;
+    Ok(places[..local].to_vec())
 }
 
 /// The answer to a recording text.
@@ -180,6 +181,29 @@ fn schedules_differ_and_local_traces_do_not() {
     }
     println!("{differ:?}");
     assert!(differ.iter().all(|times| *times > 1000));
+}
+
+#[test]
+fn varied_local_traces_keep_length_mask_and_the_kept_bits() {
+    let mut random = Random::new(40);
+    let mut differ = 0;
+    for _ in 0..5000 {
+        let one = traces::recording(&mut random, limits::CONTROLLERS, limits::STATES);
+        let controller = random.below(one.controllers);
+        let places = traces::places(&one, controller);
+        assert_eq!(Ok(&places), project(&one, controller).as_ref());
+        let kept: Vec<u32> = places.iter().map(|_| random.word() | random.word()).collect();
+        let other = traces::varied(&mut random, &one, controller, &kept);
+        let varied = project(&other, controller).expect("accepted");
+        assert_eq!(one.masks[controller], other.masks[controller]);
+        assert_eq!(places.len(), varied.len());
+        for ((word, other), kept) in places.iter().zip(&varied).zip(&kept) {
+            assert_eq!(word & kept, other & kept);
+        }
+        differ += usize::from(places != varied);
+    }
+    println!("{differ}");
+    assert!(differ > 3000);
 }
 
 #[test]

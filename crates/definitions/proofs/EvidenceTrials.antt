@@ -10,7 +10,7 @@ use Rattle.definitions.specs.Nodes.{True, Atom, Not, Or, Next, Until, Pr
 use Rattle.definitions.specs.Evidence.{Found, found, wantedRows, evidence}
 use Rattle.definitions.specs.Lines.{bytes}
 use Rattle.definitions.specs.Operations.{answer, evidenceNumber, evidenceAnswer, evidencePairs}
-use Rattle.definitions.specs.Why.{pairText, verdictText, behindText, whyTexts, whyOutput}
+use Rattle.definitions.specs.Why.{stateOfPlace, pairText, verdictText, behindText, whyTexts, whyOutput}
 use Rattle.definitions.proofs.Samples.{computed, recorded, R, ruleFor, rule}
 
 -- node 0 is p, node 1 is q, then the others
@@ -154,10 +154,11 @@ example reading =
 
 pub record Whys : Type 0 where
   -- place 1 is state 2; node 0 is atom 1, which is no there, node 2 is atom 0, which is yes
-  pub weak : whyOutput (example "weak\n") ≡ bytes "weak\tyes\n1\t2\t1\t0\t0\n1\t2\t0\t1\t2\n"
+  pub weak : whyOutput (example "weak\n") ≡ bytes "weak\tyes\nstate\t2\tstep\t1\tatom\t1\tis\t0\tnode\t0\nstate\t2\tstep\t1\tatom\t0\tis\t1\tnode\t2\n"
   pub strong : whyOutput (example "strong\n") ≡ bytes "strong\tno\n"
-  -- the last place is told by the last state
-  pub lastPlace : whyOutput (bytes "strong\nrule\t0\t1\natom\t0\n-\nrecording\t1\t2\nowns\t00000001\nat\t00\t00000001\nat\t00\t00000001\n") ≡ bytes "strong\tyes\n0\t1\t0\t1\t0\n"
+  -- the last place is the state after the last step, or state 0
+  pub lastPlace : whyOutput (bytes "strong\nrule\t0\t2\natom\t0\nnext\t0\n-\nrecording\t1\t4\nowns\t00000001\nat\t00\t00000000\nat\t01\t00000000\nat\t00\t00000001\nat\t00\t00000001\n") ≡ bytes "strong\tyes\nstate\t2\tstep\t1\tatom\t0\tis\t1\tnode\t0\n"
+  pub onlyPlace : whyOutput (bytes "strong\nrule\t0\t1\natom\t0\n-\nrecording\t1\t2\nowns\t00000001\nat\t00\t00000001\nat\t00\t00000001\n") ≡ bytes "strong\tyes\nstate\t0\tstep\t0\tatom\t0\tis\t1\tnode\t0\n"
   -- no reading is asked for
   pub another : whyOutput (example "Weak\n") ≡ bytes "refused\t1\tWeak\n"
   pub unclosed : whyOutput (bytes "weak") ≡ bytes "refused\t1\tweak\n"
@@ -165,5 +166,5 @@ pub record Whys : Type 0 where
   pub refused : whyOutput (bytes "weak\nrule\t0\t1\nnot\t0\n-\n") ≡ bytes "refused\t3\tnot\t0\n"
 
 whys : Whys
-unfolding computed evidence wantedRows pairText verdictText behindText whyTexts whyOutput
-whys = record { weak = refl; strong = refl; lastPlace = refl; another = refl; unclosed = refl; refused = refl }
+unfolding computed evidence wantedRows stateOfPlace pairText verdictText behindText whyTexts whyOutput
+whys = record { weak = refl; strong = refl; lastPlace = refl; onlyPlace = refl; another = refl; unclosed = refl; refused = refl }

@@ -9,7 +9,7 @@ use Rattle.definitions.specs.Bounded.{pick, bitOf, bit}
 use Rattle.definitions.specs.Nodes.{Node}
 use Rattle.definitions.specs.Tables.{nodesIn}
 use Rattle.definitions.specs.Recordings.{Recording, maskOf, runsAt}
-use Rattle.definitions.specs.Projection.{runStates, localTrace}
+use Rattle.definitions.specs.Projection.{runStates, afterLast, localTrace}
 use Rattle.definitions.specs.Readings.{local, verdict}
 use Rattle.definitions.specs.Evidence.{nodeAt, Found, evidence}
 use Rattle.definitions.specs.Lines.{bytes, tab, newline, isClosed, lineOf, restOf, same, digits}
@@ -22,20 +22,29 @@ abbrev pub readingWord : (weak : Bool) → List ℕ
 readingWord true = bytes "weak"
 readingWord false = bytes "strong"
 
--- the state in which the controller takes the step of place k; for the last place the last state, in which its own atoms are still those of that place
-abbrev pub stateOfPlace : (R : Recording) (c k : ℕ) → ℕ
-stateOfPlace R c k = getD (runStates (runsAt R c) (R .count)) k (R .count - 1)
+-- the state of place k: "place i < m is state r(i)"; "place m is state r(m-1)+1, or state 0 if m = 0"
+unfoldable pub stateOfPlace : (R : Recording) (c k : ℕ) → ℕ
+stateOfPlace R c k = getD (runStates (runsAt R c) (R .count)) k (afterLast (runStates (runsAt R c) (R .count)))
 
--- a pair: local place, state, atom, the atom's bit there, node, parted by tabs
-unfoldable pub pairText : (place state atom value node : ℕ) → List ℕ
-pairText place state atom value node =
-    digits place ++ (tab ∷ (digits state ++ (tab ∷ (digits atom ++ (tab ∷ (digits value ++ (tab ∷ (digits node ++ (newline ∷ [])))))))))
+-- a word and a number, parted by a tab
+abbrev pub named : (word : List ℕ) (number : ℕ) → List ℕ
+named word number = word ++ (tab ∷ digits number)
+
+-- a pair in words: the state of the recording, the controller's step, the atom, its bit there, the rule's node
+unfoldable pub pairText : (state step atom value node : ℕ) → List ℕ
+pairText state step atom value node =
+    named (bytes "state") state
+    ++ (tab ∷ (named (bytes "step") step
+    ++ (tab ∷ (named (bytes "atom") atom
+    ++ (tab ∷ (named (bytes "is") value
+    ++ (tab ∷ (named (bytes "node") node
+    ++ (newline ∷ [])))))))))
 
 -- of a pair that was found
 abbrev pub foundText : (R : Recording) (c : ℕ) (ns : List Node) (f : Found) → List ℕ
 foundText R c ns f =
     let a = (nodeAt ns (f .atomNode)) .first in
-    pairText (f .place) (stateOfPlace R c (f .place)) a (bit (bitOf (getD (localTrace R c) (f .place) 0) a)) (f .atomNode)
+    pairText (stateOfPlace R c (f .place)) (f .place) a (bit (bitOf (getD (localTrace R c) (f .place) 0) a)) (f .atomNode)
 
 -- a line for each pair
 abbrev pub foundLines : (R : Recording) (c : ℕ) (ns : List Node) (fs : List Found) → List ℕ

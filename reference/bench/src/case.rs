@@ -13,6 +13,9 @@ pub enum Side {
     Plain,
     /// Rust tuned for speed.
     Tuned,
+    /// The proved library's judge of the same rule and recording: another
+    /// answer, to tell how much more an operation costs.
+    JudgeLocal,
 }
 
 impl Side {
@@ -21,6 +24,7 @@ impl Side {
             Side::Proved => "proved",
             Side::Plain => "plain",
             Side::Tuned => "tuned",
+            Side::JudgeLocal => "judge_local",
         }
     }
 }
@@ -46,7 +50,7 @@ pub trait Timed {
     fn inputs(&self) -> usize;
     /// One call of a side for each of these inputs.
     fn call(&mut self, side: Side, inputs: Range<usize>);
-    /// Asserts that all sides answer the same and leave the same.
+    /// Asserts that all sides of the operation answer the same and leave the same.
     fn assert_agreement(&self);
 }
 
@@ -74,7 +78,8 @@ where
         for (number, input) in self.inputs.iter().enumerate() {
             let mut expected = self.lent.clone();
             let answer = self.sides[0].1(input, &mut expected);
-            for (side, call) in &self.sides[1..] {
+            let others = self.sides[1..].iter().filter(|(side, _)| *side != Side::JudgeLocal);
+            for (side, call) in others {
                 let mut lent = self.lent.clone();
                 let what = format!("{}, {}, input {number}", self.name, side.name());
                 assert_eq!(call(input, &mut lent), answer, "{what}");

@@ -1,7 +1,7 @@
 //! The operations, each with its sides and its inputs.
 
 use crate::case::{Case, Side, Sides, Timed};
-use crate::hand::{line, plain, read, rewrite, tuned, write};
+use crate::hand::{evidence, line, plain, read, rewrite, tuned, write};
 use crate::inputs::{LineInput, RuleInput, TableInput};
 use ragyvosin::{full, Joint};
 use reference::generate::random::Random;
@@ -126,6 +126,19 @@ fn judge_local(plan: Plan) -> Box<dyn Timed> {
     boxed(plan, plan.source.rules(), (), sides)
 }
 
+/// Of the weak verdict or of the strong one, as the input says.
+fn evidence(plan: Plan) -> Box<dyn Timed> {
+    let sides: Sides<RuleInput, Vec<u32>, _> = vec![
+        (Side::Proved, |i, l| ragyvosin::evidence(i.rule(), i.recording(), i.weak, l)),
+        (Side::Plain, |i, l| evidence::evidence(i.rule(), i.recording(), i.weak, l)),
+        (Side::JudgeLocal, |i, _| {
+            let (number, [weak, _]) = ragyvosin::judge_local(i.rule(), i.recording());
+            (number, [weak])
+        }),
+    ];
+    boxed(plan, plan.source.rules(), lent(full::PAIRS, 0xa5a5_a5a5), sides)
+}
+
 fn project(plan: Plan) -> Box<dyn Timed> {
     let sides: Sides<RuleInput, Vec<u32>, _> = vec![
         (Side::Proved, |i, l| ragyvosin::project(i.recording(), i.controller(), l)),
@@ -226,6 +239,7 @@ impl Plan {
     pub fn build(self) -> Box<dyn Timed> {
         match self.operation {
             "judge_local" => judge_local(self),
+            "evidence" => evidence(self),
             "project" => project(self),
             "rewrite_plain" => rewrite_plain(self),
             "rewrite_short" => rewrite_short(self),
@@ -240,8 +254,9 @@ impl Plan {
 }
 
 /// The operations that take a rule, a recording or both.
-const OF_RULES: [&str; 9] = [
+const OF_RULES: [&str; 10] = [
     "judge_local",
+    "evidence",
     "project",
     "rewrite_plain",
     "rewrite_short",

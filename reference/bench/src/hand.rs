@@ -2,6 +2,7 @@
 //! proved library: the same numbers, values and lent entries.
 
 pub mod check;
+pub mod evidence;
 pub mod line;
 pub mod plain;
 pub mod read;

@@ -74,29 +74,31 @@ impl LineInput {
 pub struct RuleInput {
     rule: RuleTable,
     recording: RecordingTable,
+    /// The verdict whose readings are asked for.
+    pub weak: bool,
     pub rule_text: Vec<u8>,
     pub recording_text: Vec<u8>,
 }
 
 impl RuleInput {
-    fn of(rule: RuleTable, recording: RecordingTable) -> RuleInput {
+    fn of(random: &mut Random, rule: RuleTable, recording: RecordingTable) -> RuleInput {
         let (rule_text, recording_text) =
             (texts::rule_text(&rule), texts::recording_text(&recording));
-        RuleInput { rule, recording, rule_text, recording_text }
+        RuleInput { rule, recording, weak: random.once_in(2), rule_text, recording_text }
     }
 
     /// An accepted input of exactly this size.
     pub fn exact(random: &mut Random, nodes: usize, states: usize) -> RuleInput {
         let recording = recording(random, states);
         let rule = rule(random, busiest(&recording), nodes);
-        RuleInput::of(rule, recording)
+        RuleInput::of(random, rule, recording)
     }
 
     /// Any input, accepted or refused.
     pub fn any(random: &mut Random) -> RuleInput {
         let rule = formulas::any_rule(random, limits::RULE_NODES);
         let recording = traces::any_recording(random, limits::CONTROLLERS, limits::STATES);
-        let mut input = RuleInput::of(rule, recording);
+        let mut input = RuleInput::of(random, rule, recording);
         (input.rule_text, input.recording_text) = texts::any_pair(random);
         input
     }

@@ -44,6 +44,7 @@ fn target(plan: Plan, side: Side) -> f64 {
     let judges = ["judge_recording", "judge_rewritten", "judge_local", "project"];
     match side {
         Side::Tuned => 1.3,
+        Side::JudgeLocal => 10.0,
         _ if judges.contains(&plan.operation) => 1.0,
         _ => 1.5,
     }

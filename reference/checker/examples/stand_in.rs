@@ -1,13 +1,27 @@
-//! Stands in for the program where only the checker itself is tried: the
-//! model's answer to the whole standard input, and what it says of it.
+//! Stands in for a program where only the checker itself is tried: the model's
+//! answer to the whole standard input, and what it says of it. Its own name, a
+//! link's or a copy's, tells which program: `rule`, `why`, `longest`, or
+//! else `judge`.
 
 #![forbid(unsafe_code)]
 
+use std::env;
 use std::io::{self, Read, Write};
+use std::path::Path;
+
+use reference::model::{longest_program, program, program_says, rule_program, why};
 
 fn main() -> io::Result<()> {
     let mut input = Vec::new();
     io::stdin().read_to_end(&mut input)?;
-    io::stdout().write_all(&reference::model::program(&input))?;
-    io::stderr().write_all(&reference::model::program_says(&input))
+    let called = env::args().next().unwrap_or_default();
+    let name = Path::new(&called).file_name().and_then(|name| name.to_str());
+    let (output, errors) = match name {
+        Some("rule") => (rule_program(&input), Vec::new()),
+        Some("longest") => (longest_program(&input), Vec::new()),
+        Some("why") => (why::program(&input), why::says(&input)),
+        _ => (program(&input), program_says(&input)),
+    };
+    io::stdout().write_all(&output)?;
+    io::stderr().write_all(&errors)
 }

@@ -9,7 +9,8 @@ use crate::expected;
 use crate::input::{Input, GUARD};
 use crate::last_state::LastState;
 use crate::library;
-use crate::misread::{self, Misreading};
+use crate::misread;
+use crate::misstep;
 use crate::outcome::Outcome;
 use crate::tally::{Operation, Section, Tally};
 use crate::wrong::{Place, WrongAnswer};
@@ -33,9 +34,10 @@ impl<'a> Check<'a> {
         self.wrong.take(self.section, operation, place)
     }
 
-    /// The wrong reader of line endings that is expected here, if one is.
-    pub fn misreading(&self, operation: Operation) -> Option<Misreading> {
-        self.wrong.misreading(self.section, operation)
+    /// The place of the wrong answer that is still to come, if it is one of this
+    /// operation.
+    pub fn place(&self, operation: Operation) -> Option<Place> {
+        self.wrong.place(self.section, operation)
     }
 
     /// Counts inputs of an operation and the entries compared for them.
@@ -49,6 +51,7 @@ impl<'a> Check<'a> {
         if self.wrong.pending() {
             self.alter(input, &mut expected);
             self.misread(input, &mut expected);
+            self.misstepped(input, &mut expected);
         }
         // The wrapper panics where a part isn't within its text.
         let found = catch_unwind(AssertUnwindSafe(|| library::of(input)));
@@ -89,11 +92,22 @@ impl<'a> Check<'a> {
     /// and is another answer.
     fn misread(&self, input: &Input, expected: &mut Outcome) {
         let operation = input.operation();
-        let Some(misreading) = self.misreading(operation) else { return };
+        let Some(Place::Misread(misreading)) = self.place(operation) else { return };
         let misread = misread::outcome(misreading, input, expected);
         if let Some(misread) = misread.filter(|_| self.wrong(operation, Place::Misread(misreading)))
         {
             *expected = misread;
+        }
+    }
+
+    /// Expects what a wrong walk leaves, if it belongs here and is another
+    /// answer.
+    fn misstepped(&self, input: &Input, expected: &mut Outcome) {
+        let operation = input.operation();
+        let Some(Place::Misstep(misstep)) = self.place(operation) else { return };
+        let wrong = misstep::outcome(misstep, input, expected);
+        if let Some(wrong) = wrong.filter(|_| self.wrong(operation, Place::Misstep(misstep))) {
+            *expected = wrong;
         }
     }
 

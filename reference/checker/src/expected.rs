@@ -107,6 +107,18 @@ pub fn judge_recording(
     )
 }
 
+/// The model's pairs behind a verdict: how many.
+pub fn evidence(
+    rule: &RuleTable,
+    recording: &RecordingTable,
+    weak: bool,
+    pairs: &mut [u32],
+) -> Result<usize, u8> {
+    let RuleTable { controller, count, nodes } = rule;
+    let RecordingTable { controllers, length, masks, states } = recording;
+    model::evidence(*controller, *count, nodes, *controllers, *length, masks, states, weak, pairs)
+}
+
 /// What the model answers and leaves.
 pub fn of(input: &Input) -> Outcome {
     match input {
@@ -128,6 +140,11 @@ pub fn of(input: &Input) -> Outcome {
             let mut rows = Space::new(*rows);
             let answer = judge_recording(table, recording, *controller, rows.lend());
             outcome(answer.map(verdict_values), vec![rows.words()])
+        }
+        Input::Evidence { rule, recording, weak, pairs } => {
+            let mut pairs = Space::new(*pairs);
+            let answer = evidence(rule, recording, *weak, pairs.lend());
+            outcome(answer.map(|count| [count]), vec![pairs.words()])
         }
     }
 }

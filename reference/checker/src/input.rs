@@ -133,6 +133,8 @@ pub enum Input {
     Rewrite { short: bool, rule: RuleTable, mask: u32, table: Lent },
     /// A table over the whole recording.
     JudgeRecording { table: JudgeTable, recording: RecordingTable, controller: usize, rows: Lent },
+    /// The readings behind a verdict, the weak or the strong one.
+    Evidence { rule: RuleTable, recording: RecordingTable, weak: bool, pairs: Lent },
 }
 
 /// A lent slice of an input.
@@ -195,6 +197,11 @@ impl Input {
         let rows = Lent::ample(limits::ROW_WORDS);
         Input::JudgeRecording { table, recording, controller, rows }
     }
+
+    /// The readings behind a verdict.
+    pub fn evidence(rule: RuleTable, recording: RecordingTable, weak: bool) -> Input {
+        Input::Evidence { rule, recording, weak, pairs: Lent::ample(limits::PAIRS) }
+    }
 }
 
 impl Input {
@@ -211,6 +218,7 @@ impl Input {
             Input::Rewrite { short: false, .. } => Operation::RewritePlain,
             Input::Rewrite { short: true, .. } => Operation::RewriteShort,
             Input::JudgeRecording { .. } => Operation::JudgeRecording,
+            Input::Evidence { .. } => Operation::Evidence,
         }
     }
 
@@ -253,6 +261,7 @@ impl Input {
             Input::JudgeLocal { .. } => vec![],
             Input::Rewrite { table, .. } => vec![slice("table", limits::TABLE_NODES, table)],
             Input::JudgeRecording { rows, .. } => vec![slice("rows", limits::ROW_WORDS, rows)],
+            Input::Evidence { pairs, .. } => vec![slice("pairs", limits::PAIRS, pairs)],
         }
     }
 
@@ -267,6 +276,7 @@ impl Input {
             Input::JudgeLocal { .. } => vec![],
             Input::Rewrite { table, .. } => vec![table],
             Input::JudgeRecording { rows, .. } => vec![rows],
+            Input::Evidence { pairs, .. } => vec![pairs],
         }
     }
 
@@ -311,6 +321,9 @@ impl fmt::Display for Input {
             }
             Input::JudgeRecording { table, recording, controller, rows } => {
                 write!(out, "{table:?}, {recording:?}, controller {controller}, rows {rows:?}")
+            }
+            Input::Evidence { rule, recording, weak, pairs } => {
+                write!(out, "{rule:?}, {recording:?}, weak {weak}, pairs {pairs:?}")
             }
         }
     }

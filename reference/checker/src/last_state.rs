@@ -26,6 +26,7 @@ impl LastState {
             Input::ReadRecording { .. } => (expected.values[1], expected.slice(1)),
             Input::Project { recording, .. }
             | Input::JudgeLocal { recording, .. }
+            | Input::Evidence { recording, .. }
             | Input::JudgeRecording { recording, .. } => (recording.length, &recording.states[..]),
             _ => return None,
         };

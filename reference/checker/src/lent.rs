@@ -12,7 +12,7 @@ use crate::difference::Difference;
 use crate::input::{Input, Lent, BEYOND};
 use crate::plan::Plan;
 use crate::tally::Section;
-use crate::trials::{example_rule, recording_r};
+use crate::trials::{example_rule, recording_r, widest};
 use crate::work::Job;
 
 /// Inputs of every operation that lends space: small ones.
@@ -28,8 +28,9 @@ fn small_inputs() -> Vec<Input> {
         Input::read_joint(rule_bytes, recording_bytes),
         Input::project(recording.clone(), 0),
         Input::rewrite(false, rule.clone(), 1),
-        Input::rewrite(true, rule, 1),
-        Input::judge_recording(table, recording, 0),
+        Input::rewrite(true, rule.clone(), 1),
+        Input::judge_recording(table, recording.clone(), 0),
+        Input::evidence(rule, recording, true),
     ]
 }
 
@@ -49,8 +50,9 @@ fn refused_inputs() -> Vec<Input> {
         Input::read_joint(cut(&rule_bytes), recording_bytes),
         Input::project(recording.clone(), 2),
         Input::rewrite(false, wrong.clone(), 1),
-        Input::rewrite(true, wrong, 1),
-        Input::judge_recording(table, recording, 2),
+        Input::rewrite(true, wrong.clone(), 1),
+        Input::judge_recording(table, recording.clone(), 2),
+        Input::evidence(wrong, recording, false),
     ]
 }
 
@@ -79,6 +81,7 @@ fn large_inputs() -> Vec<Input> {
         Input::rewrite(false, rule.clone(), 0),
         Input::rewrite(true, rule, u32::MAX),
         Input::judge_recording(table, recording, 1),
+        widest(),
     ]
 }
 

@@ -3,6 +3,7 @@
 use ragyvosin::{Recording, Rule, Table};
 use reference::generate::formulas::{JudgeTable, RuleTable};
 use reference::generate::traces::RecordingTable;
+use reference::model::limits;
 
 use crate::input::{Input, Lent, Space};
 use crate::outcome::Outcome;
@@ -48,6 +49,40 @@ fn read_joint(rule: &[u8], recording: &[u8], [nodes, masks, states]: [Lent; 3]) 
     Outcome { number: answer.number, values, lent }
 }
 
+/// What the library's judge of the whole recording takes and is lent.
+pub struct Whole {
+    nodes: Vec<u32>,
+    rows: Vec<u64>,
+}
+
+impl Whole {
+    /// Space of the full sizes.
+    pub fn new() -> Whole {
+        Whole { nodes: vec![0; limits::TABLE_NODES], rows: vec![0; limits::ROW_WORDS] }
+    }
+
+    /// The verdicts of an accepted rule on an accepted recording, by the library
+    /// alone: on the local trace, and of both rewritings over the whole
+    /// recording; or the number of a refusal.
+    pub fn verdicts(
+        &mut self,
+        formula: &RuleTable,
+        trace: &RecordingTable,
+    ) -> Result<[[usize; 2]; 3], u8> {
+        let (formula, trace) = (rule(formula), recording(trace));
+        let accepted = |(number, values)| if number == 0 { Ok(values) } else { Err(number) };
+        let local = accepted(ragyvosin::judge_local(formula, trace))?;
+        let c = formula.controller;
+        let mut whole = |short| {
+            let rewritten = ragyvosin::rewrite(short, formula, trace.masks[c], &mut self.nodes);
+            let (0, [count, weak_top, strong_top]) = rewritten else { return Err(rewritten.0) };
+            let table = Table { count, nodes: &self.nodes, weak_top, strong_top };
+            accepted(ragyvosin::judge_recording(table, trace, c, &mut self.rows))
+        };
+        Ok([local, whole(false)?, whole(true)?])
+    }
+}
+
 /// What the library answers and leaves.
 pub fn of(input: &Input) -> Outcome {
     match input {
@@ -86,6 +121,12 @@ pub fn of(input: &Input) -> Outcome {
             let (nodes, trace) = (table(nodes), recording(trace));
             let answer = ragyvosin::judge_recording(nodes, trace, *controller, rows.lend());
             outcome(answer, vec![rows.words()])
+        }
+        Input::Evidence { rule: formula, recording: trace, weak, pairs } => {
+            let mut pairs = Space::new(*pairs);
+            let (formula, trace) = (rule(formula), recording(trace));
+            let answer = ragyvosin::evidence(formula, trace, *weak, pairs.lend());
+            outcome(answer, vec![pairs.words()])
         }
     }
 }

@@ -23,6 +23,8 @@ pub struct Plan {
     pub lent_step: usize,
     /// Runs of the program on random inputs.
     pub program_runs: usize,
+    /// Batches of the readings behind a verdict and what they promise.
+    pub evidence_batches: usize,
     /// All small rules on all small recordings.
     pub small: SmallPlan,
 }
@@ -44,6 +46,10 @@ pub struct SmallPlan {
     pub larger_states: usize,
     /// Other schedules of each local trace, of up to 128 states.
     pub schedules: usize,
+    /// Rules of one node more are walked on every local trace of so many places.
+    pub larger_places: usize,
+    /// On how many others each of them is walked.
+    pub larger_walks: usize,
 }
 
 impl Plan {
@@ -58,6 +64,7 @@ impl Plan {
             line_batches: 400,
             lent_step: 1,
             program_runs: 3000,
+            evidence_batches: 200,
             small: SmallPlan {
                 nodes: 3,
                 states: 4,
@@ -66,6 +73,8 @@ impl Plan {
                 larger_views: 16,
                 larger_states: 0,
                 schedules: 2,
+                larger_places: 2,
+                larger_walks: 8,
             },
         }
     }
@@ -79,12 +88,15 @@ impl Plan {
             ending_batches: 2000,
             line_batches: 4000,
             program_runs: 30_000,
+            evidence_batches: 2000,
             small: SmallPlan {
                 every_recording_nodes: 3,
                 every_recording_states: 4,
                 larger_views: 64,
                 larger_states: 3,
                 schedules: 8,
+                larger_places: 3,
+                larger_walks: 64,
                 ..ordinary.small
             },
             ..ordinary
@@ -95,13 +107,14 @@ impl Plan {
     pub fn probe(seed: u64) -> Plan {
         Plan {
             seed,
-            random_batches: 2,
+            random_batches: 5,
             damaged_texts: 1,
             ending_batches: 2,
             list_length: 2,
             line_batches: 2,
             lent_step: 61,
             program_runs: 2,
+            evidence_batches: 2,
             small: SmallPlan {
                 nodes: 1,
                 states: 2,
@@ -110,6 +123,8 @@ impl Plan {
                 larger_views: 1,
                 larger_states: 0,
                 schedules: 1,
+                larger_places: 1,
+                larger_walks: 1,
             },
         }
     }

@@ -1,20 +1,20 @@
 //! The programs themselves, through their standard input.
 
+mod asked;
+mod judged;
+mod longest;
+pub mod misprint;
+mod typed;
+
 use std::env;
-use std::io::{self, Write};
+use std::io::{self, Read, Write};
 use std::path::{Path, PathBuf};
-use std::process::{Child, Command, Output, Stdio};
-use std::thread;
+use std::process::{Child, Command, ExitStatus, Output, Stdio};
+use std::thread::{self, JoinHandle};
 use std::time::{Duration, Instant};
 
-use reference::generate::endings::{any_endings, with_returns};
-use reference::generate::lines;
 use reference::generate::random::Random;
-use reference::generate::texts::{self, program_input, recording_text, rule_text};
-use reference::generate::traces::RecordingTable;
-use reference::generate::{formulas, traces};
-use reference::model::limits::{CONTROLLERS, PROGRAM_INPUT, RULE_NODES, STATES};
-use reference::model::{program, program_says, rule_program};
+use reference::model::{longest_program, program, program_says, rule_program, why};
 
 use crate::check::Check;
 use crate::difference::Difference;
@@ -22,9 +22,8 @@ use crate::misread;
 use crate::outcome::first_difference;
 use crate::plan::Plan;
 use crate::tally::{Operation, Section};
-use crate::trials::{example_rule, marked_r, recording_r};
 use crate::work::Job;
-use crate::wrong::Place;
+use crate::wrong::{Place, WrongAnswer};
 
 /// A program: what it is counted as, its binary's name, the variable that
 /// names another binary, and the model's output.
@@ -55,6 +54,31 @@ const RULE: Program = Program {
     says: |_| Vec::new(),
 };
 
+/// The program that prints the readings behind a verdict.
+const WHY: Program = Program {
+    operation: Operation::WhyProgram,
+    name: "why",
+    variable: "RAGYVOSIN_WHY",
+    model: why::program,
+    says: why::says,
+};
+
+/// The program that prints the rule that grows most.
+const LONGEST: Program = Program {
+    operation: Operation::LongestProgram,
+    name: "longest",
+    variable: "RAGYVOSIN_LONGEST",
+    model: longest_program,
+    says: |_| Vec::new(),
+};
+
+/// Makes the runs of a program.
+type Runs = fn(&Plan) -> Vec<Job<'_>>;
+
+/// All programs, each with its runs.
+const PROGRAMS: [(Program, Runs); 4] =
+    [(JUDGE, judged::jobs), (RULE, typed::jobs), (WHY, asked::jobs), (LONGEST, longest::jobs)];
+
 /// Runs of one job.
 const RUNS: usize = 25;
 
@@ -79,7 +103,7 @@ impl Program {
 
 /// Why the programs can't be run, if one can't.
 pub fn missing() -> Option<String> {
-    JUDGE.missing().or_else(|| RULE.missing())
+    PROGRAMS.into_iter().find_map(|(program, _)| program.missing())
 }
 
 /// Writes the input in pieces of these sizes, the last of all that is left;
@@ -97,18 +121,28 @@ fn feed(child: &mut Child, input: &[u8], pieces: &[usize]) -> io::Result<()> {
     pipe.write_all(rest)
 }
 
-/// Waits for the program's end, not for ever. Its output fits into the pipe:
-/// the longest line that it can refuse has 16,384 bytes.
-fn wait(mut child: Child) -> io::Result<Output> {
+/// Reads all of a stream while the program runs: its output may be longer than
+/// a pipe holds.
+fn drain(mut stream: impl Read + Send + 'static) -> JoinHandle<io::Result<Vec<u8>>> {
+    thread::spawn(move || {
+        let mut bytes = Vec::new();
+        stream.read_to_end(&mut bytes).map(|_| bytes)
+    })
+}
+
+/// Waits for the program's end, not for ever.
+fn wait(child: &mut Child) -> io::Result<ExitStatus> {
     let start = Instant::now();
-    while child.try_wait()?.is_none() {
+    loop {
+        if let Some(status) = child.try_wait()? {
+            return Ok(status);
+        }
         if start.elapsed() > LIMIT {
             child.kill()?;
             return Err(io::Error::other("the program doesn't end"));
         }
         thread::sleep(Duration::from_micros(100));
     }
-    child.wait_with_output()
 }
 
 /// Runs the program on an input.
@@ -116,13 +150,20 @@ fn run(program: Program, input: &[u8], pieces: &[usize]) -> io::Result<Output> {
     let mut command = Command::new(program.binary());
     command.stdin(Stdio::piped()).stdout(Stdio::piped()).stderr(Stdio::piped());
     let mut child = command.spawn()?;
-    match feed(&mut child, input, pieces) {
-        Err(error) if error.kind() != io::ErrorKind::BrokenPipe => Err(error),
-        _ => wait(child),
+    let output = drain(child.stdout.take().expect("a pipe"));
+    let errors = drain(child.stderr.take().expect("a pipe"));
+    if let Err(error) = feed(&mut child, input, pieces) {
+        if error.kind() != io::ErrorKind::BrokenPipe {
+            return Err(error);
+        }
     }
+    let status = wait(&mut child)?;
+    let [stdout, stderr] = [output, errors].map(|stream| stream.join().expect("no panic"));
+    Ok(Output { status, stdout: stdout?, stderr: stderr? })
 }
 
 /// What the program is to write: to standard output and to standard error.
+#[derive(Clone, PartialEq, Eq)]
 struct Expected {
     output: Vec<u8>,
     errors: Vec<u8>,
@@ -137,7 +178,7 @@ impl Expected {
     /// Expects what a wrong reader of line endings writes, if it belongs here
     /// and is another refusal or another line.
     fn misread(&mut self, check: &Check, program: Program, input: &[u8]) {
-        let Some(misreading) = check.misreading(program.operation) else { return };
+        let Some(Place::Misread(misreading)) = check.place(program.operation) else { return };
         let misread = Expected::of(program, &misread::program_input(misreading, input));
         let output = misread::printed_line(misreading, input, misread.output);
         let misread = Expected { output, ..misread };
@@ -149,6 +190,24 @@ impl Expected {
         if differs && check.wrong(program.operation, Place::Misread(misreading)) {
             *self = misread;
         }
+    }
+
+    /// Expects what a wrong printer writes, if it belongs here and is something
+    /// else.
+    fn misprint(&mut self, check: &Check, program: Program, input: &[u8]) {
+        let Some(Place::Misprint(misprint)) = check.place(program.operation) else { return };
+        let misprinted = misprint.of(input, self);
+        if misprinted != *self && check.wrong(program.operation, Place::Misprint(misprint)) {
+            *self = misprinted;
+        }
+    }
+}
+
+/// Sizes of the pieces that some inputs arrive in.
+fn some_pieces(random: &mut Random, input: &[u8]) -> Vec<usize> {
+    match random.below(4) {
+        0 => (0..random.between(1, 4)).map(|_| random.below(input.len() + 1)).collect(),
+        _ => Vec::new(),
     }
 }
 
@@ -205,6 +264,7 @@ fn compare(
 ) -> Result<(), Difference> {
     let mut expected = Expected::of(program, input);
     expected.misread(check, program, input);
+    expected.misprint(check, program, input);
     if check.wrong(program.operation, Place::Content) {
         expected.output[0] ^= 1;
     }
@@ -217,226 +277,42 @@ fn compare(
     require(check, program, input, &expected, pieces)
 }
 
-/// The example of document 01, against the output that it names.
-fn example(check: &mut Check) -> Result<(), Difference> {
-    let input = program_input(&rule_text(&example_rule()), &recording_text(&recording_r()));
-    let output = "local 3\nown yes no\nplain 55 yes no\nshort 43 yes no\n".replace(' ', "\t");
-    let mut expected = Expected { output: output.into_bytes(), errors: Vec::new() };
-    if check.wrong(Operation::Program, Place::Named) {
-        expected.output[6] ^= 1;
-    }
-    require(check, JUDGE, &input, &expected, &[])?;
-    let bytewise = vec![1; input.len()];
-    require(check, JUDGE, &input, &expected, &bytewise)?;
-    let returned = with_returns(&input, |_| true);
-    let between_13_and_10 = [b"rule\t0\t9\r".len()];
-    require(check, JUDGE, &returned, &expected, &[])?;
-    require(check, JUDGE, &returned, &expected, &between_13_and_10)
-}
-
-/// Inputs whose lines end in 13 10: the example's, with a line refused, too
-/// many or unclosed, with every other ending, and too long only as it came.
-fn ending_edges() -> Vec<Vec<u8>> {
-    let (rule, recording) = (rule_text(&example_rule()), recording_text(&recording_r()));
-    let returned = with_returns(&program_input(&rule, &recording), |_| true);
-    let mut inputs = vec![
-        with_returns(&program_input(&rule, &recording), |line| line % 2 == 0),
-        with_returns(&program_input(&rule, &recording), |line| line % 2 == 1),
-        with_returns(&program_input(b"rule\t2\t1\ntrue\n", &recording), |_| true),
-        [&returned[..], b"x\r\n"].concat(),
-        [&returned[..], b"x\r"].concat(),
-        [&returned[..returned.len() - 1], b"\r\n"].concat(),
-        returned[..returned.len() - 1].to_vec(),
-        returned[..returned.len() - 2].to_vec(),
-        [&rule[..], b"-\r"].concat(),
-        b"rule\t0\t2\r\ntrue\r\nfoo\t1\r\n".to_vec(),
-        b"rule\t0\t2\r\ntrue\r\nfoo\t1\r\r\n".to_vec(),
-        b"rule\t0\t1\r\ntrue\r".to_vec(),
-        b"rule\t0\t1\rtrue\r-\rrecording\t1\t1\r".to_vec(),
-    ];
-    for length in PROGRAM_INPUT - 1..=PROGRAM_INPUT + 2 {
-        for byte in [10, 13, 97] {
-            let mut long = returned.clone();
-            long.resize(length, byte);
-            inputs.push(long);
-        }
-    }
-    inputs
-}
-
-/// All lists of up to four of the bytes `-`, 13 and 10, after the rule text of
-/// the example and between its two texts.
-fn partings() -> Vec<Vec<u8>> {
-    let (rule, recording) = (rule_text(&example_rule()), recording_text(&recording_r()));
-    let mut lists = vec![Vec::new()];
-    let mut longest = lists.clone();
-    for _ in 0..4 {
-        let longer = |list: &Vec<u8>| b"-\r\n".map(|byte| [&list[..], &[byte]].concat());
-        longest = longest.iter().flat_map(longer).collect();
-        lists.extend(longest.clone());
-    }
-    let around = |list: &Vec<u8>| {
-        let after = [&rule[..], list].concat();
-        [[&after[..], &recording].concat(), after]
-    };
-    lists.iter().flat_map(around).collect()
-}
-
-/// The example with marks in its last state, which prints what it printed, and
-/// its beginnings.
-fn mid_step(check: &mut Check) -> Result<(), Difference> {
-    let beginning = |length: usize| {
-        let whole = recording_r();
-        RecordingTable { length, states: whole.states[..length].to_vec(), ..whole }
-    };
-    let trials = [(marked_r(), 3)].into_iter();
-    let trials = trials.chain((1..).zip([1, 2, 2, 3]).map(|(k, places)| (beginning(k), places)));
-    for (recording, places) in trials {
-        let input = program_input(&rule_text(&example_rule()), &recording_text(&recording));
-        let output = format!("local {places}\nown yes no\nplain 55 yes no\nshort 43 yes no\n");
-        let output = output.replace(' ', "\t").into_bytes();
-        let expected = Expected { output, errors: Vec::new() };
-        require(check, JUDGE, &input, &expected, &[])?;
-    }
-    Ok(())
-}
-
-/// Inputs at the edges: without parting line, with an unclosed one, at the
-/// limit of its size and far beyond.
-fn edges() -> Vec<Vec<u8>> {
-    let (rule, recording) = (rule_text(&example_rule()), recording_text(&recording_r()));
-    let accepted = program_input(&rule, &recording);
-    let mut inputs = vec![
-        Vec::new(),
-        b"-".to_vec(),
-        b"-\n".to_vec(),
-        b"\n-\n".to_vec(),
-        b"-\n-\n".to_vec(),
-        rule.clone(),
-        [&rule[..], &recording[..]].concat(),
-        [&rule[..], b"-"].concat(),
-        [&rule[..], b"-", &recording[..]].concat(),
-        [&rule[..], b"-\n"].concat(),
-        [&accepted[..], b"-\n"].concat(),
-        program_input(&recording, &rule),
-        accepted[..accepted.len() - 1].to_vec(),
-    ];
-    for length in [PROGRAM_INPUT - 1, PROGRAM_INPUT, PROGRAM_INPUT + 1, 20_000, 70_000, 300_000] {
-        for byte in [0, 9, 10, 45, 97, 255] {
-            let mut long = accepted.clone();
-            long.resize(length, byte);
-            inputs.extend([vec![byte; length], long]);
-        }
-    }
-    inputs
-}
-
-/// An accepted input up to all limits.
-fn accepted_input(random: &mut Random) -> Vec<u8> {
-    let recording = traces::recording(random, CONTROLLERS, STATES);
-    let controller = random.below(recording.controllers);
-    let rule = formulas::rule_for(random, controller, RULE_NODES);
-    any_endings(random, program_input(&rule_text(&rule), &recording_text(&recording)))
-}
-
-/// An accepted input with a few damages of any kinds.
-fn damaged_input(random: &mut Random) -> Vec<u8> {
-    let recording = traces::recording(random, CONTROLLERS, 6);
-    let controller = random.below(recording.controllers);
-    let rule = formulas::rule_for(random, controller, 6);
-    let input = program_input(&rule_text(&rule), &recording_text(&recording));
-    let input = any_endings(random, input);
-    texts::damaged(random, &input)
-}
-
-/// Random inputs: of any kind, accepted, damaged; some in pieces.
-fn random_runs(check: &mut Check, plan: &Plan, number: usize) -> Result<(), Difference> {
-    let mut random = plan.random(Section::Program, number);
-    for _ in 0..RUNS.min(plan.program_runs) {
-        let input = match random.below(6) {
-            0 | 1 => accepted_input(&mut random),
-            2 => damaged_input(&mut random),
-            _ => texts::any_program_input(&mut random),
-        };
-        let pieces: Vec<usize> = match random.below(4) {
-            0 => (0..random.between(1, 4)).map(|_| random.below(input.len() + 1)).collect(),
-            _ => Vec::new(),
-        };
-        compare(check, JUDGE, &input, &pieces)?;
-    }
-    Ok(())
-}
-
-/// The line of the request for rules in one line, against the nodes that it
-/// names, with either ending.
-fn typed_example(check: &mut Check) -> Result<(), Difference> {
-    let text = "rule 0 9\ntrue\natom 1\nnot 1\natom 0\nnext 3\nor 2 4\nnot 5\nuntil 0 6\nnot 7\n";
-    let text = text.replace(' ', "\t").into_bytes();
-    let mut expected = Expected { output: text, errors: Vec::new() };
-    if check.wrong(Operation::RuleProgram, Place::Named) {
-        expected.output[5] ^= 1;
-    }
-    require(check, RULE, b"0\tG (a1 -> X a0)\n", &expected, &[])?;
-    require(check, RULE, b"0\tG (a1 -> X a0)\r\n", &expected, &[])
-}
-
-/// Inputs that are or aren't one line of a controller and a rule; inputs of
-/// any length.
-fn typed_edges() -> Vec<Vec<u8>> {
-    let returned = ["0\ta0\r\n", "0\ta0\r\r\n", "0\ta0\r", "0\r\ta0\r\n", "0\r\n", "\r\n"];
-    let odd = ["", "\n", "0", "0\n", "0\ta0", "a0\n", "0 a0\n", "00\ta0\n", "\ta0\n", "0\ta0\n\n"];
-    let more =
-        ["0\ta0\na", "0\t\n", "8\ta0\n", "65536\ta0\n", "99999999999999999999\ta0\n", "8\t(\n"];
-    let mut inputs: Vec<Vec<u8>> =
-        returned.iter().chain(&odd).chain(&more).map(|input| input.as_bytes().to_vec()).collect();
-    for length in [PROGRAM_INPUT + 1, PROGRAM_INPUT, PROGRAM_INPUT - 1, 70_000] {
-        for byte in [b'(', b'\n', b'9'] {
-            inputs.push([&vec![byte; length - 2][..], b"\r\n"].concat());
-            inputs.push(vec![byte; length]);
-        }
-    }
-    inputs.extend(lines::edges().iter().map(|line| typed(7, line)));
-    inputs
-}
-
-/// The input of the program `rule`.
-fn typed(controller: usize, line: &[u8]) -> Vec<u8> {
-    [format!("{controller}\t").as_bytes(), line, b"\n"].concat()
-}
-
-/// Random runs of the program `rule`; some in pieces.
-fn random_typed(check: &mut Check, plan: &Plan, number: usize) -> Result<(), Difference> {
-    let mut random = plan.random(Section::Program, number + (1 << 20));
-    for _ in 0..RUNS.min(plan.program_runs) {
-        let line = lines::any_line(&mut random);
-        let input = typed(random.below(CONTROLLERS + 1), &line);
-        let mut input = any_endings(&mut random, input);
-        if random.once_in(8) {
-            input = lines::damaged(&mut random, &input);
-        }
-        let pieces = if random.once_in(4) { vec![random.below(input.len() + 1)] } else { vec![] };
-        compare(check, RULE, &input, &pieces)?;
-    }
-    Ok(())
-}
-
-/// All runs of the programs.
-pub fn jobs(plan: &Plan) -> Vec<Job<'_>> {
-    let mut jobs: Vec<Job> = vec![Box::new(mid_step), Box::new(typed_example)];
-    let [endings, typed] = [ending_edges(), typed_edges()];
-    let lists = [(JUDGE, endings), (RULE, typed), (JUDGE, partings()), (JUDGE, edges())];
-    for (program, inputs) in &lists {
-        for inputs in inputs.chunks(RUNS) {
-            let (program, inputs) = (*program, inputs.to_vec());
-            jobs.push(Box::new(move |check| {
-                inputs.iter().try_for_each(|input| compare(check, program, input, &[]))
-            }));
-        }
-    }
-    jobs.push(Box::new(example));
-    for number in 0..plan.program_runs.div_ceil(RUNS) {
-        jobs.push(Box::new(move |check| random_runs(check, plan, number)));
-        jobs.push(Box::new(move |check| random_typed(check, plan, number)));
+/// Runs of a program on some inputs, so many in each job.
+fn listed<'a>(program: Program, inputs: Vec<Vec<u8>>) -> Vec<Job<'a>> {
+    let mut jobs: Vec<Job> = Vec::new();
+    for inputs in inputs.chunks(RUNS) {
+        let inputs = inputs.to_vec();
+        jobs.push(Box::new(move |check| {
+            inputs.iter().try_for_each(|input| compare(check, program, input, &[]))
+        }));
     }
     jobs
+}
+
+/// Random runs of a program, so many in each job; some in pieces.
+fn random<'a>(
+    plan: &'a Plan,
+    program: Program,
+    runs: usize,
+    input: fn(&mut Random) -> Vec<u8>,
+) -> Vec<Job<'a>> {
+    let first = (program.operation as usize) << 20;
+    let job = move |number| -> Job<'a> {
+        Box::new(move |check| {
+            let mut random = plan.random(Section::Program, first + number);
+            for _ in 0..RUNS.min(runs) {
+                let input = input(&mut random);
+                let pieces = some_pieces(&mut random, &input);
+                compare(check, program, &input, &pieces)?;
+            }
+            Ok(())
+        })
+    };
+    (0..runs.div_ceil(RUNS)).map(job).collect()
+}
+
+/// All runs of the programs, or of the one that is expected to answer wrongly.
+pub fn jobs<'a>(plan: &'a Plan, wrong: &WrongAnswer) -> Vec<Job<'a>> {
+    let concerned = |(program, _): &(Program, Runs)| wrong.concerns(program.operation);
+    PROGRAMS.into_iter().filter(concerned).flat_map(|(_, runs)| runs(plan)).collect()
 }

@@ -12,6 +12,7 @@ use reference::model::limits::{CONTROLLERS, RULE_NODES, STATES, TABLE_NODES};
 
 use crate::check::Check;
 use crate::difference::Difference;
+use crate::growth;
 use crate::input::Input;
 use crate::plan::Plan;
 use crate::tally::{Operation, Section};
@@ -77,6 +78,10 @@ fn input(random: &mut Random, operation: Operation) -> Input {
             Input::JudgeLocal { rule, recording }
         }
         Operation::JudgeRecording => whole_input(random),
+        Operation::Evidence => {
+            let (rule, recording) = rule_and_recording(random);
+            Input::evidence(rule, recording, random.once_in(2))
+        }
         _ => {
             let short = operation == Operation::RewriteShort;
             Input::rewrite(short, formulas::any_rule(random, RULE_NODES), mask(random))
@@ -166,7 +171,10 @@ fn beginnings(check: &mut Check, random: &mut Random) -> Result<(), Difference> 
 fn batch(check: &mut Check, plan: &Plan, number: usize) -> Result<(), Difference> {
     let mut random = plan.random(Section::Random, number);
     for operation in Operation::ALL {
-        let inputs = if operation == Operation::JudgeRecording { 12 } else { 50 };
+        let inputs = match operation {
+            Operation::JudgeRecording | Operation::Evidence => 12,
+            _ => 50,
+        };
         for _ in 0..inputs {
             let input = input(&mut random, operation).lent_anew(&mut random);
             check.compare(&input)?;
@@ -175,6 +183,8 @@ fn batch(check: &mut Check, plan: &Plan, number: usize) -> Result<(), Difference
     for _ in 0..4 {
         schedules(check, &mut random)?;
         beginnings(check, &mut random)?;
+        let rule = formulas::rule(&mut random, RULE_NODES);
+        growth::rewritings(check, &rule, mask(&mut random))?;
     }
     Ok(())
 }

@@ -1,6 +1,7 @@
 //! The sections of a run.
 
 use crate::difference::Difference;
+use crate::evidence::Evidence;
 use crate::plan::Plan;
 use crate::small::Small;
 use crate::tally::{Section, Tally};
@@ -16,7 +17,8 @@ pub fn run(section: Section, plan: &Plan, wrong: &WrongAnswer) -> Result<Tally, 
         Section::Lines => work::run(section, wrong, &lines::jobs(plan)),
         Section::Lent => work::run(section, wrong, &lent::jobs(plan)),
         Section::Random => work::run(section, wrong, &sampled::jobs(plan)),
-        Section::Program => work::run(section, wrong, &program::jobs(plan)),
+        Section::Program => work::run(section, wrong, &program::jobs(plan, wrong)),
         Section::Small => work::run(section, wrong, &Small::new(plan).jobs()),
+        Section::Evidence => work::run(section, wrong, &Evidence::new(plan).jobs()),
     }
 }

@@ -22,11 +22,13 @@ pub enum Section {
     Program,
     /// All small rules on all small recordings.
     Small,
+    /// The readings behind a verdict, and what they promise.
+    Evidence,
 }
 
 impl Section {
     /// Every section, in order.
-    pub const ALL: [Section; 8] = [
+    pub const ALL: [Section; 9] = [
         Section::Trials,
         Section::Texts,
         Section::Endings,
@@ -35,6 +37,7 @@ impl Section {
         Section::Random,
         Section::Program,
         Section::Small,
+        Section::Evidence,
     ];
 
     /// The name that is printed and that `--only` takes.
@@ -48,11 +51,12 @@ impl Section {
             Section::Random => "random",
             Section::Program => "program",
             Section::Small => "small",
+            Section::Evidence => "evidence",
         }
     }
 }
 
-/// What is compared: the operations, three laws and the programs.
+/// What is compared: the operations, six laws and the programs.
 #[derive(Clone, Copy, PartialEq, Eq, PartialOrd, Ord, Debug)]
 pub enum Operation {
     /// Reading a rule text.
@@ -75,6 +79,8 @@ pub enum Operation {
     RewriteShort,
     /// A table over the whole recording.
     JudgeRecording,
+    /// The readings behind a verdict.
+    Evidence,
     /// An accepted text, read and written, is the same text with byte 10 at
     /// each line.
     RoundTrip,
@@ -84,15 +90,23 @@ pub enum Operation {
     Schedules,
     /// A beginning of an accepted recording is accepted.
     Beginnings,
+    /// Local traces that agree in the readings behind a verdict have it.
+    Promise,
+    /// No rule's rewritings exceed those of the rule that grows most.
+    Growth,
     /// The program.
     Program,
     /// The program `rule`.
     RuleProgram,
+    /// The program `why`.
+    WhyProgram,
+    /// The program `longest`.
+    LongestProgram,
 }
 
 impl Operation {
     /// The operations.
-    pub const ALL: [Operation; 10] = [
+    pub const ALL: [Operation; 11] = [
         Operation::ReadRule,
         Operation::ReadLine,
         Operation::WriteRule,
@@ -103,6 +117,7 @@ impl Operation {
         Operation::RewritePlain,
         Operation::RewriteShort,
         Operation::JudgeRecording,
+        Operation::Evidence,
     ];
 
     /// The name that is printed.
@@ -118,12 +133,17 @@ impl Operation {
             Operation::RewritePlain => "rewrite_plain",
             Operation::RewriteShort => "rewrite_short",
             Operation::JudgeRecording => "judge_recording",
+            Operation::Evidence => "evidence",
             Operation::RoundTrip => "round_trip",
             Operation::Endings => "endings",
             Operation::Schedules => "schedules",
             Operation::Beginnings => "beginnings",
+            Operation::Promise => "promise",
+            Operation::Growth => "growth",
             Operation::Program => "judge",
             Operation::RuleProgram => "rule",
+            Operation::WhyProgram => "why",
+            Operation::LongestProgram => "longest",
         }
     }
 }
@@ -148,8 +168,7 @@ pub struct Tally {
     numbers: BTreeMap<Operation, [u64; NUMBERS]>,
 }
 
-/// The numbers that each operation can answer; 9 is no longer given, and 12 is
-/// never met, since an accepted rule's table has at most 723 nodes.
+/// The numbers that each operation can answer; 9 and 12 are no longer given.
 const ANSWERABLE: &[(Operation, &[usize])] = &[
     (Operation::ReadRule, &[0, 1, 2, 3, 4, 13]),
     (Operation::ReadLine, &[0, 2, 13, 15, 16]),
@@ -161,8 +180,11 @@ const ANSWERABLE: &[(Operation, &[usize])] = &[
     (Operation::RewritePlain, &[0, 2, 3, 4, 13]),
     (Operation::RewriteShort, &[0, 2, 3, 4, 13]),
     (Operation::JudgeRecording, &[0, 2, 3, 4, 6, 7, 8, 10, 11, 13]),
+    (Operation::Evidence, &[0, 2, 3, 4, 6, 7, 8, 10, 11, 13]),
     (Operation::Program, &[0, 1, 2, 3, 4, 5, 6, 7, 8, 10, 11, 14]),
     (Operation::RuleProgram, &[0, 1, 2, 14, 15, 16]),
+    (Operation::WhyProgram, &[0, 1, 2, 3, 4, 5, 6, 7, 8, 10, 11, 14]),
+    (Operation::LongestProgram, &[0, 1, 2, 14]),
 ];
 
 impl Tally {

@@ -15,10 +15,10 @@ use crate::work::Job;
 use crate::wrong::Place;
 
 /// The kind and operands of a node.
-type Listed = (u32, usize, usize);
+pub type Listed = (u32, usize, usize);
 
 /// A rule of controller 0 from kinds and operands.
-fn rule(nodes: &[Listed]) -> RuleTable {
+pub fn rule(nodes: &[Listed]) -> RuleTable {
     let word = |&(kind, first, second): &Listed| Node { kind, first, second }.word();
     RuleTable { controller: 0, count: nodes.len(), nodes: nodes.iter().map(word).collect() }
 }
@@ -35,6 +35,14 @@ pub fn recording_r() -> RecordingTable {
     let states = [(1, 2), (2, 3), (1, 1), (2, 0), (0, 2)];
     let states = states.iter().map(|(runs, word)| (runs << 32) + word).collect();
     RecordingTable { controllers: 2, length: 5, masks: vec![1, 2], states }
+}
+
+/// A recording of one controller that runs in every state but the last, so that
+/// its places are these words.
+pub fn steps(own: u32, words: &[u64]) -> RecordingTable {
+    let (last, before) = words.split_last().expect("a state");
+    let states = before.iter().map(|word| (1 << 32) + word).chain([*last]).collect();
+    RecordingTable { controllers: 1, length: words.len(), masks: vec![own], states }
 }
 
 /// A recording of these words in which controller 0, the owner of atom 0,
@@ -368,6 +376,68 @@ fn mid_step(check: &mut Check) -> Result<(), Difference> {
     Ok(())
 }
 
+/// An input with as many pairs as we know of: at each of 128 places each of 31
+/// own atoms, since strong it is never so that one of them holds.
+pub fn widest() -> Input {
+    let atoms = (0..31).map(|atom| (ATOM, atom, 0));
+    let ors = (31..61).map(|node| (OR, node - 31 + usize::from(node > 31) * 30, node - 30));
+    let nodes: Vec<Listed> = atoms.chain(ors).chain([(TRUE, 0, 0), (UNTIL, 61, 60)]).collect();
+    Input::evidence(rule(&nodes), steps(u32::MAX, &[0; 128]), false)
+}
+
+/// The pairs of a rule on a recording, by place and node.
+fn evidence(
+    check: &mut Check,
+    (rule, recording): (&RuleTable, &RecordingTable),
+    weak: bool,
+    pairs: &[(usize, usize)],
+) -> Result<(), Difference> {
+    let input = Input::evidence(rule.clone(), recording.clone(), weak);
+    named(check, input.clone(), 0, &[pairs.len()])?;
+    let found = check.compare(&input)?;
+    let numbers = pairs.iter().map(|(place, node)| (place * 64 + node) as u64);
+    if !found.slice(0)[..pairs.len()].iter().copied().eq(numbers) {
+        let place = format!("the trial: named pairs {pairs:?}");
+        return Err(Difference::new(place, input.to_string()));
+    }
+    Ok(())
+}
+
+/// Document 02, the readings behind a verdict: each step of the walk where one
+/// of its readings would be another, and the example.
+fn walked(check: &mut Check) -> Result<(), Difference> {
+    let [p, q] = [(ATOM, 0, 0), (ATOM, 1, 0)];
+    let example = example_rule();
+    evidence(check, (&example, &recording_r()), true, &[(1, 0), (1, 2)])?;
+    evidence(check, (&example, &recording_r()), false, &[])?;
+    let until = rule(&[p, q, (UNTIL, 0, 1)]);
+    let never = rule(&[p, q, (UNTIL, 0, 1), (NOT, 2, 0)]);
+    let kept = steps(3, &[1, 1]);
+    evidence(check, (&until, &kept), true, &[(0, 0), (1, 0)])?;
+    evidence(check, (&until, &kept), false, &[(0, 1), (1, 1)])?;
+    evidence(check, (&never, &kept), true, &[(0, 1), (1, 1)])?;
+    evidence(check, (&never, &kept), false, &[(0, 0), (1, 0)])?;
+    let since = rule(&[p, q, (SINCE, 0, 1), (NEXT, 2, 0), (NEXT, 3, 0)]);
+    let same = rule(&[p, p, (OR, 0, 1)]);
+    for weak in [true, false] {
+        let both: [(&RuleTable, &[u64], &[(usize, usize)]); 7] = [
+            (&until, &[1, 3, 3, 2], &[(0, 0), (1, 1)]),
+            (&until, &[1, 1, 0, 2], &[(0, 1), (1, 1), (2, 0), (2, 1)]),
+            (&since, &[2, 3, 1, 0], &[(1, 1), (2, 0)]),
+            (&since, &[2, 0, 1, 3], &[(1, 0), (1, 1), (2, 1)]),
+            (&since, &[1, 1, 1, 3], &[(0, 1), (1, 1), (2, 1)]),
+            (&same, &[1], &[(0, 0)]),
+            (&same, &[0], &[(0, 0), (0, 1)]),
+        ];
+        for (rule, words, pairs) in both {
+            evidence(check, (rule, &steps(3, words)), weak, pairs)?;
+        }
+        evidence(check, (&rule(&[q]), &steps(1, &[2])), weak, &[])?;
+        evidence(check, (&rule(&[p, (NEXT, 0, 0)]), &steps(3, &[1])), weak, &[])?;
+    }
+    named(check, widest(), 0, &[31 * 128])
+}
+
 /// All trials.
 pub fn jobs<'a>() -> Vec<Job<'a>> {
     vec![
@@ -383,5 +453,6 @@ pub fn jobs<'a>() -> Vec<Job<'a>> {
         Box::new(one_line),
         Box::new(traps),
         Box::new(mid_step),
+        Box::new(walked),
     ]
 }

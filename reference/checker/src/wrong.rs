@@ -4,6 +4,8 @@
 use std::sync::atomic::{AtomicBool, Ordering};
 
 use crate::misread::Misreading;
+use crate::misstep::Misstep;
+use crate::program::misprint::Misprint;
 use crate::tally::{Operation, Section};
 
 /// The places of an expected answer that can be altered.
@@ -31,6 +33,10 @@ pub enum Place {
     Named,
     /// All of it, by a wrong reader of line endings.
     Misread(Misreading),
+    /// The pairs, by a wrong walk.
+    Misstep(Misstep),
+    /// What the program `why` or `longest` writes, by a wrong printer.
+    Misprint(Misprint),
     /// A mark in the last state taken for a run.
     LastRun,
     /// The marks of the last state, as they are handed back.
@@ -54,6 +60,8 @@ impl Place {
             Place::Length => "length",
             Place::Named => "named",
             Place::Misread(misreading) => misreading.name(),
+            Place::Misstep(misstep) => misstep.name(),
+            Place::Misprint(misprint) => misprint.name(),
             Place::LastRun => "last_run",
             Place::Cleared => "cleared",
             Place::Nine => "nine",
@@ -95,9 +103,30 @@ impl Wrong {
             let places = misreadings.iter().map(place);
             all.extend(places.map(|place| Wrong { section, operation, place }));
         }
+        let (section, operation) = (Section::Evidence, Operation::Evidence);
+        let misstep = |(misstep, _)| Wrong { section, operation, place: Place::Misstep(misstep) };
+        all.extend(Misstep::ALL.map(misstep));
         all
     }
 }
+
+/// The wrong printers of the program `why`.
+const WHY_PRINTERS: &[Place] = &[
+    Place::Misprint(Misprint::StepForState),
+    Place::Misprint(Misprint::NodeForAtom),
+    Place::Misprint(Misprint::BitTurned),
+    Place::Misprint(Misprint::OtherReading),
+    Place::Misprint(Misprint::FirstCounted),
+];
+
+/// The wrong printers of the program `longest`.
+const LONGEST_PRINTERS: &[Place] = &[
+    Place::Misprint(Misprint::OneMore),
+    Place::Misprint(Misprint::LeadingZeros),
+    Place::Misprint(Misprint::Unclosed),
+    Place::Misprint(Misprint::LineField),
+    Place::Misprint(Misprint::Wrapped),
+];
 
 /// The wrong answers by section and operation.
 fn lists() -> Vec<(Section, Operation, &'static [Place])> {
@@ -116,10 +145,12 @@ fn lists() -> Vec<(Section, Operation, &'static [Place])> {
         (Section::Random, Operation::ReadJoint, &[Line][..]),
         (Section::Random, Operation::Schedules, &[Value]),
         (Section::Random, Operation::Beginnings, &[Number]),
+        (Section::Random, Operation::Growth, &[Value, Length]),
         (Section::Random, Operation::ReadRecording, &[Nine, Cleared]),
         (Section::Random, Operation::Project, &[Nine, LastRun]),
         (Section::Random, Operation::JudgeLocal, &[Nine]),
         (Section::Random, Operation::JudgeRecording, &[Nine, LastRun]),
+        (Section::Random, Operation::Evidence, &[Nine]),
         (Section::Texts, Operation::ReadRule, &[Number, Value, Content]),
         (Section::Texts, Operation::ReadRecording, &[Number, Value, Content]),
         (Section::Texts, Operation::ReadJoint, &[Number, Value, Line]),
@@ -133,12 +164,19 @@ fn lists() -> Vec<(Section, Operation, &'static [Place])> {
         (Section::Lines, Operation::RoundTrip, &[Content]),
         (Section::Program, Operation::Program, &[Named, Content, Length, Line]),
         (Section::Program, Operation::RuleProgram, &[Named, Content, Length]),
+        (Section::Program, Operation::WhyProgram, &[Named, Content, Length, Line]),
+        (Section::Program, Operation::WhyProgram, WHY_PRINTERS),
+        (Section::Program, Operation::LongestProgram, &[Named, Content, Length]),
+        (Section::Program, Operation::LongestProgram, LONGEST_PRINTERS),
         (Section::Small, Operation::Project, &[Number, Value, Content]),
         (Section::Small, Operation::RewritePlain, &[Value, Content]),
         (Section::Small, Operation::RewriteShort, &[Value, Content]),
         (Section::Small, Operation::JudgeLocal, &[Value]),
         (Section::Small, Operation::JudgeRecording, &[Value, Content, Unused, Beyond]),
         (Section::Small, Operation::Schedules, &[Value]),
+        (Section::Small, Operation::Growth, &[Value, Length, Named]),
+        (Section::Evidence, Operation::Evidence, &[Value, Content, Unused, Beyond]),
+        (Section::Evidence, Operation::Promise, &[Value, Content]),
     ]);
     lists
 }
@@ -150,13 +188,16 @@ fn misreaders() -> Vec<(Section, Operation, Vec<Misreading>)> {
     let reader = Misreading::READER.to_vec();
     let joint = [&reader[..], &[Kept, Trimmed]].concat();
     let program = [&joint[..], &[Split, SplitNewlineOnly, Counted]].concat();
-    let rule_program = vec![NewlineOnly, Stripped, Alone, Swallowed, Counted];
+    let why = [&reader[..], &[Split, SplitNewlineOnly, Counted]].concat();
+    let line_program = vec![NewlineOnly, Stripped, Alone, Swallowed, Counted];
     vec![
         (Section::Endings, Operation::ReadRule, reader.clone()),
         (Section::Endings, Operation::ReadRecording, reader),
         (Section::Endings, Operation::ReadJoint, joint),
         (Section::Program, Operation::Program, program),
-        (Section::Program, Operation::RuleProgram, rule_program),
+        (Section::Program, Operation::RuleProgram, line_program.clone()),
+        (Section::Program, Operation::LongestProgram, line_program),
+        (Section::Program, Operation::WhyProgram, why),
     ]
 }
 
@@ -178,16 +219,16 @@ impl WrongAnswer {
         self.wrong.is_some() && !self.spent.load(Ordering::Relaxed)
     }
 
-    /// The wrong reader of line endings that is still to come, if it is one of
-    /// this section and operation.
-    pub fn misreading(&self, section: Section, operation: Operation) -> Option<Misreading> {
+    /// Is the run of this operation, or of all?
+    pub fn concerns(&self, operation: Operation) -> bool {
+        self.wrong.is_none_or(|wrong| wrong.operation == operation)
+    }
+
+    /// The place of the wrong answer that is still to come, if it is one of this
+    /// section and operation.
+    pub fn place(&self, section: Section, operation: Operation) -> Option<Place> {
         let wrong = self.wrong.filter(|_| self.pending())?;
-        match wrong.place {
-            Place::Misread(misreading) if wrong == (Wrong { section, operation, ..wrong }) => {
-                Some(misreading)
-            }
-            _ => None,
-        }
+        (wrong == Wrong { section, operation, ..wrong }).then_some(wrong.place)
     }
 
     /// Is this the place to alter? Yes at most once.

@@ -184,6 +184,13 @@ fn local_words(recording: &RecordingTable, controller: usize) -> (Vec<u32>, u32)
     (steps, last)
 }
 
+/// The words at the places of the local trace of a controller.
+pub fn places(recording: &RecordingTable, controller: usize) -> Vec<u32> {
+    let (mut places, last) = local_words(recording, controller);
+    places.push(last);
+    places
+}
+
 /// In which of `length` states the `steps` steps come; never in the last.
 fn schedule(random: &mut Random, steps: usize, length: usize) -> Vec<bool> {
     let mut picked = vec![false; length];
@@ -248,22 +255,23 @@ fn other_masks(random: &mut Random, controllers: usize, controller: usize, own: 
     masks
 }
 
-/// Another recording that has this controller, with the same local trace and
-/// the same mask of own atoms for it: other length, other controllers, other
-/// states between its steps, any marks in the last state.
-pub fn rescheduled(
+/// A recording that has this controller, with these words in the states in
+/// which it runs, this mask of own atoms for it and these own atoms after its
+/// last step; any length, other controllers and states between its steps, any
+/// marks in the last state.
+fn recorded(
     random: &mut Random,
-    recording: &RecordingTable,
     controller: usize,
+    own: u32,
+    steps: &[u32],
+    last: u32,
 ) -> RecordingTable {
-    let own = recording.masks[controller];
-    let (steps, last) = local_words(recording, controller);
     let length = random.size(steps.len() + 1, limits::STATES);
     let controllers = random.between(controller + 1, limits::CONTROLLERS);
     let masks = other_masks(random, controllers, controller, own);
     let habits: Vec<usize> = masks.iter().map(|_| random.below(4)).collect();
     let picked = schedule(random, steps.len(), length);
-    let atoms = scheduled_atoms(random, own, &picked, &steps, last);
+    let atoms = scheduled_atoms(random, own, &picked, steps, last);
     let mut states = Vec::new();
     for k in 0..length {
         let last = k + 1 == length;
@@ -274,4 +282,33 @@ pub fn rescheduled(
         states.push(State { atoms: atoms[k], scheduled }.word());
     }
     RecordingTable { controllers, length, masks, states }
+}
+
+/// Another recording that has this controller, with the same local trace and
+/// the same mask of own atoms for it.
+pub fn rescheduled(
+    random: &mut Random,
+    recording: &RecordingTable,
+    controller: usize,
+) -> RecordingTable {
+    let (steps, last) = local_words(recording, controller);
+    recorded(random, controller, recording.masks[controller], &steps, last)
+}
+
+/// Another recording that has this controller, with the same mask of own atoms
+/// for it and a local trace of the same length that agrees with this one in the
+/// kept bits of each place. The others are turned over: few, half or all.
+pub fn varied(
+    random: &mut Random,
+    recording: &RecordingTable,
+    controller: usize,
+    kept: &[u32],
+) -> RecordingTable {
+    let own = recording.masks[controller];
+    let (mut steps, mut last) = local_words(recording, controller);
+    for (word, kept) in steps.iter_mut().zip(kept) {
+        *word ^= some_bits(random) & !kept;
+    }
+    last ^= some_bits(random) & own & !kept[steps.len()];
+    recorded(random, controller, own, &steps, last)
 }

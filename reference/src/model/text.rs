@@ -25,7 +25,7 @@ pub struct RefusedLine {
 
 /// "The line reader must take either ending, line by line": the closed line
 /// that starts here, which "leaves out its ending", and where the next starts.
-fn closed_line(text: &[u8], start: usize) -> Option<(Range<usize>, usize)> {
+pub fn closed_line(text: &[u8], start: usize) -> Option<(Range<usize>, usize)> {
     let newline = (start..text.len()).find(|at| text[*at] == NEWLINE)?;
     let returned = start < newline && text[newline - 1] == RETURN;
     let end = if returned { newline - 1 } else { newline };

@@ -138,16 +138,25 @@ pub struct LocalTrace {
     pub positions: Vec<u32>,
 }
 
+/// The states that the places of the local trace are: "place i < m is state
+/// r(i)", "place m is state r(m-1)+1, or state 0 if m = 0".
+pub fn place_states(trace: &Trace, component: usize) -> Vec<usize> {
+    let mut states: Vec<usize> =
+        (0..trace.states.len()).filter(|k| trace.runs(component, *k)).collect();
+    let last = match states.last() {
+        None => 0,
+        Some(r) => r + 1,
+    };
+    states.push(last);
+    states
+}
+
 /// "The local trace": the states in which c runs, with their whole words, and
 /// a last place with own atoms only.
 pub fn project(trace: &Trace, component: usize) -> LocalTrace {
     let own = trace.masks[component];
-    let runs: Vec<usize> = (0..trace.states.len()).filter(|k| trace.runs(component, *k)).collect();
-    let last = match runs.last() {
-        None => 0,
-        Some(r) => r + 1,
-    };
-    let mut positions: Vec<u32> = runs.iter().map(|r| trace.states[*r].atoms).collect();
-    positions.push(trace.states[last].atoms & own);
+    let states = place_states(trace, component);
+    let mut positions: Vec<u32> = states.iter().map(|k| trace.states[*k].atoms).collect();
+    positions[states.len() - 1] &= own;
     LocalTrace { own, positions }
 }

@@ -9,9 +9,9 @@ use reference::model::{limits, refusal};
 
 /// A node's weak and strong row.
 #[derive(Clone, Copy)]
-struct Pair {
-    weak: u128,
-    strong: u128,
+pub struct Pair {
+    pub weak: u128,
+    pub strong: u128,
 }
 
 impl Pair {
@@ -63,7 +63,7 @@ impl Rows for [Pair; limits::RULE_NODES] {
 }
 
 /// The row of so many yes.
-fn ones(marks: usize) -> u128 {
+pub fn ones(marks: usize) -> u128 {
     u128::MAX >> (128 - marks)
 }
 
@@ -196,17 +196,28 @@ fn places_into(recording: Recording, c: usize, places: &mut [u32]) -> usize {
     placed + 1
 }
 
+/// The rows of an accepted rule on its local trace.
+pub struct Local {
+    pub own: u32,
+    pub length: usize,
+    pub rows: [Pair; limits::RULE_NODES],
+}
+
+pub fn local(rule: Rule, recording: Recording) -> Local {
+    let (c, own) = (rule.controller, recording.masks[rule.controller]);
+    let mut places = [0; limits::PLACES];
+    let length = places_into(recording, c, &mut places);
+    let mut rows = [Pair::both(0); limits::RULE_NODES];
+    Trace { words: &places[..length], own, c }.evaluate(&rule.nodes[..rule.count], &mut rows);
+    Local { own, length, rows }
+}
+
 pub fn judge_local(rule: Rule, recording: Recording) -> (u8, [usize; 2]) {
     let c = rule.controller;
     if let Err(number) = check::rule(rule).and_then(|()| check::component(recording, c)) {
         return (number, [0; 2]);
     }
-    let mut places = [0; limits::PLACES];
-    let length = places_into(recording, c, &mut places);
-    let trace = Trace { words: &places[..length], own: recording.masks[c], c };
-    let mut rows = [Pair::both(0); limits::RULE_NODES];
-    trace.evaluate(&rule.nodes[..rule.count], &mut rows);
-    let Pair { weak, strong } = rows[rule.count - 1];
+    let Pair { weak, strong } = local(rule, recording).rows[rule.count - 1];
     (0, [weak as usize & 1, strong as usize & 1])
 }
 

@@ -8,9 +8,9 @@ use reference::model::limits;
 use crate::check::Check;
 use crate::difference::Difference;
 use crate::expected;
-use crate::input::{Input, Lent, Space};
+use crate::input::Input;
 use crate::library;
-use crate::outcome::Outcome;
+use crate::reused::Reused;
 use crate::small::views::{Member, View, Views};
 use crate::small::SmallRule;
 use crate::tally::Operation;
@@ -24,22 +24,13 @@ pub type Known<'a> = &'a dyn Fn([usize; 2]) -> bool;
 pub struct Judge<'a, 'b> {
     check: &'a mut Check<'b>,
     views: &'a Views,
-    lent: Lent,
-    /// Rows before each call.
-    pattern: Space<u64>,
-    /// Rows that are lent.
-    rows: Space<u64>,
-    /// Rows as the model leaves them.
-    expected: Space<u64>,
+    rows: Reused<u64>,
 }
 
 impl<'a, 'b> Judge<'a, 'b> {
     /// A worker's judge.
     pub fn new(check: &'a mut Check<'b>, views: &'a Views) -> Judge<'a, 'b> {
-        let lent = Lent::ample(limits::ROW_WORDS);
-        let pattern = Space::new(lent);
-        let (rows, expected) = (pattern.clone(), pattern.clone());
-        Judge { check, views, lent, pattern, rows, expected }
+        Judge { check, views, rows: Reused::new(limits::ROW_WORDS) }
     }
 
     /// A rule on some recordings of a view: local verdicts, and both
@@ -145,27 +136,20 @@ impl<'a, 'b> Judge<'a, 'b> {
         Err(Difference::new(place, input.to_string()))
     }
 
-    /// The verdict that the model gives for a table; its rows are kept. It
-    /// fills the full size, and what lies around that is the pattern still.
+    /// The verdict that the model gives for a table; its rows are kept.
     fn expect_whole(
         &mut self,
         table: &JudgeTable,
         recording: &RecordingTable,
         controller: usize,
     ) -> [usize; 2] {
-        let lent = self.expected.lend();
+        let lent = self.rows.lend_model();
         let verdict = expected::judge_recording(table, recording, controller, lent);
         let mut values = expected::verdict_values(verdict.expect("both are accepted"));
         if self.check.wrong(Operation::JudgeRecording, Place::Value) {
             values[1] ^= 1;
         }
-        let last = limits::ROW_WORDS - 1;
-        let places = [(Place::Content, 0), (Place::Unused, last), (Place::Beyond, last + 1)];
-        for (place, at) in places {
-            if self.check.wrong(Operation::JudgeRecording, place) {
-                lent[at] ^= 1;
-            }
-        }
+        self.rows.alter(self.check, Operation::JudgeRecording);
         values
     }
 
@@ -177,25 +161,14 @@ impl<'a, 'b> Judge<'a, 'b> {
         controller: usize,
         expected: [usize; 2],
     ) -> Result<[usize; 2], Difference> {
-        self.rows.entries_mut().copy_from_slice(self.pattern.entries());
         let (nodes, trace) = (library::table(table), library::recording(recording));
-        let (number, values) =
-            ragyvosin::judge_recording(nodes, trace, controller, self.rows.lend());
-        let entries = self.rows.entries().len() as u64;
-        self.check.count(Operation::JudgeRecording, 1, entries);
-        if (number, values) == (0, expected) && self.rows == self.expected {
-            self.check.tally.met(Operation::JudgeRecording, number);
-            return Ok(values);
-        }
-        let outcome = |number, values: [usize; 2], rows: &Space<u64>| {
-            let lent = vec![rows.clone().words()];
-            Outcome { number, values: values.to_vec(), lent }
-        };
-        let (table, recording) = (table.clone(), recording.clone());
-        let input = Input::JudgeRecording { table, recording, controller, rows: self.lent };
-        let found = outcome(number, values, &self.rows);
-        outcome(0, expected, &self.expected).require(&input, &found)?;
-        unreachable!("the outcomes differ")
+        let found = ragyvosin::judge_recording(nodes, trace, controller, self.rows.lend());
+        self.check.count(Operation::JudgeRecording, 1, self.rows.entries());
+        self.rows.require(expected, found, || {
+            Input::judge_recording(table.clone(), recording.clone(), controller)
+        })?;
+        self.check.tally.met(Operation::JudgeRecording, found.0);
+        Ok(found.1)
     }
 
     /// Demand 3: the verdict is the one of every recording of the local trace.
