@@ -59,7 +59,7 @@
 extern "C" {
 #endif
 
-/* Refusal numbers; 9 is no longer given. */
+/* Refusal numbers; 9 and 12 are no longer given. */
 enum {
     RGV_ACCEPTED = 0,
     RGV_RULE_FORM = 1,         /* a rule line not closed by byte 10, or not of its form */
@@ -73,7 +73,6 @@ enum {
     RGV_RECORDING_LINES = 8,   /* a recording line, mask or state missing, or a line too many */
     RGV_OUTPUT_RULE = 10,      /* an own atom changed though its controller didn't run in the state before */
     RGV_NO_CONTROLLER = 11,    /* the controller is not below C */
-    RGV_TOO_MANY_NODES = 12,   /* a rewritten table over 1,024 nodes */
     RGV_LENT_SHORT = 13,       /* lent space shorter than its full size */
     RGV_INPUT_LONG = 14,       /* the program's alone, which takes 16,384 bytes: no function here answers it */
     RGV_LINE_FORM = 15,        /* a rule in one line over 1,024 bytes, or no sentence of the grammar */
@@ -201,8 +200,9 @@ uint8_t rgv_evidence(size_t controller, size_t count,
 
 /*
  * Rewrites a rule over the whole recording, for a mask of own atoms: plain or
- * short. Full size: table RGV_TABLE_NODES.
- * values: node count, weak top, strong top. Refusals: 13, 2, 3, 4, 12.
+ * short. Full size: table RGV_TABLE_NODES, which no table of an accepted rule
+ * fills: one of n nodes has at most 13 + 11 n, so 717 for 64.
+ * values: node count, weak top, strong top. Refusals: 13, 2, 3, 4.
  */
 uint8_t rgv_rewrite_plain(size_t controller, size_t count,
                           const uint32_t *nodes, size_t nodes_len,

@@ -6,3 +6,4 @@ pub mod MidStepTrials
 pub mod EndingTrials
 pub mod EvidenceTrials
 pub mod OneLineTrials
+pub mod LongestTrials

@@ -10,12 +10,13 @@ use Rattle.definitions.specs.Lines as lines
 use Rattle.definitions.specs.Lines.{bytes, onParsed, decimalOn, decimal, digitsBy, digits}
 use Rattle.definitions.specs.RuleText.{nodeText, nodesText, ruleText}
 use Rattle.definitions.specs.Operations.{answer, left}
+use Rattle.definitions.specs.LinePrograms.{inputRefusal, refusalText, refusalOr}
 use Rattle.definitions.specs.OneLineSigns as sign
 use Rattle.definitions.specs.OneLineSigns.{Sign, atom, before, between, opening, closing, Spells, last, next, spaced}
 use Rattle.definitions.specs.OneLineGrammar.{Tree, reading, one, two, Sentence, arrow, noArrow, or, noOr, and, noAnd, until, since, noUntil, prefix, noPrefix, isAtom, bracketed, larger, mostOpen}
 use Rattle.definitions.specs.OneLineNodes.{formulaOf, size, nodesFrom, largestAtom}
 use Rattle.definitions.specs.OneLineReading.{past, signAmong, digitsAhead, atomFirst, signFirst, afterSpace, signsBy, signsOf, closed, operandBy, whole, treeOf}
-use Rattle.definitions.specs.OneLine.{sentenceRefusal, lineRefusal, lineNodes, readLineNumber, readLineAnswer, readLineNodes, refusalText, lineOutput, typedOutput, ruleOutput}
+use Rattle.definitions.specs.OneLine.{sentenceRefusal, lineRefusal, lineNodes, readLineNumber, readLineAnswer, readLineNodes, lineOutput, typedOutput, ruleOutput}
 
 -- the word n times
 abbrev times : ℕ → List ℕ → List ℕ
@@ -200,7 +201,7 @@ pub record Answers : Type 0 where
   pub unclosedReturn : ruleOutput (bytes "2\tX a31\r") ≡ bytes "refused\t1\n"
 
 answers : Answers
-unfolding pick lines.before lines.newlineNext lines.isReturn lines.lineLength onParsed decimalOn decimal digitsBy digits larger mostOpen formulaOf size nodesFrom largestAtom past signAmong digitsAhead atomFirst signFirst afterSpace signsBy signsOf closed operandBy whole treeOf sentenceRefusal lineRefusal lineNodes readLineNumber readLineAnswer readLineNodes answer left kindOf nodeText nodesText ruleText refusalText lineOutput typedOutput ruleOutput
+unfolding pick lines.before lines.newlineNext lines.isReturn lines.lineLength onParsed decimalOn decimal digitsBy digits larger mostOpen formulaOf size nodesFrom largestAtom past signAmong digitsAhead atomFirst signFirst afterSpace signsBy signsOf closed operandBy whole treeOf sentenceRefusal lineRefusal lineNodes readLineNumber readLineAnswer readLineNodes answer left kindOf nodeText nodesText ruleText inputRefusal refusalText refusalOr lineOutput typedOutput ruleOutput
 answers = record {
   accepts = refl;
   acceptedNodes = refl;

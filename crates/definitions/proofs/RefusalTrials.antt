@@ -116,7 +116,7 @@ pub record LentShort : Type 0 where
   pub jointMasks : readJointNumber [] [] (replicate maxRuleNodes 7) (replicate 7 7) (replicate maxStates 7) ≡ 13
   pub jointStates : readJointNumber [] [] (replicate maxRuleNodes 7) (replicate maxControllers 7) (replicate 127 7) ≡ 13
   pub places : projectNumber (recorded [] []) 0 (replicate 127 7) ≡ 13
-  pub table : rewriteNumber false (rule []) 0 (replicate 1023 7) ≡ 13
+  pub table : rewriteNumber (rule []) (replicate 1023 7) ≡ 13
   pub rows : judgeRecordingNumber (record { count = 0; nodes = []; weakTop = 0; strongTop = 0 }) Z 0 (replicate 6143 7) ≡ 13
   -- "for 13 the empty start of the rule text"
   pub part : readJointPart [] [] [] [] [] ≡ emptyStart

@@ -12,6 +12,8 @@ pub mod RuleText
 pub mod RecordingText
 pub mod Operations
 pub mod Program
+pub mod LinePrograms
+pub mod Longest
 pub mod Why
 pub mod OneLineSigns
 pub mod OneLineGrammar

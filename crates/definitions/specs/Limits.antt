@@ -87,9 +87,7 @@ outputRule = 10
 abbrev pub noController : ℕ
 noController = 11
 
--- "12 over 1,024 nodes"
-abbrev pub tooManyNodes : ℕ
-tooManyNodes = 12
+-- "Number 12 therefore can't happen; take it and its check out" (document 02, the rule that grows most)
 
 -- "13 any of it, lent for output, shorter than its full size"
 abbrev pub lentShort : ℕ

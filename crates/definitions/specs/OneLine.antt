@@ -1,16 +1,16 @@
 -- "Rules in one line": what reading such a rule answers, and the program that makes a rule text of it.
 use Prim.Native.Nat.{ℕ}
-use mathlib.Core.Bool.{_&&_, _||_}
-use mathlib.Core.List.{List, [], _∷_, _++_, map}
+use mathlib.Core.Bool.{_||_}
+use mathlib.Core.List.{List, [], _∷_, map}
 use lib.ListN.{length}
-use lib.Dec.{eqb, ltb, leb}
-use Rattle.definitions.specs.Limits.{accepted, maxControllers, atomCount, maxRuleNodes, maxInputBytes, maxLineBytes, maxOpenBrackets, ruleForm, ruleLimits, lentShort, inputLong, lineForm, bracketsDeep}
+use lib.Dec.{ltb, leb}
+use Rattle.definitions.specs.Limits.{accepted, maxControllers, atomCount, maxRuleNodes, maxLineBytes, maxOpenBrackets, ruleForm, ruleLimits, lentShort, lineForm, bracketsDeep}
 use Rattle.definitions.specs.Bounded.{pick}
 use Rattle.definitions.specs.Nodes.{Node, nodeWord}
-use Rattle.definitions.specs.Lines.{tab, newline, isEmpty, has, upTo, after, isClosed, lineOf, restOf, onParsed, decimal, digits}
+use Rattle.definitions.specs.Lines.{tab, has, upTo, after, lineOf, onParsed, decimal}
 use Rattle.definitions.specs.RuleText.{ruleText}
 use Rattle.definitions.specs.Operations.{Answer, answer, tooShort, left}
-use Rattle.definitions.specs.Program.{refusedWord}
+use Rattle.definitions.specs.LinePrograms.{inputRefusal, refusalText, refusalOr}
 use Rattle.definitions.specs.OneLineSigns.{Sign}
 use Rattle.definitions.specs.OneLineGrammar.{Tree, openAtOnce}
 use Rattle.definitions.specs.OneLineNodes.{nodesOf, largestAtom}
@@ -44,16 +44,10 @@ readLineAnswer controller line nodes = answer (readLineNumber controller line no
 unfoldable pub readLineNodes : (controller : ℕ) (line nodes : List ℕ) → List ℕ
 readLineNodes controller line nodes = left (readLineNumber controller line nodes) maxRuleNodes (map nodeWord (lineNodes line)) nodes
 
--- what the program prints of a refusal
-unfoldable pub refusalText : (number : ℕ) → List ℕ
-refusalText number = refusedWord ++ (tab ∷ (digits number ++ (newline ∷ [])))
-
--- what it prints of a controller and a rule: the rule text, or the refusal
+-- what the program prints of a controller and a rule: the rule text, or the refusal
 unfoldable pub lineOutput : (controller : ℕ) (line : List ℕ) → List ℕ
 lineOutput controller line =
-    pick (eqb (lineRefusal controller line) accepted)
-    (ruleText controller (length (lineNodes line)) (map nodeWord (lineNodes line)))
-    (refusalText (lineRefusal controller line))
+    refusalOr (lineRefusal controller line) (ruleText controller (length (lineNodes line)) (map nodeWord (lineNodes line)))
 
 -- what it prints of the line of its input: the controller, a tab, the rule
 unfoldable pub typedOutput : (typed : List ℕ) → List ℕ
@@ -62,6 +56,4 @@ typedOutput typed =
 
 -- the program, from the bytes of standard input to the bytes printed: the input is one line and its end
 unfoldable pub ruleOutput : (input : List ℕ) → List ℕ
-ruleOutput input =
-    pick (ltb maxInputBytes (length input)) (refusalText inputLong)
-    (pick (isClosed input && isEmpty (restOf input)) (typedOutput (lineOf input)) (refusalText ruleForm))
+ruleOutput input = refusalOr (inputRefusal input) (typedOutput (lineOf input))

@@ -4,7 +4,7 @@ use mathlib.Core.Bool.{Bool, _||_}
 use mathlib.Core.List.{List, [], _∷_, _++_, map}
 use lib.ListN.{length, take, drop, getD, replicate}
 use lib.Dec.{eqb, ltb}
-use Rattle.definitions.specs.Limits.{accepted, lentShort, tooManyNodes, maxRuleNodes, maxControllers, maxStates, maxTableNodes, maxRowWords, maxRuleBytes, maxPairs}
+use Rattle.definitions.specs.Limits.{accepted, lentShort, maxRuleNodes, maxControllers, maxStates, maxTableNodes, maxRowWords, maxRuleBytes, maxPairs}
 use Rattle.definitions.specs.Bounded.{pick, orElse, bit}
 use Rattle.definitions.specs.Nodes.{nodeWord}
 use Rattle.definitions.specs.Tables.{Rule, Table, tableOf, ruleRefusal, tableRefusal, nodesIn}
@@ -161,25 +161,20 @@ evidencePairs r R weak pairs = left (evidenceNumber r R pairs) maxPairs (map pai
 abbrev pub rewrittenOf : (short : Bool) (r : Rule) (mask : ℕ) → Rewritten
 rewrittenOf short r mask = rewriting short mask (nodesIn (r .count) (r .nodes))
 
--- "12 over 1,024 nodes"
-unfoldable pub sizeRefusal : Rewritten → ℕ
-sizeRefusal w = pick (ltb maxTableNodes (length (w .nodes))) tooManyNodes accepted
-
--- its refusal: 13, then the rule, then 12
-unfoldable pub rewriteNumber : (short : Bool) (r : Rule) (mask : ℕ) (table : List ℕ) → ℕ
-rewriteNumber short r mask table =
-    pick (tooShort maxTableNodes table) lentShort (orElse (ruleRefusal r) (sizeRefusal (rewrittenOf short r mask)))
+-- its refusal: 13, then the rule
+unfoldable pub rewriteNumber : (r : Rule) (table : List ℕ) → ℕ
+rewriteNumber r table = pick (tooShort maxTableNodes table) lentShort (ruleRefusal r)
 
 -- its answer: "node count and both tops"
 unfoldable pub rewriteAnswer : (short : Bool) (r : Rule) (mask : ℕ) (table : List ℕ) → Answer
 rewriteAnswer short r mask table =
-    answer (rewriteNumber short r mask table)
+    answer (rewriteNumber r table)
     (length ((rewrittenOf short r mask) .nodes) ∷ (rewrittenOf short r mask) .weakTop ∷ (rewrittenOf short r mask) .strongTop ∷ [])
 
 -- its lent table
 unfoldable pub rewriteTable : (short : Bool) (r : Rule) (mask : ℕ) (table : List ℕ) → List ℕ
 rewriteTable short r mask table =
-    left (rewriteNumber short r mask table) maxTableNodes (map nodeWord ((rewrittenOf short r mask) .nodes)) table
+    left (rewriteNumber r table) maxTableNodes (map nodeWord ((rewrittenOf short r mask) .nodes)) table
 
 -- "the table, count and tops that a rewriting answered"
 abbrev pub answeredTable : (short : Bool) (r : Rule) (mask : ℕ) (table : List ℕ) → Table

@@ -4,8 +4,8 @@ use mathlib.Core.Bool.{Bool, true, false}
 use mathlib.Core.List.{List, [], _∷_, _++_}
 use lib.ListN.{length, take, drop}
 use lib.Dec.{eqb, ltb}
-use Rattle.definitions.specs.Limits.{accepted, maxInputBytes, inputLong, tooManyNodes}
-use Rattle.definitions.specs.Bounded.{pick, orElse}
+use Rattle.definitions.specs.Limits.{accepted, maxInputBytes, inputLong}
+use Rattle.definitions.specs.Bounded.{pick}
 use Rattle.definitions.specs.Nodes.{Node}
 use Rattle.definitions.specs.Tables.{nodesIn}
 use Rattle.definitions.specs.Recordings.{Recording, recordingOf, maskOf}
@@ -15,7 +15,6 @@ use Rattle.definitions.specs.Rewriting.{Rewritten, rewriting}
 use Rattle.definitions.specs.Lines.{bytes, tab, newline, isClosed, lineOf, restAt, restOf, same, digits}
 use Rattle.definitions.specs.RuleText.{scanRule}
 use Rattle.definitions.specs.RecordingText.{RecordingScan, scanRecording, Part, jointNumber, jointPart}
-use Rattle.definitions.specs.Operations.{sizeRefusal}
 
 -- "a line `-`"
 abbrev pub splitLine : List ℕ
@@ -82,14 +81,12 @@ ownText ns mask places = ownWord ++ (tab ∷ verdictsText (localVerdicts ns mask
 unfoldable pub rewrittenText : (word : List ℕ) (t : Trace) (w : Rewritten) → List ℕ
 rewrittenText word t w = word ++ (tab ∷ (digits (length (w .nodes)) ++ (tab ∷ verdictsText (verdicts t (w .nodes) (w .weakTop) (w .strongTop)))))
 
--- what is printed of an accepted rule and recording; "for 12 and 14 an empty line field"
+-- what is printed of an accepted rule and recording
 unfoldable pub judgedText : (c : ℕ) (ns : List Node) (R : Recording) → List ℕ
 judgedText c ns R =
-    pick (eqb (orElse (sizeRefusal (rewriting false (maskOf R c) ns)) (sizeRefusal (rewriting true (maskOf R c) ns))) accepted)
-    (localText (length (localTrace R c))
+    localText (length (localTrace R c))
     ++ (ownText ns (maskOf R c) (localTrace R c)
-    ++ (rewrittenText plainWord (whole R c) (rewriting false (maskOf R c) ns) ++ rewrittenText shortWord (whole R c) (rewriting true (maskOf R c) ns))))
-    (refusedText tooManyNodes [])
+    ++ (rewrittenText plainWord (whole R c) (rewriting false (maskOf R c) ns) ++ rewrittenText shortWord (whole R c) (rewriting true (maskOf R c) ns)))
 
 -- the recording that was read
 abbrev pub scanned : RecordingScan → Recording
@@ -102,6 +99,6 @@ textsOutput rule recording =
     (judgedText ((scanRule rule) .controller) (nodesIn ((scanRule rule) .count) ((scanRule rule) .words)) (scanned (scanRecording recording)))
     (refusedText (jointNumber rule recording) (bytesOf rule recording (jointPart rule recording)))
 
--- "program input": "14 over 16,384 bytes"
+-- "program input": "14 over 16,384 bytes"; for it "an empty line field"
 unfoldable pub programOutput : List ℕ → List ℕ
 programOutput input = pick (ltb maxInputBytes (length input)) (refusedText inputLong []) (textsOutput (ruleIn input) (recordingIn input))

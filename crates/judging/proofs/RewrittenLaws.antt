@@ -8,7 +8,7 @@ use lib.ListN.{length, drop, getD, replicate}
 use lib.Dec.{ltb}
 use borrow.Author.Needs.{needs}
 use borrow.Author.Tests.{ltb-false, ne-eqb}
-use Rattle.definitions.specs.Limits.{accepted, lentShort, noController, tooManyNodes, maxTableNodes, maxRowWords}
+use Rattle.definitions.specs.Limits.{accepted, lentShort, maxTableNodes, maxRowWords}
 use Rattle.definitions.specs.Bounded.{pick, orElse}
 use Rattle.definitions.specs.Nodes.{nodeWord}
 use Rattle.definitions.specs.Tables.{Rule, ruleRefusal, tableRefusal, nodesIn, ruleOf, tableOf}
@@ -127,9 +127,9 @@ module _ (short : Bool) (r : Rule) (R : Recording) (table rows : List ℕ) where
       number-low : number < lentShort
       unfolding judgeLocalNumber
       number-low =
-          let l = or-else-low (ruleRefusal r) (orElse (recordingRefusal R) (controllerRefusal (R .controllers) (r .controller))) tooManyNodes (rule-low r)
-          (or-else-low (recordingRefusal R) (controllerRefusal (R .controllers) (r .controller)) tooManyNodes (recording-low R) (controller-low (R .controllers) (r .controller))) in
-          rw e (omega arith)
+          let l = or-else-low (ruleRefusal r) (orElse (recordingRefusal R) (controllerRefusal (R .controllers) (r .controller))) lentShort (rule-low r)
+          (or-else-low (recordingRefusal R) (controllerRefusal (R .controllers) (r .controller)) lentShort (recording-low R) (controller-low (R .controllers) (r .controller))) in
+          rw e l
 
       pub refused : (table′ rows′ : List ℕ) → (number ≡ 0 → ⊥) → table′ ≡ cleared table 0 maxTableNodes → rows′ ≡ cleared rows 0 maxRowWords →
           Judgements short r R table rows (Refused number) table′ rows′

@@ -1,5 +1,5 @@
 -- Laws of the values that are printed.
-use mathlib.Core.Path.{_≡_, refl, ap, sym, _∙_}
+use mathlib.Core.Path.{_≡_, ap, sym, _∙_}
 use mathlib.Core.Bool.{Bool, true, false}
 use mathlib.Core.List.{List, [], _∷_, _++_}
 use Prim.Native.Nat.{ℕ, _+_, _<_, _≤_}
@@ -9,7 +9,6 @@ use mir.Syntax.{w32}
 use mir.Val.{Fits}
 use borrow.Author.Needs.{needs}
 use Rattle.definitions.specs.Limits.{maxStates, maxTableNodes, maxRowWords}
-use Rattle.definitions.specs.Bounded.{pick, orElse}
 use Rattle.definitions.specs.Nodes.{Node}
 use Rattle.definitions.specs.Tables.{Rule, nodesIn, ruleOf}
 use Rattle.definitions.specs.Recordings.{Recording, recordingOf, recordingRefusal, maskOf}
@@ -17,10 +16,8 @@ use Rattle.definitions.specs.Projection.{localTrace}
 use Rattle.definitions.specs.Readings as readings
 use Rattle.definitions.specs.Readings.{whole}
 use Rattle.definitions.specs.Lines.{tab, newline, digits}
-use Rattle.definitions.specs.Operations.{sizeRefusal}
 use Rattle.definitions.specs.Program.{yesNo, localWord, ownWord, plainWord, shortWord, localText, verdictsText, ownText, rewrittenText, judgedText}
-use Rattle.theorems.proofs.Choice.{none-or-else}
-use Rattle.theorems.proofs.RewrittenAccepted.{rewritten-size, rewritten-fits}
+use Rattle.theorems.proofs.RewrittenAccepted.{rewritten-size}
 use Rattle.theorems.proofs.ScheduleIndependence.{Accepted}
 use Rattle.projection.specs.Places.{runsIn, Projectable, Countable}
 use Rattle.projection.proofs.PlaceLaws.{projectable, countable, local-places, few-local}
@@ -105,18 +102,6 @@ module _ (r : Rule) (R : Recording) (A : Accepted r R) (v : Report) where
   few : (z : Bool) → length ((rewrittenFor z r R) .nodes) ≤ maxTableNodes
   few z = rewritten-size z r (maskOf R c) (A .rule)
 
-  sizes : orElse (sizeRefusal (rewrittenFor false r R)) (sizeRefusal (rewrittenFor true r R)) ≡ 0
-  sizes =
-      none-or-else (sizeRefusal (rewrittenFor false r R)) (sizeRefusal (rewrittenFor true r R)) (rewritten-fits false r (maskOf R c) (A .rule))
-      (rewritten-fits true r (maskOf R c) (A .rule))
-
-  lines : judgedText c ns R
-      ≡ localText (length (localTrace R c))
-      ++ (ownText ns (maskOf R c) (localTrace R c)
-      ++ (rewrittenText plainWord (whole R c) (rewrittenFor false r R) ++ rewrittenText shortWord (whole R c) (rewrittenFor true r R)))
-  unfolding judgedText pick
-  lines = rw sizes
-
   module _ (L : v .places ≡ length (localTrace R c)) (own : meant (v .own) ≡ ownVerdicts r R) (plain : RewrittenIs false r R (v .plain)) (short : RewrittenIs true r R (v .short)) where
     line-is : (z : Bool) (word : List ℕ) (w : Rewritten) → RewrittenIs z r R w → rewrittenLine word w ≡ rewrittenText word (whole R c) (rewrittenFor z r R)
     unfolding rewrittenLine countedLine verdictsEnd rewrittenText
@@ -129,8 +114,8 @@ module _ (r : Rule) (R : Recording) (A : Accepted r R) (v : Report) where
     own-is = ap (λ (w : readings.Verdicts). ownWord ++ (tab ∷ verdictsText w)) own
 
     text-is : reportText v ≡ judgedText c ns R
-    unfolding reportText
-    text-is = rw (lines, L, own-is, line-is false plainWord (v .plain) plain, line-is true shortWord (v .short) short)
+    unfolding reportText judgedText
+    text-is = rw (L, own-is, line-is false plainWord (v .plain) plain, line-is true shortWord (v .short) short)
 
     fits : length (reportText v) ≤ maxOutputBytes
     unfolding reportText

@@ -8,19 +8,18 @@ use borrow.Author.Needs.{needs}
 use borrow.Author.Tests.{lt-ltb, le-ltb, ne-eqb}
 use lib.ListN.{length, take, drop}
 use Rattle.definitions.specs.Limits.{maxTableNodes, lentShort, accepted}
-use Rattle.definitions.specs.Bounded.{pick, orElse}
+use Rattle.definitions.specs.Bounded.{pick}
 use Rattle.definitions.specs.Nodes as words
 use Rattle.definitions.specs.Nodes.{nodeWord}
 use Rattle.definitions.specs.Tables.{Rule, nodesIn, ruleRefusal, ruleOf}
 use Rattle.definitions.specs.Rewriting as table
 use Rattle.definitions.specs.Rewriting.{emit, closing, closed, lastImage, rewriting}
-use Rattle.definitions.specs.Operations.{answer, rewrittenOf, sizeRefusal, rewriteNumber, rewriteAnswer, rewriteTable}
+use Rattle.definitions.specs.Operations.{answer, rewriteNumber, rewriteAnswer, rewriteTable}
 use Rattle.theorems.proofs.Counts.{emit-count}
 use Rattle.theorems.proofs.NodeLaws.{accepted-rule}
 use Rattle.theorems.proofs.RuleNodes.{rule-some, rule-few}
 use Rattle.theorems.proofs.RefusalBounds.{rule-low}
 use Rattle.theorems.proofs.LentSpace.{left-short, left-accepted, left-refused}
-use Rattle.theorems.proofs.RewrittenAccepted.{rewritten-fits}
 use Rattle.lent.specs.Space.{cleared}
 use Rattle.rewriting.specs.declared.drafts.Draft.{Draft}
 use Rattle.rewriting.specs.declared.rewrite.Rewriting.{Rewriting}
@@ -89,11 +88,11 @@ module _ (short : Bool) (controller count : ℕ) (ws : List ℕ) (mask : ℕ) (o
   abbrev R : Rule
   R = ruleOf controller count ws
 
-  number-short : length o < maxTableNodes → rewriteNumber short R mask o ≡ lentShort
+  number-short : length o < maxTableNodes → rewriteNumber R o ≡ lentShort
   unfolding rewriteNumber pick
   number-short h = rw (lt-ltb (length o) maxTableNodes h)
 
-  number-long : maxTableNodes ≤ length o → rewriteNumber short R mask o ≡ orElse (ruleRefusal R) (sizeRefusal (rewrittenOf short R mask))
+  number-long : maxTableNodes ≤ length o → rewriteNumber R o ≡ ruleRefusal R
   unfolding rewriteNumber pick
   number-long h = rw (le-ltb (length o) maxTableNodes h)
 
@@ -103,10 +102,10 @@ module _ (short : Bool) (controller count : ℕ) (ws : List ℕ) (mask : ℕ) (o
 
   pub rewrote-refused : (k : ℕ) (o′ : List ℕ) → maxTableNodes ≤ length o → k ≡ ruleRefusal R → (k ≡ 0 → ⊥) → o′ ≡ cleared o 0 maxTableNodes →
       Rewrote short controller count ws mask o (Refused k) o′
-  unfolding rewriteAnswer rewriteTable answer pick cleared orElse
+  unfolding rewriteAnswer rewriteTable answer pick cleared
   rewrote-refused k o′ h e z c =
-      let n : rewriteNumber short R mask o ≡ k = number-long h ∙ rw (← e, ne-eqb k 0 z) in
-      let m : k < 12 = rw e (rule-low R) in
+      let n : rewriteNumber R o ≡ k = number-long h ∙ sym e in
+      let m : k < lentShort = rw e (rule-low R) in
       record {
         answered = rw (n, ne-eqb k 0 z);
         table = c ∙ rw n (sym (left-refused k maxTableNodes _ o z (omega arith)));
@@ -114,10 +113,9 @@ module _ (short : Bool) (controller count : ℕ) (ws : List ℕ) (mask : ℕ) (o
 
   pub rewrote-done : (k : ℕ) (t : Tops) (o′ : List ℕ) → maxTableNodes ≤ length o → k ≡ ruleRefusal R → k ≡ 0 →
       TableOf (rewriting short mask (nodesIn count ws)) o t o′ → Rewrote short controller count ws mask o (Rewritten (t .count) (t .weak) (t .strong)) o′
-  unfolding rewriteAnswer rewriteTable answer pick orElse
+  unfolding rewriteAnswer rewriteTable answer pick
   rewrote-done k t o′ h e z b =
-      let y : ruleRefusal R ≡ 0 = sym e ∙ z in
-      let n : rewriteNumber short R mask o ≡ accepted = number-long h ∙ rw (y, rewritten-fits short R mask y) in
+      let n : rewriteNumber R o ≡ accepted = number-long h ∙ (sym e ∙ z) in
       record {
         answered = rw (n, b .count, b .weak, b .strong);
         table = b .table ∙ rw n;

@@ -54,7 +54,7 @@ pub fn rewrite_accepted(
     tops
 }
 
-// 13, then the rule. An accepted rule's table has at most 723 nodes (theorems: Counts), so 12 is never met.
+// 13, then the rule. An accepted rule's table has at most 717 nodes (theorems: RewrittenAccepted), so the lent ones hold it.
 pub fn rewrite(
     short: bool,
     controller: usize,

@@ -1,6 +1,6 @@
--- Node counts of rewritten tables: sums of the bracketed numbers of document 01; short is never above plain; a bound for both.
+-- Node counts of rewritten tables: sums of the bracketed numbers of document 01; short is never above plain; the most that either has.
 use mathlib.Core.Path.{_≡_, refl}
-use Prim.Native.Nat.{ℕ, suc, _+_, _*_, _≤_}
+use Prim.Native.Nat.{ℕ, suc, _+_, _*_, _<_, _≤_}
 use native.Mathlib.Omega.{arith}
 use mathlib.Core.Bool.{Bool, true, false, _&&_}
 use mathlib.Core.List.{List, [], _∷_}
@@ -8,6 +8,8 @@ use lib.ListN.{length, length-append}
 use Rattle.definitions.specs.Bounded.{pick, bitOf}
 use Rattle.definitions.specs.Nodes.{Kind, True, Atom, Not, Or, Next, Until, Prev, Since, Run, End, Unknown, Node}
 use Rattle.definitions.specs.Rewriting.{Emit, emitted, emit, opening, itself, foreignAtom, plainNext, plainUntil, shortNext, shortUntil, Image, image, tolerantAt, part, Draft, step, steps, closing, closed, lastImage, rewriting}
+use Rattle.definitions.specs.Longest.{mostNodes}
+use Rattle.theorems.proofs.RuleNodes.{RuleNode, RuleNodes}
 
 emitted-count : (just n : ℕ) (es : List Emit) → length (emitted just n es) ≡ length es
 emitted-count just n [] = refl
@@ -157,12 +159,34 @@ costs-bound mask D [] = omega arith
 costs-bound mask D (n ∷ ns) =
     omega (arith, cost-bound mask (D .images) (n .kind) (n .first) (n .second), costs-bound mask (step false mask D n) ns)
 
-pub rewriting-bound : (short : Bool) (mask : ℕ) (ns : List Node) → length ((rewriting short mask ns) .nodes) ≤ 19 + 11 * length ns
-rewriting-bound short mask ns =
+-- the first node of a rule has no earlier node: it is true or an atom
+first-cost : (mask : ℕ) (is : List Image) (k : Kind) (a b : ℕ) → RuleNode 0 k a b → cost false mask is k a b ≤ 5
+unfolding pick
+first-cost mask is True a b h = omega arith
+first-cost mask is Atom a b h = pick-most (bitOf mask a) 1 5 (omega arith)
+first-cost mask is Not a b h = omega arith
+first-cost mask is Or a b h = omega arith
+first-cost mask is Next a b h = absurd (omega arith)
+first-cost mask is Until a b h = absurd (omega arith)
+first-cost mask is Prev a b h = absurd (omega arith)
+first-cost mask is Since a b h = absurd (omega arith)
+first-cost mask is Run a b h = absurd h
+first-cost mask is End a b h = absurd h
+first-cost mask is Unknown a b h = absurd h
+
+plain-most : (mask : ℕ) (ns : List Node) → 0 < length ns → RuleNodes 0 ns → length ((rewriting false mask ns) .nodes) ≤ mostNodes (length ns)
+unfolding pick
+plain-most mask [] h r = absurd (omega arith)
+plain-most mask (n ∷ ns) h r =
     omega (
       arith,
-      rewriting-count short mask ns,
-      costs-most short mask opened opened ns,
-      costs-bound mask opened ns,
-      pick-most (short && tolerantRule (steps short mask opened ns)) 0 8 (omega arith),
+      rewriting-count false mask (n ∷ ns),
+      first-cost mask [] (n .kind) (n .first) (n .second) (r .0),
+      costs-bound mask (step false mask opened n) ns,
     )
+
+-- "No rule may exceed it", plain or short
+pub rewriting-most : (short : Bool) (mask : ℕ) (ns : List Node) → 0 < length ns → RuleNodes 0 ns
+    → length ((rewriting short mask ns) .nodes) ≤ mostNodes (length ns)
+rewriting-most false mask ns h r = plain-most mask ns h r
+rewriting-most true mask ns h r = omega (arith, plain-most mask ns h r, short-not-above-plain mask ns)

@@ -166,15 +166,24 @@ pub record Unbroken (line : List ℕ) : Type 0 where
   pub newlines : Without newline line
   pub returns : Without carriageReturn line
 
-length-seam : (line rest : List ℕ) → Without newline line → Without carriageReturn line → lineLength (line ++ (newline ∷ rest)) ≡ length line
-length-seam [] rest n r = length-here newline rest refl
-length-seam (x ∷ t) rest n r =
+length-seam : (line end : List ℕ) → lineLength end ≡ 0 → Without newline line → Without carriageReturn line → lineLength (line ++ end) ≡ length line
+length-seam [] end e n r = e
+length-seam (x ∷ t) end e n r =
     let f = without-first newline x t n in
     let g = without-first carriageReturn x t r in
-    length-later x (t ++ (newline ∷ rest)) (f .0) (not-return x (t ++ (newline ∷ rest)) (eqb-false x carriageReturn (g .0))) ∙ ap suc (length-seam t rest (f .1) (g .1))
+    length-later x (t ++ end) (f .0) (not-return x (t ++ end) (eqb-false x carriageReturn (g .0))) ∙ ap suc (length-seam t end e (f .1) (g .1))
+
+-- such a line before an ending is the first one
+line-before : (line end : List ℕ) → lineLength end ≡ 0 → Unbroken line → lineOf (line ++ end) ≡ line
+line-before line end e u = take-at line end (lineLength (line ++ end)) (sym (length-seam line end e (u .newlines) (u .returns)))
 
 pub line-split : (line rest : List ℕ) → Unbroken line → lineOf (line ++ (newline ∷ rest)) ≡ line
-line-split line rest u = take-at line (newline ∷ rest) (lineLength (line ++ (newline ∷ rest))) (sym (length-seam line rest (u .newlines) (u .returns)))
+line-split line rest u = line-before line (newline ∷ rest) (length-here newline rest refl) u
+
+-- and with the other ending
+pub line-returned : (line rest : List ℕ) → Unbroken line → lineOf (line ++ (carriageReturn ∷ newline ∷ rest)) ≡ line
+line-returned line rest u =
+    line-before line (carriageReturn ∷ newline ∷ rest) (length-return carriageReturn (newline ∷ rest) (return-newline carriageReturn rest refl)) u
 
 -- the length of the first line, by the byte before its byte 10
 pub length-open : (t : List ℕ) → length t ≤ before newline t → lineLength t ≡ before newline t

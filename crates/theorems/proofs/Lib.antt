@@ -39,6 +39,7 @@ pub mod RuleTextSteps
 pub mod RuleTextBack
 pub mod RuleTextForth
 pub mod RoundTrips
+pub mod Longest
 pub mod TextEnds
 pub mod EndingReadings
 pub mod AcceptedEndings

@@ -20,6 +20,7 @@ use Rattle.definitions.specs.OneLineSigns.{Sign, Spells}
 use Rattle.definitions.specs.OneLineGrammar.{Tree, Sentence, openAtOnce}
 use Rattle.definitions.specs.OneLineNodes.{nodesOf, largestAtom}
 use Rattle.definitions.specs.OneLineReading.{signsOf, treeOf}
+use Rattle.definitions.specs.LinePrograms.{refusalOr}
 use Rattle.definitions.specs.OneLine.{sentenceRefusal, lineRefusal, lineNodes, readLineNumber, readLineNodes, lineOutput}
 use Rattle.theorems.proofs.Choice.{by-test, both-false, pick-true, pick-false, pick-other}
 use Rattle.theorems.proofs.Inversions.{formed-same, never-formed}
@@ -253,7 +254,7 @@ line-rule-comes-back controller line nodes e =
 
 -- its text is what the program prints of the line
 pub line-rule-text : (controller : ℕ) (line nodes : List ℕ) → readLineNumber controller line nodes ≡ accepted → textOf (lineRule controller line nodes) ≡ lineOutput controller line
-unfolding lineOutput
+unfolding lineOutput refusalOr
 line-rule-text controller line nodes e =
     let t : take (length (lineNodes line)) (readLineNodes controller line nodes) ≡ map nodeWord (lineNodes line) = line-words controller line nodes e in
     ap (ruleText controller (length (lineNodes line))) t ∙ sym (pick-true (eqb (lineRefusal controller line) accepted) _ _ (eq-eqb (lineRefusal controller line) accepted (line-number controller line nodes e)))

@@ -1,11 +1,11 @@
--- No check of a table or a recording refuses with 12 or above: 13 is for lent space alone. None of a recording refuses with 9.
+-- No check of a table or a recording refuses with 13 or above: 13 is for lent space alone. None of a recording refuses with 9.
 use mathlib.Core.Path.{_≡_}
 use Prim.Native.Nat.{ℕ, zero, suc, _+_, _<_}
 use native.Mathlib.Omega.{arith}
 use mathlib.Core.Bool.{Bool, true, false}
 use mathlib.Core.List.{List, [], _∷_}
 use lib.Dec.{eqb}
-use Rattle.definitions.specs.Limits.{ruleLimits, ruleOperand, recordingLimits, masksMeet, recordingLines, outputRule, noController, tooManyNodes, accepted}
+use Rattle.definitions.specs.Limits.{ruleLimits, ruleOperand, recordingLimits, masksMeet, recordingLines, outputRule, noController, lentShort, accepted}
 use Rattle.definitions.specs.Bounded.{pick, orElse}
 use Rattle.definitions.specs.Nodes.{Node, nodeOf}
 use Rattle.definitions.specs.Tables.{Rule, Table, nodeRefusal, nodesRefusal, ruleHeadingRefusal, ruleRefusal, topsRefusal, tableRefusal}
@@ -26,31 +26,31 @@ pick-low z a b n p q = pick-of (λ m. m < n) z a b p q
 pub or-else-low : (a b n : ℕ) → a < n → b < n → orElse a b < n
 or-else-low a b n p q = or-else-of (λ m. m < n) a b p q
 
-node-low : (rewritten : Bool) (i : ℕ) (n : Node) → nodeRefusal rewritten i n < tooManyNodes
+node-low : (rewritten : Bool) (i : ℕ) (n : Node) → nodeRefusal rewritten i n < lentShort
 unfolding nodeRefusal
 node-low rewritten i n =
-    pick-low _ ruleLimits _ tooManyNodes (omega arith)
-    (pick-low _ ruleLimits _ tooManyNodes (omega arith)
-    (pick-low _ ruleLimits _ tooManyNodes (omega arith)
-    (pick-low _ ruleLimits _ tooManyNodes (omega arith) (pick-low _ ruleOperand accepted tooManyNodes (omega arith) (omega arith)))))
+    pick-low _ ruleLimits _ lentShort (omega arith)
+    (pick-low _ ruleLimits _ lentShort (omega arith)
+    (pick-low _ ruleLimits _ lentShort (omega arith)
+    (pick-low _ ruleLimits _ lentShort (omega arith) (pick-low _ ruleOperand accepted lentShort (omega arith) (omega arith)))))
 
-nodes-low : (rewritten : Bool) (i left : ℕ) (ws : List ℕ) → nodesRefusal rewritten i left ws < tooManyNodes
+nodes-low : (rewritten : Bool) (i left : ℕ) (ws : List ℕ) → nodesRefusal rewritten i left ws < lentShort
 unfolding nodesRefusal
 nodes-low rewritten i zero ws = omega arith
 nodes-low rewritten i (suc left) [] = omega arith
 nodes-low rewritten i (suc left) (w ∷ ws) =
-    or-else-low (nodeRefusal rewritten i (nodeOf w)) (nodesRefusal rewritten (i + 1) left ws) tooManyNodes (node-low rewritten i (nodeOf w)) (nodes-low rewritten (i + 1) left ws)
+    or-else-low (nodeRefusal rewritten i (nodeOf w)) (nodesRefusal rewritten (i + 1) left ws) lentShort (node-low rewritten i (nodeOf w)) (nodes-low rewritten (i + 1) left ws)
 
-pub rule-low : (r : Rule) → ruleRefusal r < tooManyNodes
+pub rule-low : (r : Rule) → ruleRefusal r < lentShort
 unfolding ruleRefusal ruleHeadingRefusal
 rule-low r =
-    or-else-low _ _ tooManyNodes (pick-low _ accepted ruleLimits tooManyNodes (omega arith) (omega arith)) (nodes-low false 0 (r .count) (r .nodes))
+    or-else-low _ _ lentShort (pick-low _ accepted ruleLimits lentShort (omega arith) (omega arith)) (nodes-low false 0 (r .count) (r .nodes))
 
-pub table-low : (t : Table) → tableRefusal t < tooManyNodes
+pub table-low : (t : Table) → tableRefusal t < lentShort
 unfolding tableRefusal topsRefusal
 table-low t =
-    or-else-low _ _ tooManyNodes (pick-low _ accepted ruleLimits tooManyNodes (omega arith) (omega arith))
-    (or-else-low _ _ tooManyNodes (nodes-low true 0 (t .count) (t .nodes)) (pick-low _ accepted ruleLimits tooManyNodes (omega arith) (omega arith)))
+    or-else-low _ _ lentShort (pick-low _ accepted ruleLimits lentShort (omega arith) (omega arith))
+    (or-else-low _ _ lentShort (nodes-low true 0 (t .count) (t .nodes)) (pick-low _ accepted ruleLimits lentShort (omega arith) (omega arith)))
 
 -- what holds of 0, 6, 7, 8 and 10 holds of the number of every recording
 module _ (P : ℕ → Type 0) (none : P accepted) where
@@ -76,13 +76,13 @@ module _ (P : ℕ → Type 0) (none : P accepted) where
         (or-else-of P _ _ (masks-number meet [] (masksOf R))
         (or-else-of P _ _ (states-number (R .controllers) (masksOf R) 0 0 (statesOf R)) (pick-of P _ recordingLines accepted lines none)))
 
-pub recording-low : (R : Recording) → recordingRefusal R < tooManyNodes
-recording-low = recording-number (λ n. n < tooManyNodes) (omega arith) (omega arith) (omega arith) (omega arith) (omega arith)
+pub recording-low : (R : Recording) → recordingRefusal R < lentShort
+recording-low = recording-number (λ n. n < lentShort) (omega arith) (omega arith) (omega arith) (omega arith) (omega arith)
 
 -- "Number 9 is no longer given" (document 02)
 pub recording-not-nine : (R : Recording) → recordingRefusal R ≡ 9 → ⊥
 recording-not-nine = recording-number (λ n. n ≡ 9 → ⊥) (λ e. omega arith) (λ e. omega arith) (λ e. omega arith) (λ e. omega arith) (λ e. omega arith)
 
-pub controller-low : (C c : ℕ) → controllerRefusal C c < tooManyNodes
+pub controller-low : (C c : ℕ) → controllerRefusal C c < lentShort
 unfolding controllerRefusal
-controller-low C c = pick-low _ accepted noController tooManyNodes (omega arith) (omega arith)
+controller-low C c = pick-low _ accepted noController lentShort (omega arith) (omega arith)

@@ -8,15 +8,16 @@ use mathlib.Core.Bool.{Bool, true, false, not, _&&_, true≢false}
 use mathlib.Core.List.{List, [], _∷_, _++_, map}
 use lib.ListN.{length, length-append, List·getD-append}
 use lib.Seq.{getD-at}
-use borrow.Author.Tests.{lt-ltb, le-ltb, le-leb}
+use borrow.Author.Tests.{lt-ltb, le-leb}
 use Rattle.definitions.specs.Limits.{atomCount, maxTableNodes}
 use Rattle.definitions.specs.Bounded.{pick, orElse, bitOf}
 use Rattle.definitions.specs.Nodes.{Kind, True, Atom, Not, Or, Next, Until, Prev, Since, Run, End, Unknown, Node, nodeWord}
 use Rattle.definitions.specs.Tables.{Rule, ruleRefusal, topsRefusal, tableRefusal, nodesIn}
 use Rattle.definitions.specs.Rewriting.{Emit, emitted, emit, itself, foreignAtom, plainNext, plainUntil, shortNext, shortUntil, Image, noImage, imageOf, image, tolerantAt, tolerantOf, part, Draft, step, steps, Rewritten, closing, closed, lastImage, rewriting}
-use Rattle.definitions.specs.Operations.{rewrittenOf, sizeRefusal}
+use Rattle.definitions.specs.Operations.{rewrittenOf}
+use Rattle.definitions.specs.Longest.{mostNodes}
 use Rattle.theorems.proofs.NodeWords.{AllHeld, nodes-words}
-use Rattle.theorems.proofs.Counts.{emit-count, opened, rewriting-bound}
+use Rattle.theorems.proofs.Counts.{emit-count, opened, rewriting-most}
 use Rattle.theorems.proofs.RuleNodes.{RuleNode, RuleNodes, rule-nodes, rule-length, rule-some, rule-few}
 use Rattle.theorems.proofs.TableNodes.{TableNodes, emit-nodes, nodes-held, nodes-accepted}
 
@@ -172,13 +173,15 @@ topped : (short : Bool) (r : Rule) (mask : ℕ) → ruleRefusal r ≡ 0 → Topp
 topped short r mask h =
     rewriting-topped short mask (nodesIn (r .count) (r .nodes)) (omega (arith, rule-length r h, rule-some r h)) (rule-nodes r h)
 
-pub rewritten-size : (short : Bool) (r : Rule) (mask : ℕ) → ruleRefusal r ≡ 0 → length ((rewrittenOf short r mask) .nodes) ≤ maxTableNodes
-rewritten-size short r mask h =
-    omega (arith, rewriting-bound short mask (nodesIn (r .count) (r .nodes)), rule-length r h, rule-few r h)
+-- "No rule may exceed it": 13 + 11 times n nodes, for every accepted rule of n nodes and every mask
+pub rewritten-most : (short : Bool) (r : Rule) (mask : ℕ) → ruleRefusal r ≡ 0 → length ((rewrittenOf short r mask) .nodes) ≤ mostNodes (r .count)
+rewritten-most short r mask h =
+    let l : length (nodesIn (r .count) (r .nodes)) ≡ r .count = rule-length r h in
+    omega (arith, rewriting-most short mask (nodesIn (r .count) (r .nodes)) (omega (arith, rule-some r h)) (rule-nodes r h))
 
-pub rewritten-fits : (short : Bool) (r : Rule) (mask : ℕ) → ruleRefusal r ≡ 0 → sizeRefusal (rewrittenOf short r mask) ≡ 0
-unfolding sizeRefusal pick
-rewritten-fits short r mask h = rw (le-ltb maxTableNodes (length ((rewrittenOf short r mask) .nodes)) (rewritten-size short r mask h))
+-- "Number 12 therefore can't happen": 1,024 nodes hold every rewritten table
+pub rewritten-size : (short : Bool) (r : Rule) (mask : ℕ) → ruleRefusal r ≡ 0 → length ((rewrittenOf short r mask) .nodes) ≤ maxTableNodes
+rewritten-size short r mask h = omega (arith, rewritten-most short r mask h, rule-few r h)
 
 pub rewritten-tops : (short : Bool) (r : Rule) (mask : ℕ) → ruleRefusal r ≡ 0 →
     ((rewrittenOf short r mask) .weakTop < length ((rewrittenOf short r mask) .nodes))

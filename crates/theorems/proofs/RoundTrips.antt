@@ -107,7 +107,7 @@ nodes-past b i (suc n) [] = refl
 nodes-past b i (suc n) (w ∷ ws) = rw (nodes-past b (i + 1) n ws)
 
 -- an accepted rule is accepted with other entries past its count
-same-accepted : (r : Rule) (ws : List ℕ) → take (r .count) ws ≡ r .nodes → ruleRefusal r ≡ 0
+pub same-accepted : (r : Rule) (ws : List ℕ) → take (r .count) ws ≡ r .nodes → ruleRefusal r ≡ 0
     → ruleRefusal (ruleOf (r .controller) (r .count) ws) ≡ 0
 same-accepted r ws t e =
     let a = accepted-rule r e in

@@ -15,10 +15,10 @@ use Rattle.definitions.specs.Recordings.{Recording, recordingRefusal, controlle
 use Rattle.definitions.specs.Projection.{localTrace, endAt}
 use Rattle.definitions.specs.Readings.{Trace, local, whole, verdict, localVerdicts}
 use Rattle.definitions.specs.Rewriting.{Rewritten, rewriting}
-use Rattle.definitions.specs.Operations.{Answer, answer, left, verdictValues, judgeLocalNumber, judgeLocalAnswer, rewrittenOf, sizeRefusal, rewriteNumber, rewriteAnswer, rewriteTable, answeredTable, judgeRecordingNumber, judgeRecordingAnswer}
+use Rattle.definitions.specs.Operations.{Answer, answer, left, verdictValues, judgeLocalNumber, judgeLocalAnswer, rewrittenOf, rewriteNumber, rewriteAnswer, rewriteTable, answeredTable, judgeRecordingNumber, judgeRecordingAnswer}
 use Rattle.theorems.proofs.Choice.{none-or-else}
 use Rattle.theorems.proofs.RuleNodes.{RuleNodes, rule-nodes, rule-length, rule-some}
-use Rattle.theorems.proofs.RewrittenAccepted.{rewritten-fits, rewritten-nodes, rewritten-accepted}
+use Rattle.theorems.proofs.RewrittenAccepted.{rewritten-nodes, rewritten-accepted}
 use Rattle.theorems.proofs.Semantics.{val, verdict-is}
 use Rattle.theorems.proofs.Faithful.{topOf, faithful}
 use Rattle.theorems.proofs.RecordingLaws.{Recorded, recorded}
@@ -68,10 +68,9 @@ rewrittenTable w more = tableOf (length (w .nodes)) (map nodeWord (w .nodes) ++ 
 
 -- what a rewriting answers for an accepted rule
 module _ (short : Bool) (r : Rule) (mask : ℕ) (table : List ℕ) (good : ruleRefusal r ≡ 0) (lent : maxTableNodes ≤ length table) where
-  rewrite-accepted : rewriteNumber short r mask table ≡ 0
+  rewrite-accepted : rewriteNumber r table ≡ 0
   unfolding rewriteNumber pick
-  rewrite-accepted = rw (le-ltb (length table) maxTableNodes lent)
-      (none-or-else (ruleRefusal r) (sizeRefusal (rewrittenOf short r mask)) good (rewritten-fits short r mask good))
+  rewrite-accepted = rw (le-ltb (length table) maxTableNodes lent) good
 
   answered-is : answeredTable short r mask table ≡ rewrittenTable (rewrittenOf short r mask)
       (replicate (maxTableNodes - length (map nodeWord ((rewrittenOf short r mask) .nodes))) 0 ++ drop maxTableNodes table)

@@ -1,4 +1,4 @@
-use Rattle.typed_rule.proofs.PrintLaws.{caller-laws}
+use Rattle.line_program.proofs.PrintLaws.{caller-laws}
 use Rattle.rule.proofs.main.Statement.{statement}
 use Rattle.rule.proofs.main.Tie as tie
 use Rattle.rule.proofs.main.Reads as reads

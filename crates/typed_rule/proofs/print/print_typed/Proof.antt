@@ -6,70 +6,58 @@ use Rattle.typed_rule.proofs.print.print_typed.Lts as lts
 use Rattle.fields.proofs.number.decimal.Reads as decimal-reads
 use Rattle.fields.proofs.scan.after.Reads as after-reads
 use Rattle.fields.proofs.scan.until_byte.Reads as until-byte-reads
+use Rattle.line_program.proofs.print.print_refusal.Reads as print-refusal-reads
 use Rattle.typed_rule.proofs.print.print_line.Reads as print-line-reads
-use Rattle.typed_rule.proofs.print.print_refusal.Reads as print-refusal-reads
 
--- src/print.rt:51:9
+-- src/print.rt:29:9
 until-byte-requires : tie.Need-until-byte-requires
 until-byte-requires c κs = search typed-laws
 
--- src/print.rt:53:57
+-- src/print.rt:31:57
 slice-aggregate-decimal : tie.Need-slice-aggregate-decimal
 slice-aggregate-decimal c = search typed-laws
 
--- src/print.rt:53:41
+-- src/print.rt:31:41
 decimal-requires : tie.Need-decimal-requires
 decimal-requires c κs = search typed-laws
 
--- src/print.rt:53:27
+-- src/print.rt:31:27
 enum-known-controller : tie.Need-enum-known-controller
 enum-known-controller c = search typed-laws
 
--- src/print.rt:54:54
+-- src/print.rt:32:61
 enum-told : tie.Need-enum-told
 enum-told c = search typed-laws
 
--- src/print.rt:54:13
+-- src/print.rt:32:13
 print-refusal-requires : tie.Need-print-refusal-requires
 print-refusal-requires c κs = search typed-laws
 
--- src/print.rt:54:13
-same-length : tie.Need-same-length
-same-length c = search typed-laws
-
--- src/print.rt:54:13
+-- src/print.rt:32:13
 returns : tie.Need-returns
 returns c = search typed-laws
 
--- src/print.rt:56:27
+-- src/print.rt:34:27
 cast-print-line : tie.Need-cast-print-line
 cast-print-line c = search typed-laws
 
--- src/print.rt:56:48
+-- src/print.rt:34:48
 after-requires : tie.Need-after-requires
 after-requires c κs = search typed-laws
 
--- src/print.rt:56:9
+-- src/print.rt:34:9
 print-line-requires : tie.Need-print-line-requires
 print-line-requires c κs = search typed-laws
 
--- src/print.rt:56:9
-same-length-2 : tie.Need-same-length-2
-same-length-2 c = search typed-laws
-
--- src/print.rt:56:9
+-- src/print.rt:34:9
 returns-2 : tie.Need-returns-2
 returns-2 c = search typed-laws
 
--- src/print.rt:58:5
+-- src/print.rt:36:5
 print-refusal-requires-2 : tie.Need-print-refusal-requires-2
 print-refusal-requires-2 c κs = search typed-laws
 
--- src/print.rt:47:1
-same-length-3 : tie.Need-same-length-3
-same-length-3 c = search typed-laws
-
--- src/print.rt:47:1
+-- src/print.rt:26:1
 returns-3 : tie.Need-returns-3
 returns-3 c = search typed-laws
 
@@ -83,13 +71,10 @@ print-typed-spec =
     enum-known-controller
     enum-told
     print-refusal-requires
-    same-length
     returns
     cast-print-line
     after-requires
     print-line-requires
-    same-length-2
     returns-2
     print-refusal-requires-2
-    same-length-3
     returns-3)

@@ -1,33 +1,33 @@
-use Rattle.typed_rule.proofs.PrintLaws.{put-laws}
-use Rattle.typed_rule.proofs.print.put_refusal.Statement.{statement}
-use Rattle.typed_rule.proofs.print.put_refusal.Tie as tie
-use Rattle.typed_rule.proofs.print.put_refusal.Reads as reads
-use Rattle.typed_rule.proofs.print.put_refusal.Lts as lts
+use Rattle.line_program.proofs.PrintLaws.{put-laws}
+use Rattle.line_program.proofs.print.put_refusal.Statement.{statement}
+use Rattle.line_program.proofs.print.put_refusal.Tie as tie
+use Rattle.line_program.proofs.print.put_refusal.Reads as reads
+use Rattle.line_program.proofs.print.put_refusal.Lts as lts
 use Rattle.printing.proofs.put.Reads as put-reads
 use Rattle.printing.proofs.put_byte.Reads as put-byte-reads
 use Rattle.printing.proofs.put_field.Reads as put-field-reads
 
--- src/print.rt:25:33
+-- src/print.rt:19:36
 slice-aggregate-put : tie.Need-slice-aggregate-put
 slice-aggregate-put c = search put-laws
 
--- src/print.rt:25:9
+-- src/print.rt:19:9
 put-requires : tie.Need-put-requires
 put-requires c κs = search put-laws
 
--- src/print.rt:26:9
+-- src/print.rt:20:9
 put-field-requires : tie.Need-put-field-requires
 put-field-requires c κs = search put-laws
 
--- src/print.rt:27:5
+-- src/print.rt:21:5
 put-byte-requires : tie.Need-put-byte-requires
 put-byte-requires c κs = search put-laws
 
--- src/print.rt:21:1
+-- src/print.rt:15:1
 same-length : tie.Need-same-length
 same-length c = search put-laws
 
--- src/print.rt:21:1
+-- src/print.rt:15:1
 returns : tie.Need-returns
 returns c = search put-laws
 

@@ -1,0 +1,43 @@
+use Rattle.longest_rule.proofs.PrintLaws.{longest-laws}
+use Rattle.longest_rule.proofs.print.print_longest.Statement.{statement}
+use Rattle.longest_rule.proofs.print.print_longest.Tie as tie
+use Rattle.longest_rule.proofs.print.print_longest.Reads as reads
+use Rattle.longest_rule.proofs.print.print_longest.Lts as lts
+use Rattle.line_program.proofs.input.only_line.Reads as only-line-reads
+use Rattle.line_program.proofs.print.print_refusal.Reads as print-refusal-reads
+use Rattle.longest_rule.proofs.print.print_count.Reads as print-count-reads
+
+-- src/print.rt:29:9
+only-line-requires : tie.Need-only-line-requires
+only-line-requires c κs = search longest-laws
+
+-- src/print.rt:31:9
+print-refusal-requires : tie.Need-print-refusal-requires
+print-refusal-requires c κs = search longest-laws
+
+-- src/print.rt:31:9
+returns : tie.Need-returns
+returns c = search longest-laws
+
+-- src/print.rt:33:17
+slice-aggregate-print-count : tie.Need-slice-aggregate-print-count
+slice-aggregate-print-count c = search longest-laws
+
+-- src/print.rt:33:5
+print-count-requires : tie.Need-print-count-requires
+print-count-requires c κs = search longest-laws
+
+-- src/print.rt:26:1
+returns-2 : tie.Need-returns-2
+returns-2 c = search longest-laws
+
+pub print-longest-spec : {M : Type 1} → statement M
+print-longest-spec =
+    tie.close
+    (tie.spec
+    only-line-requires
+    print-refusal-requires
+    returns
+    slice-aggregate-print-count
+    print-count-requires
+    returns-2)
