@@ -18,7 +18,7 @@ pub mod trace;
 pub mod why;
 
 use evidence::{walk, AsWorded, Pair};
-use formula::{check_formula, check_nodes, Formula, Language, Node};
+use formula::{check_count, check_formula, check_nodes, Formula, Language, Node, ATOM, UNTIL};
 use semantics::{local_readings, trace_readings, Reading, Readings};
 use text::RefusedLine;
 use trace::{check_trace, Trace};
@@ -326,13 +326,8 @@ pub fn rewrite(
     if too_short(table, limits::TABLE_NODES) {
         return Err(refusal::LENT_SPACE);
     }
-    let answer = check_formula(controller, count, nodes).and_then(|formula| {
-        let rewritten = rewriting::rewrite(short, &formula, mask);
-        if rewritten.nodes.len() > limits::TABLE_NODES {
-            return Err(refusal::TABLE_SIZE);
-        }
-        Ok(rewritten)
-    });
+    let answer = check_formula(controller, count, nodes)
+        .map(|formula| rewriting::rewrite(short, &formula, mask));
     let content = answer.as_ref().map_or(Vec::new(), |rewritten| node_words(&rewritten.nodes));
     leave(table, limits::TABLE_NODES, &content);
     answer.map(|rewritten| Rewriting {
@@ -414,89 +409,50 @@ fn yes_or_no(verdict: bool) -> &'static [u8] {
     }
 }
 
-/// The tables that the joint reading left in the program's own space.
-struct Tables {
-    controller: usize,
-    count: usize,
-    controllers: usize,
-    length: usize,
-    nodes: [u32; limits::RULE_NODES],
-    masks: [u32; limits::CONTROLLERS],
-    states: [u64; limits::STATES],
-}
-
-/// The program's input as tables, or the refusal number and the refused line.
-fn program_tables(input: &[u8]) -> Result<Tables, (u8, &[u8])> {
+/// The program's input as a rule and a recording, or the refusal number and the
+/// refused line.
+fn program_texts(input: &[u8]) -> Result<(Formula, Trace), (u8, &[u8])> {
     if input.len() > limits::PROGRAM_INPUT {
         return Err((refusal::PROGRAM_INPUT, &[]));
     }
     let (rule_text, recording_text) = text::split_input(input);
-    let mut nodes = [0; limits::RULE_NODES];
-    let mut masks = [0; limits::CONTROLLERS];
-    let mut states = [0; limits::STATES];
-    let mut heading = [0; 5];
-    let part =
-        read_joint(rule_text, recording_text, &mut nodes, &mut masks, &mut states, &mut heading);
-    let [number, controller, count, controllers, length] = heading.map(|value| value as usize);
-    if number != 0 {
-        return Err((number as u8, part_of(part, rule_text, recording_text)));
-    }
-    Ok(Tables { controller, count, controllers, length, nodes, masks, states })
+    joint(rule_text, recording_text)
+        .map_err(|(number, part)| (number, part_of(part, rule_text, recording_text)))
 }
 
-/// The line `local`, places.
-fn local_line(tables: &Tables) -> Result<Vec<u8>, u8> {
-    let Tables { controllers, length, masks, states, .. } = tables;
-    let mut places = [0; limits::PLACES];
-    let local = project(*controllers, *length, masks, states, tables.controller, &mut places)?;
-    Ok(text::printed(&[b"local", local.to_string().as_bytes()]))
-}
-
-/// The line `own`, weak, strong on the local trace.
-fn own_line(tables: &Tables) -> Result<Vec<u8>, u8> {
-    let Tables { controller, count, nodes, controllers, length, masks, states } = tables;
-    let own = judge_local(*controller, *count, nodes, *controllers, *length, masks, states)?;
-    Ok(text::printed(&[b"own", yes_or_no(own.weak), yes_or_no(own.strong)]))
+/// The lines `local`, places, and `own`, weak, strong on the local trace.
+fn local_lines(formula: &Formula, trace: &Trace) -> Vec<u8> {
+    let local = trace::project(trace, formula.component);
+    let rule = formula.nodes.len() - 1;
+    let own = verdict(&local_readings(&formula.nodes, &local), rule, rule);
+    let places = local.positions.len().to_string();
+    let lines = [
+        text::printed(&[b"local", places.as_bytes()]),
+        text::printed(&[b"own", yes_or_no(own.weak), yes_or_no(own.strong)]),
+    ];
+    lines.concat()
 }
 
 /// The line `plain` or `short`, nodes, weak, strong.
-fn rewritten_line(tables: &Tables, short: bool) -> Result<Vec<u8>, u8> {
-    let Tables { controller, count, nodes, controllers, length, masks, states } = tables;
-    let mut table = [0; limits::TABLE_NODES];
-    let mut rows = vec![0; limits::ROW_WORDS];
-    let own = masks[*controller];
-    let answer = rewrite(short, *controller, *count, nodes, own, &mut table)?;
-    let verdict = judge_recording(
-        answer.count,
-        &table,
-        answer.weak_top,
-        answer.strong_top,
-        *controllers,
-        *length,
-        masks,
-        states,
-        *controller,
-        &mut rows,
-    )?;
+fn rewritten_line(formula: &Formula, trace: &Trace, short: bool) -> Vec<u8> {
+    let c = formula.component;
+    let rewritten = rewriting::rewrite(short, formula, trace.masks[c]);
+    let readings = trace_readings(&rewritten.nodes, trace, c);
+    let verdict = verdict(&readings, rewritten.weak_top, rewritten.strong_top);
     let word: &[u8] = if short { b"short" } else { b"plain" };
+    let count = rewritten.nodes.len().to_string();
     let (weak, strong) = (yes_or_no(verdict.weak), yes_or_no(verdict.strong));
-    Ok(text::printed(&[word, answer.count.to_string().as_bytes(), weak, strong]))
-}
-
-/// The four lines of the output.
-fn report(tables: &Tables) -> Result<Vec<u8>, u8> {
-    let mut output = local_line(tables)?;
-    output.extend(own_line(tables)?);
-    output.extend(rewritten_line(tables, false)?);
-    output.extend(rewritten_line(tables, true)?);
-    Ok(output)
+    text::printed(&[word, count.as_bytes(), weak, strong])
 }
 
 /// "The program": its whole standard input to its whole standard output.
 pub fn program(input: &[u8]) -> Vec<u8> {
-    match program_tables(input) {
+    match program_texts(input) {
         Err((number, line)) => refused_output(number, line),
-        Ok(tables) => report(&tables).unwrap_or_else(|number| refused_output(number, &[])),
+        Ok((formula, trace)) => {
+            let rewritten = |short| rewritten_line(&formula, &trace, short);
+            [local_lines(&formula, &trace), rewritten(false), rewritten(true)].concat()
+        }
     }
 }
 
@@ -518,24 +474,48 @@ pub fn program_says(input: &[u8]) -> Vec<u8> {
     text::printed(&[b"line", word, (closed + 1).to_string().as_bytes()])
 }
 
-/// The controller and the rule of the input of the program `rule`: one line
-/// and its ending, parted by a tab.
-fn typed(input: &[u8]) -> Option<(usize, &[u8])> {
-    let line = text::only_line(input)?;
+/// A program of one line: from its input to its output. Refused, it prints
+/// `refused` and the number, without a line field.
+fn line_program(input: &[u8], answer: impl FnOnce(&[u8]) -> Result<Formula, u8>) -> Vec<u8> {
+    let answer = if input.len() > limits::PROGRAM_INPUT {
+        Err(refusal::PROGRAM_INPUT)
+    } else {
+        text::only_line(input).ok_or(refusal::RULE_FORM).and_then(answer)
+    };
+    match answer {
+        Ok(formula) => text::write_rule(&formula),
+        Err(number) => text::printed(&[b"refused", number.to_string().as_bytes()]),
+    }
+}
+
+/// The controller and the rule of the line of the program `rule`, parted by a
+/// tab.
+fn typed(line: &[u8]) -> Option<(usize, &[u8])> {
     let at = line.iter().position(|byte| *byte == b'\t')?;
     Some((text::decimal(&line[..at])?, &line[at + 1..]))
 }
 
 /// The program `rule`: from its input to its output.
 pub fn rule_program(input: &[u8]) -> Vec<u8> {
-    let answer = if input.len() > limits::PROGRAM_INPUT {
-        Err(refusal::PROGRAM_INPUT)
-    } else {
-        typed(input).ok_or(refusal::RULE_FORM).and_then(|(controller, line)| {
-            let nodes = one_line::read(controller, line)?;
-            Ok(text::write_rule(&Formula { component: controller, nodes }))
-        })
-    };
-    let refused = |number: u8| text::printed(&[b"refused", number.to_string().as_bytes()]);
-    answer.unwrap_or_else(refused)
+    line_program(input, |line| {
+        let (component, line) = typed(line).ok_or(refusal::RULE_FORM)?;
+        Ok(Formula { component, nodes: one_line::read(component, line)? })
+    })
+}
+
+/// "The rule that grows most": the nodes `atom 0` and n-1 times `until 0 0`.
+pub fn longest_rule(n: usize) -> Formula {
+    let mut nodes = vec![Node { kind: ATOM, first: 0, second: 0 }];
+    nodes.resize(n, Node { kind: UNTIL, first: 0, second: 0 });
+    Formula { component: 0, nodes }
+}
+
+/// The program `longest`, from n: 1 for "other input that isn't one decimal
+/// line", 2 "for n = 0 or above 64".
+pub fn longest_program(input: &[u8]) -> Vec<u8> {
+    line_program(input, |line| {
+        let n = text::decimal(line).ok_or(refusal::RULE_FORM)?;
+        check_count(n, Language::Rule)?;
+        Ok(longest_rule(n))
+    })
 }

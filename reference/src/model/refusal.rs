@@ -20,8 +20,6 @@ pub const RECORDING_LINES: u8 = 8;
 pub const OUTPUT_RULE: u8 = 10;
 /// A controller isn't below C.
 pub const CONTROLLER: u8 = 11;
-/// A rewritten table has over 1,024 nodes.
-pub const TABLE_SIZE: u8 = 12;
 /// Lent space is shorter than its full size.
 pub const LENT_SPACE: u8 = 13;
 /// The program's input is over its limit.

@@ -6,7 +6,7 @@ use super::evidence::{walk, AsWorded, Pair};
 use super::formula::Formula;
 use super::semantics::{local_readings, Reading};
 use super::trace::{bit, place_states, project, LocalTrace, Trace};
-use super::{joint, limits, part_of, program_says, refusal, refused_output, text, yes_or_no};
+use super::{limits, program_says, program_texts, refusal, refused_output, text, yes_or_no};
 
 /// The words of the first line.
 const READINGS: [(&[u8], Reading); 2] = [(b"weak", Reading::Weak), (b"strong", Reading::Strong)];
@@ -53,9 +53,8 @@ pub fn program(input: &[u8]) -> Vec<u8> {
     let Some((word, reading, texts)) = asked(input) else {
         return refused_output(refusal::RULE_FORM, &input[text::first_line(input)]);
     };
-    let (rule_text, recording_text) = text::split_input(texts);
-    match joint(rule_text, recording_text) {
-        Err((number, part)) => refused_output(number, part_of(part, rule_text, recording_text)),
+    match program_texts(texts) {
+        Err((number, line)) => refused_output(number, line),
         Ok((formula, trace)) => answer(word, reading, &formula, &trace),
     }
 }
