@@ -12,6 +12,7 @@ mod difference;
 mod endings;
 mod evidence;
 mod expected;
+mod growth;
 mod input;
 mod last_state;
 mod lent;

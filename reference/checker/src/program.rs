@@ -2,6 +2,7 @@
 
 mod asked;
 mod judged;
+mod longest;
 pub mod misprint;
 mod typed;
 
@@ -13,7 +14,7 @@ use std::thread::{self, JoinHandle};
 use std::time::{Duration, Instant};
 
 use reference::generate::random::Random;
-use reference::model::{program, program_says, rule_program, why};
+use reference::model::{longest_program, program, program_says, rule_program, why};
 
 use crate::check::Check;
 use crate::difference::Difference;
@@ -62,12 +63,21 @@ const WHY: Program = Program {
     says: why::says,
 };
 
+/// The program that prints the rule that grows most.
+const LONGEST: Program = Program {
+    operation: Operation::LongestProgram,
+    name: "longest",
+    variable: "RAGYVOSIN_LONGEST",
+    model: longest_program,
+    says: |_| Vec::new(),
+};
+
 /// Makes the runs of a program.
 type Runs = fn(&Plan) -> Vec<Job<'_>>;
 
 /// All programs, each with its runs.
-const PROGRAMS: [(Program, Runs); 3] =
-    [(JUDGE, judged::jobs), (RULE, typed::jobs), (WHY, asked::jobs)];
+const PROGRAMS: [(Program, Runs); 4] =
+    [(JUDGE, judged::jobs), (RULE, typed::jobs), (WHY, asked::jobs), (LONGEST, longest::jobs)];
 
 /// Runs of one job.
 const RUNS: usize = 25;
@@ -182,8 +192,8 @@ impl Expected {
         }
     }
 
-    /// Expects what a wrong printer of pairs writes, if it belongs here and is
-    /// something else.
+    /// Expects what a wrong printer writes, if it belongs here and is something
+    /// else.
     fn misprint(&mut self, check: &Check, program: Program, input: &[u8]) {
         let Some(Place::Misprint(misprint)) = check.place(program.operation) else { return };
         let misprinted = misprint.of(input, self);

@@ -12,6 +12,7 @@ use reference::model::limits::{CONTROLLERS, RULE_NODES, STATES, TABLE_NODES};
 
 use crate::check::Check;
 use crate::difference::Difference;
+use crate::growth;
 use crate::input::Input;
 use crate::plan::Plan;
 use crate::tally::{Operation, Section};
@@ -182,6 +183,8 @@ fn batch(check: &mut Check, plan: &Plan, number: usize) -> Result<(), Difference
     for _ in 0..4 {
         schedules(check, &mut random)?;
         beginnings(check, &mut random)?;
+        let rule = formulas::rule(&mut random, RULE_NODES);
+        growth::rewritings(check, &rule, mask(&mut random))?;
     }
     Ok(())
 }

@@ -14,6 +14,7 @@ use reference::model::{self, limits};
 
 use crate::check::Check;
 use crate::difference::Difference;
+use crate::growth;
 use crate::input::Input;
 use crate::plan::Plan;
 use crate::small::judge::Judge;
@@ -180,7 +181,7 @@ impl<'a> Small<'a> {
 
     /// All comparisons of small rules and recordings.
     pub fn jobs(&'a self) -> Vec<Job<'a>> {
-        let mut jobs: Vec<Job> = Vec::new();
+        let mut jobs: Vec<Job> = growth::jobs();
         for number in (0..self.views.recordings.len()).step_by(PROJECTIONS) {
             jobs.push(Box::new(move |check| self.projections(check, number)));
         }
@@ -229,10 +230,8 @@ fn rewritings(check: &mut Check, rules: &[Vec<u32>]) -> Result<(), Difference> {
         let controller = number % limits::CONTROLLERS;
         let rule = RuleTable { controller, count: nodes.len(), nodes: nodes.clone() };
         for mask in 0..MASKS as u32 {
-            for short in [false, true] {
-                check.compare(&Input::rewrite(short, rule.clone(), mask))?;
-                check.compare(&Input::rewrite(short, rule.clone(), mask | !3))?;
-            }
+            growth::rewritings(check, &rule, mask)?;
+            growth::rewritings(check, &rule, mask | !3)?;
         }
     }
     Ok(())

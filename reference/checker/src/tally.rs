@@ -56,7 +56,7 @@ impl Section {
     }
 }
 
-/// What is compared: the operations, five laws and the programs.
+/// What is compared: the operations, six laws and the programs.
 #[derive(Clone, Copy, PartialEq, Eq, PartialOrd, Ord, Debug)]
 pub enum Operation {
     /// Reading a rule text.
@@ -92,12 +92,16 @@ pub enum Operation {
     Beginnings,
     /// Local traces that agree in the readings behind a verdict have it.
     Promise,
+    /// No rule's rewritings exceed those of the rule that grows most.
+    Growth,
     /// The program.
     Program,
     /// The program `rule`.
     RuleProgram,
     /// The program `why`.
     WhyProgram,
+    /// The program `longest`.
+    LongestProgram,
 }
 
 impl Operation {
@@ -135,9 +139,11 @@ impl Operation {
             Operation::Schedules => "schedules",
             Operation::Beginnings => "beginnings",
             Operation::Promise => "promise",
+            Operation::Growth => "growth",
             Operation::Program => "judge",
             Operation::RuleProgram => "rule",
             Operation::WhyProgram => "why",
+            Operation::LongestProgram => "longest",
         }
     }
 }
@@ -162,8 +168,7 @@ pub struct Tally {
     numbers: BTreeMap<Operation, [u64; NUMBERS]>,
 }
 
-/// The numbers that each operation can answer; 9 is no longer given, and 12 is
-/// never met, since an accepted rule's table has at most 723 nodes.
+/// The numbers that each operation can answer; 9 and 12 are no longer given.
 const ANSWERABLE: &[(Operation, &[usize])] = &[
     (Operation::ReadRule, &[0, 1, 2, 3, 4, 13]),
     (Operation::ReadLine, &[0, 2, 13, 15, 16]),
@@ -179,6 +184,7 @@ const ANSWERABLE: &[(Operation, &[usize])] = &[
     (Operation::Program, &[0, 1, 2, 3, 4, 5, 6, 7, 8, 10, 11, 14]),
     (Operation::RuleProgram, &[0, 1, 2, 14, 15, 16]),
     (Operation::WhyProgram, &[0, 1, 2, 3, 4, 5, 6, 7, 8, 10, 11, 14]),
+    (Operation::LongestProgram, &[0, 1, 2, 14]),
 ];
 
 impl Tally {

@@ -35,7 +35,7 @@ pub enum Place {
     Misread(Misreading),
     /// The pairs, by a wrong walk.
     Misstep(Misstep),
-    /// What the program `why` writes, by a wrong printer.
+    /// What the program `why` or `longest` writes, by a wrong printer.
     Misprint(Misprint),
     /// A mark in the last state taken for a run.
     LastRun,
@@ -119,6 +119,15 @@ const WHY_PRINTERS: &[Place] = &[
     Place::Misprint(Misprint::FirstCounted),
 ];
 
+/// The wrong printers of the program `longest`.
+const LONGEST_PRINTERS: &[Place] = &[
+    Place::Misprint(Misprint::OneMore),
+    Place::Misprint(Misprint::LeadingZeros),
+    Place::Misprint(Misprint::Unclosed),
+    Place::Misprint(Misprint::LineField),
+    Place::Misprint(Misprint::Wrapped),
+];
+
 /// The wrong answers by section and operation.
 fn lists() -> Vec<(Section, Operation, &'static [Place])> {
     use Place::{Beyond, Content, Length, Line, Named, Number, Untouched, Unused, Value, Zero};
@@ -136,6 +145,7 @@ fn lists() -> Vec<(Section, Operation, &'static [Place])> {
         (Section::Random, Operation::ReadJoint, &[Line][..]),
         (Section::Random, Operation::Schedules, &[Value]),
         (Section::Random, Operation::Beginnings, &[Number]),
+        (Section::Random, Operation::Growth, &[Value, Length]),
         (Section::Random, Operation::ReadRecording, &[Nine, Cleared]),
         (Section::Random, Operation::Project, &[Nine, LastRun]),
         (Section::Random, Operation::JudgeLocal, &[Nine]),
@@ -156,12 +166,15 @@ fn lists() -> Vec<(Section, Operation, &'static [Place])> {
         (Section::Program, Operation::RuleProgram, &[Named, Content, Length]),
         (Section::Program, Operation::WhyProgram, &[Named, Content, Length, Line]),
         (Section::Program, Operation::WhyProgram, WHY_PRINTERS),
+        (Section::Program, Operation::LongestProgram, &[Named, Content, Length]),
+        (Section::Program, Operation::LongestProgram, LONGEST_PRINTERS),
         (Section::Small, Operation::Project, &[Number, Value, Content]),
         (Section::Small, Operation::RewritePlain, &[Value, Content]),
         (Section::Small, Operation::RewriteShort, &[Value, Content]),
         (Section::Small, Operation::JudgeLocal, &[Value]),
         (Section::Small, Operation::JudgeRecording, &[Value, Content, Unused, Beyond]),
         (Section::Small, Operation::Schedules, &[Value]),
+        (Section::Small, Operation::Growth, &[Value, Length, Named]),
         (Section::Evidence, Operation::Evidence, &[Value, Content, Unused, Beyond]),
         (Section::Evidence, Operation::Promise, &[Value, Content]),
     ]);
@@ -176,13 +189,14 @@ fn misreaders() -> Vec<(Section, Operation, Vec<Misreading>)> {
     let joint = [&reader[..], &[Kept, Trimmed]].concat();
     let program = [&joint[..], &[Split, SplitNewlineOnly, Counted]].concat();
     let why = [&reader[..], &[Split, SplitNewlineOnly, Counted]].concat();
-    let rule_program = vec![NewlineOnly, Stripped, Alone, Swallowed, Counted];
+    let line_program = vec![NewlineOnly, Stripped, Alone, Swallowed, Counted];
     vec![
         (Section::Endings, Operation::ReadRule, reader.clone()),
         (Section::Endings, Operation::ReadRecording, reader),
         (Section::Endings, Operation::ReadJoint, joint),
         (Section::Program, Operation::Program, program),
-        (Section::Program, Operation::RuleProgram, rule_program),
+        (Section::Program, Operation::RuleProgram, line_program.clone()),
+        (Section::Program, Operation::LongestProgram, line_program),
         (Section::Program, Operation::WhyProgram, why),
     ]
 }

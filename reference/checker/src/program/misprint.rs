@@ -1,4 +1,7 @@
-//! Wrong printers of the program `why` on purpose.
+//! Wrong printers on purpose: of the program `why`, and of `longest`.
+
+use reference::model::limits::RULE_NODES;
+use reference::model::{longest_program, longest_rule, text};
 
 use crate::program::{Expected, WHY};
 
@@ -15,6 +18,16 @@ pub enum Misprint {
     OtherReading,
     /// The first line counted where a refused line stands.
     FirstCounted,
+    /// One node above the limit accepted.
+    OneMore,
+    /// Leading zeros accepted.
+    LeadingZeros,
+    /// An unclosed line accepted.
+    Unclosed,
+    /// A line field after a refusal.
+    LineField,
+    /// A number taken in 64 bits, whatever comes before.
+    Wrapped,
 }
 
 /// Where the numbers are among the fields of a pair's line.
@@ -73,6 +86,29 @@ impl Misprint {
             Misprint::BitTurned => "bit_turned",
             Misprint::OtherReading => "other_reading",
             Misprint::FirstCounted => "first_counted",
+            Misprint::OneMore => "one_more",
+            Misprint::LeadingZeros => "leading_zeros",
+            Misprint::Unclosed => "unclosed",
+            Misprint::LineField => "line_field",
+            Misprint::Wrapped => "wrapped",
+        }
+    }
+
+    /// The input that the right program `longest` takes as the wrong one takes
+    /// this input.
+    fn taken(self, input: &[u8]) -> Vec<u8> {
+        let zeros = input.iter().take_while(|byte| **byte == b'0').count();
+        let digits = input.iter().take_while(|byte| byte.is_ascii_digit()).count();
+        let wrapped =
+            |value: u64, digit: &u8| value.wrapping_mul(10).wrapping_add(u64::from(digit - b'0'));
+        match self {
+            Misprint::LeadingZeros if zeros < digits => input[zeros..].to_vec(),
+            Misprint::Unclosed if digits > 0 && digits == input.len() => [input, b"\n"].concat(),
+            Misprint::Wrapped if zeros == 0 && digits > 0 => {
+                let value = input[..digits].iter().fold(0, wrapped);
+                [value.to_string().as_bytes(), &input[digits..]].concat()
+            }
+            _ => input.to_vec(),
         }
     }
 
@@ -94,6 +130,20 @@ impl Misprint {
                 Expected { output: closed(&lines), errors: errors.clone() }
             }
             Misprint::FirstCounted => Expected { output: output.clone(), errors: counted(errors) },
+            _ => Expected { output: self.longest(input, output), errors: errors.clone() },
+        }
+    }
+
+    /// What the wrong program `longest` prints where the right one prints this.
+    fn longest(self, input: &[u8], output: &[u8]) -> Vec<u8> {
+        match self {
+            Misprint::LineField if output.starts_with(b"refused") => {
+                [&output[..output.len() - 1], b"\t\n"].concat()
+            }
+            Misprint::OneMore if input == format!("{}\n", RULE_NODES + 1).as_bytes() => {
+                text::write_rule(&longest_rule(RULE_NODES + 1))
+            }
+            _ => longest_program(&self.taken(input)),
         }
     }
 }
