@@ -311,10 +311,17 @@ fn small_traces_with_those_bits_get_the_same_verdict() {
 fn large_traces_with_those_bits_get_the_same_verdict() {
     let mut random = Random::new(31);
     let mut most = 0;
-    for _ in 0..1500 {
-        let table = traces::recording(&mut random, CONTROLLERS, STATES);
-        let controller = random.below(table.controllers);
-        let rule = formulas::rule_for(&mut random, controller, RULE_NODES);
+    for number in 0..1500 {
+        let far = number % 2 == 0;
+        let (table, controller) = if far {
+            traces::steady(&mut random)
+        } else {
+            let table = traces::recording(&mut random, CONTROLLERS, STATES);
+            let controller = random.below(table.controllers);
+            (table, controller)
+        };
+        let rule = if far { formulas::far_rule_for } else { formulas::rule_for };
+        let rule = rule(&mut random, controller, RULE_NODES);
         let nodes: Vec<Node> = rule.nodes.iter().map(|word| Node::of_word(*word)).collect();
         let trace = check_trace(table.controllers, table.length, &table.masks, &table.states);
         let local = project(&trace.expect("accepted"), controller);
@@ -337,4 +344,5 @@ fn large_traces_with_those_bits_get_the_same_verdict() {
         }
     }
     println!("at most {most} pairs");
+    assert!(most > 300);
 }

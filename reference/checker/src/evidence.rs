@@ -12,13 +12,14 @@ use reference::generate::formulas::RuleTable;
 use reference::generate::random::Random;
 use reference::generate::traces::RecordingTable;
 use reference::generate::{formulas, traces};
-use reference::model::limits::{CONTROLLERS, RULE_NODES, STATES};
+use reference::model::limits::{CONTROLLERS, PAIRS, RULE_NODES, STATES};
 
 use crate::check::Check;
 use crate::difference::Difference;
 use crate::evidence::promise::{keeps, Small};
 use crate::evidence::walks::{telling_recordings, telling_rules, Walker};
 use crate::input::Input;
+use crate::library;
 use crate::plan::Plan;
 use crate::small::views::{Member, Views};
 use crate::tally::Section;
@@ -30,6 +31,8 @@ const RULES: usize = 8;
 const LARGER: usize = 500;
 /// Rules and recordings of a random batch.
 const INPUTS: usize = 10;
+/// Rules that look far of which one is taken.
+const DRAWS: usize = 16;
 
 /// A small local trace: its own mask, its places and the recordings that have it.
 pub struct Local {
@@ -126,7 +129,9 @@ impl<'a> Evidence<'a> {
     fn random(&self, check: &mut Check, batch: usize) -> Result<(), Difference> {
         let mut random = self.plan.random(Section::Evidence, batch);
         for _ in 0..INPUTS {
-            let (rule, recording) = accepted(&mut random);
+            let far = random.once_in(2);
+            let (rule, recording) =
+                if far { far_reaching(&mut random) } else { accepted(&mut random) };
             for weak in [true, false] {
                 keeps(check, &mut random, &rule, &recording, weak)?;
             }
@@ -159,6 +164,27 @@ fn accepted(random: &mut Random) -> (RuleTable, RecordingTable) {
     let recording = traces::recording(random, CONTROLLERS, STATES);
     let controller = random.below(recording.controllers);
     (formulas::rule_for(random, controller, RULE_NODES), recording)
+}
+
+/// How many pairs the library gives for both verdicts.
+fn pairs(rule: &RuleTable, recording: &RecordingTable) -> usize {
+    let mut lent = vec![0; PAIRS];
+    let (rule, recording) = (library::rule(rule), library::recording(recording));
+    [true, false]
+        .map(|weak| ragyvosin::evidence(rule, recording, weak, &mut lent).1[0])
+        .iter()
+        .sum()
+}
+
+/// Of some rules that look far, on long local traces that seldom change, the one
+/// with the most pairs: most have few.
+pub fn far_reaching(random: &mut Random) -> (RuleTable, RecordingTable) {
+    let draw = |_| {
+        let (recording, controller) = traces::steady(random);
+        (formulas::far_rule_for(random, controller, RULE_NODES), recording)
+    };
+    let drawn = (0..DRAWS).map(draw).max_by_key(|(rule, recording)| pairs(rule, recording));
+    drawn.expect("some are drawn")
 }
 
 /// A rule that tells the cases of a walk apart, on every local trace of up to

@@ -385,6 +385,9 @@ pub fn widest() -> Input {
     Input::evidence(rule(&nodes), steps(u32::MAX, &[0; 128]), false)
 }
 
+/// A rule, the words at its places, and its pairs: place and node of each.
+type Walked<'a> = (&'a RuleTable, &'a [u64], &'a [(usize, usize)]);
+
 /// The pairs of a rule on a recording, by place and node.
 fn evidence(
     check: &mut Check,
@@ -420,7 +423,7 @@ fn walked(check: &mut Check) -> Result<(), Difference> {
     let since = rule(&[p, q, (SINCE, 0, 1), (NEXT, 2, 0), (NEXT, 3, 0)]);
     let same = rule(&[p, p, (OR, 0, 1)]);
     for weak in [true, false] {
-        let both: [(&RuleTable, &[u64], &[(usize, usize)]); 7] = [
+        let both: [Walked; 7] = [
             (&until, &[1, 3, 3, 2], &[(0, 0), (1, 1)]),
             (&until, &[1, 1, 0, 2], &[(0, 1), (1, 1), (2, 0), (2, 1)]),
             (&since, &[2, 3, 1, 0], &[(1, 1), (2, 0)]),

@@ -81,6 +81,41 @@ pub fn rule_for(random: &mut Random, controller: usize, most: usize) -> RuleTabl
     RuleTable { controller, count, nodes }
 }
 
+/// An operator on the node before for a number, of a rule that looks far: it
+/// joins another atom, passes on, or looks over the places, the last ones from
+/// the first place on.
+fn far_node(random: &mut Random, number: usize, atoms: &mut Vec<usize>, last: bool) -> Node {
+    let before = number - 1;
+    let other = if random.once_in(2) { 0 } else { random.below(number) };
+    let ahead = [NOT, NEXT, UNTIL, UNTIL];
+    let any = [NOT, OR, OR, OR, OR, NEXT, PREV, UNTIL, UNTIL, SINCE, SINCE];
+    let kind = if last { random.pick(&ahead) } else { random.pick(&any) };
+    match kind {
+        OR => Node { kind, first: before, second: atoms.pop().unwrap_or(other) },
+        UNTIL | SINCE if random.once_in(4) => Node { kind, first: before, second: other },
+        UNTIL | SINCE => Node { kind, first: other, second: before },
+        _ => Node { kind, first: before, second: 0 },
+    }
+}
+
+/// An accepted rule of at most `most` nodes, three or more, that looks far: after
+/// `true` come atoms, then operators, each on the node before it.
+pub fn far_rule_for(random: &mut Random, controller: usize, most: usize) -> RuleTable {
+    let count = random.between(3, most);
+    let leaves = random.between(2, count / 2 + 1);
+    let leaf = |number| match number {
+        0 => Node { kind: TRUE, first: 0, second: 0 },
+        _ => Node { kind: ATOM, first: number % limits::ATOMS, second: 0 },
+    };
+    let mut nodes: Vec<u32> = (0..leaves).map(|number| leaf(number).word()).collect();
+    let mut atoms: Vec<usize> = (1..leaves - 1).collect();
+    for number in leaves..count {
+        let last = number + 3 > count;
+        nodes.push(far_node(random, number, &mut atoms, last).word());
+    }
+    RuleTable { controller, count, nodes }
+}
+
 /// An accepted rule of at most `most` nodes.
 pub fn rule(random: &mut Random, most: usize) -> RuleTable {
     let controller = random.below(limits::CONTROLLERS);

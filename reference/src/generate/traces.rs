@@ -284,6 +284,24 @@ fn recorded(
     RecordingTable { controllers, length, masks, states }
 }
 
+/// An accepted recording with a controller that runs often and words that seldom
+/// change, so that its local trace is long and much the same throughout.
+pub fn steady(random: &mut Random) -> (RecordingTable, usize) {
+    let steps = random.size(1, limits::STATES - 1);
+    let own = [0, u32::MAX, 0x5555_5555, 1, random.word()][random.below(5)];
+    let mut word = [0, 0, u32::MAX, random.word()][random.below(4)];
+    let mut words = Vec::new();
+    for _ in 0..=steps {
+        words.push(word);
+        if random.once_in(16) {
+            word ^= 1 << random.below(limits::ATOMS);
+        }
+    }
+    let last = words.pop().expect("a place") & own;
+    let controller = random.below(limits::CONTROLLERS);
+    (recorded(random, controller, own, &words, last), controller)
+}
+
 /// Another recording that has this controller, with the same local trace and
 /// the same mask of own atoms for it.
 pub fn rescheduled(

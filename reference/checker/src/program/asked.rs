@@ -1,13 +1,14 @@
 //! Inputs of the program `why`: the word `weak` or `strong`, closed, before the
 //! input of the program of document 01.
 
-use reference::generate::endings::with_returns;
+use reference::generate::endings::{any_endings, with_returns};
 use reference::generate::random::Random;
 use reference::generate::texts::{self, program_input, recording_text, rule_text};
 use reference::model::limits::PROGRAM_INPUT;
 
 use crate::check::Check;
 use crate::difference::Difference;
+use crate::evidence::far_reaching;
 use crate::input::Input;
 use crate::plan::Plan;
 use crate::program::judged::{accepted_input, damaged_input, edges, ending_edges, partings};
@@ -119,10 +120,17 @@ fn first_line(random: &mut Random) -> Vec<u8> {
     }
 }
 
+/// Texts with many pairs.
+fn far_texts(random: &mut Random) -> Vec<u8> {
+    let (rule, recording) = far_reaching(random);
+    any_endings(random, program_input(&rule_text(&rule), &recording_text(&recording)))
+}
+
 /// Texts of any kind, accepted or damaged, after a first line.
 fn any_input(random: &mut Random) -> Vec<u8> {
     let texts = match random.below(6) {
-        0..=2 => accepted_input(random),
+        0 | 1 => far_texts(random),
+        2 => accepted_input(random),
         3 => damaged_input(random),
         _ => texts::any_program_input(random),
     };
