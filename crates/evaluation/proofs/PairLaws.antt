@@ -1,14 +1,14 @@
 -- One law for each return of the functions on pairs.
-use mathlib.Core.Path.{_≡_, refl, sym, ap, ap₂}
+use mathlib.Core.Path.{_≡_, refl, sym, ap, ap₂, _∙_}
 use mathlib.Core.Bool.{true, false, not, _||_}
 use mathlib.Core.List.{List}
 use Prim.Native.Nat.{ℕ, _+_}
 use borrow.Author.Needs.{needs}
 use Rattle.definitions.specs.Bounded.{tabulate}
-use Rattle.definitions.specs.Nodes.{kindOf}
+use Rattle.definitions.specs.Nodes.{Until, kindOf}
 use Rattle.definitions.specs.Readings.{nextAt, untilAt, prevAt, sinceAt}
 use Rattle.mark_words.specs.Marks.{markAt}
-use Rattle.rows.specs.Marks.{marks, Made}
+use Rattle.rows.specs.Marks.{marks, Whole, Made}
 use Rattle.rows.specs.Stored.{rowAt}
 use Rattle.rows.specs.declared.row.Row.{Row}
 use Rattle.rows.proofs.RowLaws.{whole-made, not-on, or-on, next-on, until-on, prev-on, since-on}
@@ -77,15 +77,9 @@ module _ (kind : ℕ) (p q : Pair) (w s : Row) (o : Operable p q) where
     strong = next-on (p .strong) s (p .weak .count) (marks (p .strong)) false b ps;
   })
 
-  pub until-pair : kind ≡ 5
-      → Made w (p .weak .count) (tabulate (p .weak .count) (untilAt true (p .weak .count) (markAt (marks (p .weak))) (markAt (marks (q .weak)))))
-      → Made s (p .strong .count) (tabulate (p .strong .count) (untilAt false (p .strong .count) (markAt (marks (p .strong))) (markAt (marks (q .strong)))))
-      → Operated kind p q w s
-  unfolding operated
-  until-pair e a b = rw (e, kind-until) (record {
-    weak = until-on (p .weak) (q .weak) w (p .weak .count) (marks (p .weak)) (marks (q .weak)) true a pw qw;
-    strong = until-on (p .strong) (q .strong) s (p .weak .count) (marks (p .strong)) (marks (q .strong)) false b ps qs;
-  })
+  pub until-pair : kind ≡ 5 → (r : Pair) → PairMade r (p .weak .count) (operated Until (p .weak .count) (rowsIn p) (rowsIn q))
+      → PairMade r (p .weak .count) (operated (kindOf kind) (p .weak .count) (rowsIn p) (rowsIn q))
+  until-pair e r m = rw (e, kind-until) m
 
   pub prev-pair : kind ≡ 6
       → Made w (p .weak .count) (tabulate (p .weak .count) (prevAt (markAt (marks (p .weak)))))
@@ -105,6 +99,39 @@ module _ (kind : ℕ) (p q : Pair) (w s : Row) (o : Operable p q) where
   since-pair n2 n3 n4 n5 n6 h a b = rw (kind-since kind n2 n3 n4 n5 n6 h) (record {
     weak = since-on (p .weak) (q .weak) w (p .weak .count) (marks (p .weak)) (marks (q .weak)) a pw qw;
     strong = since-on (p .strong) (q .strong) s (p .weak .count) (marks (p .strong)) (marks (q .strong)) b ps qs;
+  })
+
+-- until, on copies of both pairs
+module _ (p q a b : Pair) (o : Operable p q) (ea : a ≡ p) (eb : b ≡ q) where
+  copied : Operable a b
+  copied = rw (ea, eb) o
+
+  pub first-weak : Whole (a .weak)
+  first-weak = copied .firstWeak
+
+  pub second-weak : Whole (b .weak)
+  second-weak = copied .secondWeak
+
+  pub even-weak : a .weak .count ≡ b .weak .count
+  even-weak = sym (copied .secondFirst)
+
+  pub first-strong : Whole (a .strong)
+  first-strong = copied .firstStrong
+
+  pub second-strong : Whole (b .strong)
+  second-strong = copied .secondStrong
+
+  pub even-strong : a .strong .count ≡ b .strong .count
+  even-strong = copied .firstEven ∙ sym (copied .secondEven)
+
+  pub untils-made : (w s : Row)
+      → Made w (a .weak .count) (tabulate (a .weak .count) (untilAt true (a .weak .count) (markAt (marks (a .weak))) (markAt (marks (b .weak)))))
+      → Made s (a .strong .count) (tabulate (a .strong .count) (untilAt false (a .strong .count) (markAt (marks (a .strong))) (markAt (marks (b .strong)))))
+      → PairMade (pairOf w s) (p .weak .count) (operated Until (p .weak .count) (rowsIn p) (rowsIn q))
+  unfolding operated
+  untils-made w s u v = rw (← ea, ← eb) (record {
+    weak = until-on (a .weak) (b .weak) w (a .weak .count) (marks (a .weak)) (marks (b .weak)) true u (pw 5 a b w s copied) (qw 5 a b w s copied);
+    strong = until-on (a .strong) (b .strong) s (a .weak .count) (marks (a .strong)) (marks (b .strong)) false v (ps 5 a b w s copied) (qs 5 a b w s copied);
   })
 
 pub ruleset pair-laws = (needs, pair-at, not-pair, or-pair, next-pair, until-pair, prev-pair, since-pair)

@@ -4,7 +4,7 @@ ghost use mathlib.Core.Bool.{false};
 ghost use Prim.Native.Nat.{_+_, _≤_};
 ghost use lib.ListN.{length};
 ghost use Rattle.definitions.specs.Limits.{pairWords};
-ghost use Rattle.definitions.specs.Nodes.{kindOf};
+ghost use Rattle.definitions.specs.Nodes.{Until, kindOf};
 ghost use Rattle.evaluation.specs.Nodes.{isLeaf};
 ghost use Rattle.evaluation.specs.Pairs.{rowsIn, PairMade, Counted, Operable, operated, pairAt};
 use formulas::node::Node;
@@ -52,6 +52,21 @@ pub fn counted(p: Pair, n: usize) -> Pair
     }
 }
 
+// Until of each reading, on copies: rows that are handed to a call lie in memory, and so only until's do.
+fn untils(p: Pair, q: Pair) -> Pair
+    requires { ⌜ Operable p q ⌝ }
+    ensures { λ r. ⌜ PairMade r (p .weak .count) (operated Until (p .weak .count) (rowsIn p) (rowsIn q)) ⌝ }
+{
+    let weak = p.weak;
+    let n = weak.count;
+    let a = counted(p, n);
+    let b = counted(q, n);
+    Pair {
+        weak: a.weak.until(b.weak, true),
+        strong: a.strong.until(b.strong, false),
+    }
+}
+
 // The rows of kinds 2 to 7, each reading by itself; not swaps the readings.
 pub fn operate(kind: u8, p: Pair, q: Pair) -> Pair
     requires { ⌜ (isLeaf (kindOf kind) ≡ false) × (Operable p q) ⌝ }
@@ -76,10 +91,7 @@ pub fn operate(kind: u8, p: Pair, q: Pair) -> Pair
         };
     }
     if kind == Node::UNTIL {
-        return Pair {
-            weak: p.weak.until(q.weak, true),
-            strong: p.strong.until(q.strong, false),
-        };
+        return untils(p, q);
     }
     if kind == Node::PREV {
         return Pair {

@@ -424,6 +424,67 @@ until-last : (c m e u : ℕ) → u ≡ nodeWord (node (untilKind c) (m - 1) (e -
 unfolding infixLast untilKind untilSign pick
 until-last c m e u q = by-test (eqb c 11) (λ z. rw (q, z)) (λ z. rw (q, z))
 
+-- these do not ask at which level the operands were read
+module _ (l : Level) (b left at made a m c : ℕ) (cs out o₁ : List ℕ) (w : Ready left cs at made out) (r₁ : Read l b cs at made out a m o₁) (is : c ≡ getD cs a 0) where
+  module _ (lo : 11 ≤ c) (hi : c ≤ 12) where
+    until-joins : Joins cs a (untilSign c)
+    until-joins = joins cs a c (untilSign c) is (omega arith) (until-sign c lo hi)
+
+    until-mid : Laid (words (infixMiddle (untilSign c) m)) o₁ m m o₁
+    until-mid = relaid (until-none c m) (laid-none o₁ m (omega (arith, until-adds c, infix-room l b left at made a m (untilSign c) cs out o₁ w r₁ until-joins, infix-held l b left at made a m (untilSign c) cs out o₁ w r₁ until-joins)))
+
+    pub untils-index : Fits w64 (a + 1)
+    untils-index = infix-index l b left at made a m (untilSign c) cs out o₁ w r₁ until-joins
+
+    pub untils-falls : (t : ℕ) → measure (length cs) at 3 ≡ t → measure (length cs) (a + 1) 3 < t
+    untils-falls t e = infix-falls l b left at made a m (untilSign c) cs out o₁ w r₁ until-joins t 3 3 e (omega arith)
+
+    pub untils-falls-more : (t : ℕ) → measure (length cs) at 3 ≡ t → measure (length cs) (a + 1) 2 < t
+    untils-falls-more t e = infix-falls l b left at made a m (untilSign c) cs out o₁ w r₁ until-joins t 3 2 e (omega arith)
+
+    pub untils-ready : Ready left cs (a + 1) m o₁
+    untils-ready = infix-ready l b left at made a m (untilSign c) cs out o₁ w r₁ until-joins m o₁ until-mid
+
+    pub untils-some : 1 ≤ m
+    untils-some = infix-behind l b left at made a m (untilSign c) cs out o₁ w r₁ until-joins
+
+    module _ (l₂ : Level) (b₂ a′ e : ℕ) (o₃ : List ℕ) (r₂ : Read l₂ b₂ cs (a + 1) m o₁ a′ e o₃) where
+      until-order : m < e
+      until-order = infix-order l b left at made a m (untilSign c) cs out o₁ w r₁ until-joins m o₁ until-mid l₂ b₂ a′ e o₃ r₂
+
+      until-room-after : e + 1 ≤ maxRuleNodes
+      until-room-after =
+          omega (
+            arith,
+            infix-after l b left at made a m (untilSign c) cs out o₁ w r₁ until-joins m o₁ until-mid l₂ b₂ a′ e o₃ r₂,
+            until-adds c,
+            infix-adds (untilSign c) m e,
+            words-length (infixMiddle (untilSign c) m),
+            ap length (until-none c m),
+          )
+
+      pub untils-some-after : 1 ≤ e
+      untils-some-after = omega (arith, until-order)
+
+      pub untils-low-first : m - 1 < operandSpan
+      untils-low-first = omega (arith, until-order, until-room-after)
+
+      pub untils-low-second : e - 1 < operandSpan
+      untils-low-second = omega (arith, until-room-after)
+
+      pub untils-write-after : e < length o₃
+      untils-write-after = omega (arith, until-room-after, infix-held-after l b left at made a m (untilSign c) cs out o₁ w r₁ until-joins m o₁ until-mid l₂ b₂ a′ e o₃ r₂)
+
+      pub untils-next-after : Fits w64 (e + 1)
+      untils-next-after = record { fits = omega (arith, until-room-after) }
+
+      module _ (u : ℕ) (p : u ≡ nodeWord (node (untilKind c) (m - 1) (e - 1))) where
+        until-end : Laid (words (infixLast (untilSign c) m e)) o₃ e (e + 1) (set o₃ e u)
+        until-end = relaid (until-last c m e u p) (laid-one u o₃ e untils-write-after)
+
+        pub untils-kept : length (set o₃ e u) ≡ length out
+        untils-kept = infix-kept l b left at made a m (untilSign c) cs out o₁ w r₁ until-joins m o₁ until-mid l₂ b₂ a′ e o₃ r₂ (e + 1) (set o₃ e u) until-end ∙ r₁ .laid .kept
+
 module _ (left at made a m c : ℕ) (cs out o₁ : List ℕ) (w : Ready left cs at made out) (r₁ : Read Prefixes 5 cs at made out a m o₁) (is : c ≡ getD cs a 0) where
   untils-alone : (tight (ahead cs a) ≡ 4 → ⊥) → Read Untils 4 cs at made out a m o₁
   untils-alone n = record { tree = r₁ .tree; phrase = noUntil (r₁ .phrase); stops = below (tight (ahead cs a)) 4 (r₁ .stops) n; laid = r₁ .laid }
@@ -434,70 +495,24 @@ module _ (left at made a m c : ℕ) (cs out o₁ : List ℕ) (w : Ready left cs 
   pub untils-stop-high : 12 < c → Read Untils 4 cs at made out a m o₁
   untils-stop-high h = untils-alone (λ e. absurd (omega (arith, bound c .is-4-high (sym (tight-ahead cs a c is) ∙ e))))
 
-  module _ (lo : 11 ≤ c) (hi : c ≤ 12) where
-    until-joins : Joins cs a (untilSign c)
-    until-joins = joins cs a c (untilSign c) is (omega arith) (until-sign c lo hi)
+  pub untils-read : 11 ≤ c → c ≤ 12 → (a′ e : ℕ) (o₃ : List ℕ) → Read Untils 4 cs (a + 1) m o₁ a′ e o₃
+      → (u : ℕ) → u ≡ nodeWord (node (untilKind c) (m - 1) (e - 1)) → Read Untils 4 cs at made out a′ (e + 1) (set o₃ e u)
+  untils-read lo hi a′ e o₃ r₂ u p =
+      let j = until-joins Prefixes 5 left at made a m c cs out o₁ w r₁ is lo hi in
+      let mid = until-mid Prefixes 5 left at made a m c cs out o₁ w r₁ is lo hi in
+      record {
+        tree = two (untilSign c) (r₁ .tree) (r₂ .tree);
+        phrase =
+            until-phrase c (ahead cs at) (ahead cs (a + 1)) (ahead cs a′) (r₁ .tree) (r₂ .tree)
+            (infix-first Prefixes 5 left at made a m (untilSign c) cs out o₁ w r₁ j m o₁ mid Untils 4 a′ e o₃ r₂) (r₂ .phrase);
+        stops = r₂ .stops;
+        laid = infix-laid Prefixes 5 left at made a m (untilSign c) cs out o₁ w r₁ j m o₁ mid Untils 4 a′ e o₃ r₂ (e + 1) (set o₃ e u)
+            (until-end Prefixes 5 left at made a m c cs out o₁ w r₁ is lo hi Untils 4 a′ e o₃ r₂ u p);
+      }
 
-    until-mid : Laid (words (infixMiddle (untilSign c) m)) o₁ m m o₁
-    until-mid = relaid (until-none c m) (laid-none o₁ m (omega (arith, until-adds c, infix-room Prefixes 5 left at made a m (untilSign c) cs out o₁ w r₁ until-joins, infix-held Prefixes 5 left at made a m (untilSign c) cs out o₁ w r₁ until-joins)))
+pub ruleset untils-laws = (needs, untils-some, untils-some-after, untils-next-after, untils-kept)
 
-    pub untils-index : Fits w64 (a + 1)
-    untils-index = infix-index Prefixes 5 left at made a m (untilSign c) cs out o₁ w r₁ until-joins
-
-    pub untils-falls : (t : ℕ) → measure (length cs) at 3 ≡ t → measure (length cs) (a + 1) 3 < t
-    untils-falls t e = infix-falls Prefixes 5 left at made a m (untilSign c) cs out o₁ w r₁ until-joins t 3 3 e (omega arith)
-
-    pub untils-ready : Ready left cs (a + 1) m o₁
-    untils-ready = infix-ready Prefixes 5 left at made a m (untilSign c) cs out o₁ w r₁ until-joins m o₁ until-mid
-
-    pub untils-some : 1 ≤ m
-    untils-some = infix-behind Prefixes 5 left at made a m (untilSign c) cs out o₁ w r₁ until-joins
-
-    module _ (a′ e : ℕ) (o₃ : List ℕ) (r₂ : Read Untils 4 cs (a + 1) m o₁ a′ e o₃) where
-      until-order : m < e
-      until-order = infix-order Prefixes 5 left at made a m (untilSign c) cs out o₁ w r₁ until-joins m o₁ until-mid Untils 4 a′ e o₃ r₂
-
-      until-room-after : e + 1 ≤ maxRuleNodes
-      until-room-after =
-          omega (
-            arith,
-            infix-after Prefixes 5 left at made a m (untilSign c) cs out o₁ w r₁ until-joins m o₁ until-mid Untils 4 a′ e o₃ r₂,
-            until-adds c,
-            infix-adds (untilSign c) m e,
-            words-length (infixMiddle (untilSign c) m),
-            ap length (until-none c m),
-          )
-
-      pub untils-some-after : 1 ≤ e
-      untils-some-after = omega (arith, until-order)
-
-      pub untils-low-after : (m - 1 < operandSpan) × (e - 1 < operandSpan)
-      untils-low-after = (omega (arith, until-order, until-room-after), omega (arith, until-room-after))
-
-      pub untils-write-after : e < length o₃
-      untils-write-after = omega (arith, until-room-after, infix-held-after Prefixes 5 left at made a m (untilSign c) cs out o₁ w r₁ until-joins m o₁ until-mid Untils 4 a′ e o₃ r₂)
-
-      pub untils-next-after : Fits w64 (e + 1)
-      untils-next-after = record { fits = omega (arith, until-room-after) }
-
-      module _ (u : ℕ) (p : u ≡ nodeWord (node (untilKind c) (m - 1) (e - 1))) where
-        until-end : Laid (words (infixLast (untilSign c) m e)) o₃ e (e + 1) (set o₃ e u)
-        until-end = relaid (until-last c m e u p) (laid-one u o₃ e untils-write-after)
-
-        pub untils-kept : length (set o₃ e u) ≡ length out
-        untils-kept = infix-kept Prefixes 5 left at made a m (untilSign c) cs out o₁ w r₁ until-joins m o₁ until-mid Untils 4 a′ e o₃ r₂ (e + 1) (set o₃ e u) until-end ∙ r₁ .laid .kept
-
-        pub untils-read : Read Untils 4 cs at made out a′ (e + 1) (set o₃ e u)
-        untils-read = record {
-          tree = two (untilSign c) (r₁ .tree) (r₂ .tree);
-          phrase =
-              until-phrase c (ahead cs at) (ahead cs (a + 1)) (ahead cs a′) (r₁ .tree) (r₂ .tree)
-              (infix-first Prefixes 5 left at made a m (untilSign c) cs out o₁ w r₁ until-joins m o₁ until-mid Untils 4 a′ e o₃ r₂) (r₂ .phrase);
-          stops = r₂ .stops;
-          laid = infix-laid Prefixes 5 left at made a m (untilSign c) cs out o₁ w r₁ until-joins m o₁ until-mid Untils 4 a′ e o₃ r₂ (e + 1) (set o₃ e u) until-end;
-        }
-
-pub ruleset untils-laws = (needs, untils-prefixes-falls, untils-stop-low, untils-stop-high, untils-index, untils-falls, untils-ready, untils-some, untils-some-after, untils-low-after, untils-write-after, untils-next-after, untils-kept, untils-read)
+pub ruleset untils-falling = (untils-prefixes-falls, untils-falls, untils-falls-more)
 
 -- ---- a turn of the loops of `ors` and `ands`: whatever was lent, what was read before the loop is read on
 pub record Turn (l : Level) (b left : ℕ) (cs : List ℕ) (at made a₀ m₀ : ℕ) (o₀ : List ℕ) (a m : ℕ) (o : List ℕ) : Type 0 where
@@ -789,6 +804,10 @@ module _ (left at made c : ℕ) (cs out : List ℕ) (w : Ready left cs at made o
     unfolding measure
     prefixes-falls t e = omega (arith, prefix-inside)
 
+    pub prefixes-falls-less : (t : ℕ) → measure (length cs) at 2 ≡ t → measure (length cs) (at + 1) 3 < t
+    unfolding measure
+    prefixes-falls-less t e = omega (arith, prefix-inside)
+
     module _ (n : ℕ) (o₁ : List ℕ) (first : Laid (words (prefixFirst (prefixOf c))) out made n o₁) where
       pub prefixes-ready : Ready left cs (at + 1) n o₁
       prefixes-ready = record {
@@ -802,7 +821,7 @@ module _ (left at made c : ℕ) (cs out : List ℕ) (w : Ready left cs at made o
         short = w .short;
       }
 
-      module _ (a e : ℕ) (o₂ : List ℕ) (r : Read Prefixes 5 cs (at + 1) n o₁ a e o₂) where
+      module _ (l : Level) (b a e : ℕ) (o₂ : List ℕ) (r : Read l b cs (at + 1) n o₁ a e o₂) where
         pub prefixes-last : SpaceLast c made e o₂
         prefixes-last = record {
           low = lo;
@@ -812,18 +831,20 @@ module _ (left at made c : ℕ) (cs out : List ℕ) (w : Ready left cs at made o
           held = going prefixes-ready r .held;
         }
 
-        pub prefixes-read : (f : ℕ) (o₃ : List ℕ) → Laid (words (prefixLast (prefixOf c) made e)) o₂ e f o₃ → Read Prefixes 5 cs at made out a f o₃
-        prefixes-read f o₃ last = record {
-          tree = one (prefixOf c) (r .tree);
-          phrase = rw prefix-ahead (prefix (prefixOf c) (r .phrase));
-          stops = r .stops;
-          laid = relaid (prefix-words (prefixOf c) (r .tree) made n e (first .next) (read-size r)) (laid-seq first (laid-seq (r .laid) last));
-        }
+      pub prefixes-read : (a e : ℕ) (o₂ : List ℕ) → Read Prefixes 5 cs (at + 1) n o₁ a e o₂ → (f : ℕ) (o₃ : List ℕ) → Laid (words (prefixLast (prefixOf c) made e)) o₂ e f o₃ → Read Prefixes 5 cs at made out a f o₃
+      prefixes-read a e o₂ r f o₃ last = record {
+        tree = one (prefixOf c) (r .tree);
+        phrase = rw prefix-ahead (prefix (prefixOf c) (r .phrase));
+        stops = r .stops;
+        laid = relaid (prefix-words (prefixOf c) (r .tree) made n e (first .next) (read-size r)) (laid-seq first (laid-seq (r .laid) last));
+      }
 
 pub prefixes-primary : (at made a m : ℕ) (cs out o : List ℕ) → Read Primaries 5 cs at made out a m o → Read Prefixes 5 cs at made out a m o
 prefixes-primary at made a m cs out o r = record { tree = r .tree; phrase = noPrefix (r .phrase); stops = r .stops; laid = r .laid }
 
-pub ruleset prefixes-laws = (needs, prefixes-primaries-falls, primed-low, primed-high, prefixes-first, prefixes-index, prefixes-falls, prefixes-ready, prefixes-last, prefixes-read, prefixes-primary)
+pub ruleset prefixes-laws = (needs, prefixes-primaries-falls, primed-low, primed-high, prefixes-first, prefixes-index)
+
+pub ruleset prefixes-falling = (prefixes-falls, prefixes-falls-less)
 
 -- ---- `primaries`
 flat-none : (k : ℕ) → flat [] operand k ≡ true → ⊥

@@ -98,12 +98,14 @@ fn untils(codes: &[u8], at: usize, left: usize, made: usize, nodes: &mut [u32]) 
     if Sign::SINCE < c {
         return Spot { at: a, made: m };
     }
-    let q = untils(codes, a + 1, left, m, nodes);
+    let next = a + 1;
+    let q = untils(codes, next, left, m, nodes);
     let e = q.made;
+    let end = e + 1;
     nodes[e] = word::until(c, m - 1, e - 1);
     Spot {
         at: q.at,
-        made: e + 1,
+        made: end,
     }
 }
 
@@ -120,7 +122,8 @@ fn prefixes(codes: &[u8], at: usize, left: usize, made: usize, nodes: &mut [u32]
         return primaries(codes, at, left, made, nodes);
     }
     let n = write::open_prefix(c, made, nodes);
-    let p = prefixes(codes, at + 1, left, n, nodes);
+    let next = at + 1;
+    let p = prefixes(codes, next, left, n, nodes);
     let e = p.made;
     let end = write::close_prefix(c, made, e, nodes);
     Spot {

@@ -29,11 +29,8 @@ next-requires-2 c κs = search pair-laws
 returns-3 : tie.Need-returns-3
 returns-3 c = search next-pair
 
-until-requires : tie.Need-until-requires
-until-requires c κs = search pair-laws
-
-until-requires-2 : tie.Need-until-requires-2
-until-requires-2 c κs = search pair-laws
+untils-requires : tie.Need-untils-requires
+untils-requires c κs = search
 
 returns-4 : tie.Need-returns-4
 returns-4 c = search until-pair
@@ -69,8 +66,7 @@ operate-spec =
     next-requires
     next-requires-2
     returns-3
-    until-requires
-    until-requires-2
+    untils-requires
     returns-4
     prev-requires
     prev-requires-2

@@ -1,8 +1,7 @@
 use Prim.Native.Nat.{_-_}
 use lib.ListN.{length}
 use Rattle.definitions.specs.OneLineGrammar.{Ors, Ands}
-use Rattle.phrases.proofs.ReadLaws.{measure, Turn, arrows-laws, ors-laws, ands-laws, untils-laws, prefixes-laws, primaries-laws}
-use Rattle.phrases.proofs.ReadLaws.{ands-again, ands-dual, ands-falls, ands-index, ands-less, ands-low-after, ands-ready, ands-write, arrows-falls, arrows-index, arrows-low-after, arrows-read, arrows-ready, arrows-write-after, ors-again, ors-falls, ors-less, ors-low-after, ors-ready, ors-write-after, prefixes-falls, prefixes-last, prefixes-ready, untils-falls, untils-low-after, untils-read, untils-ready, untils-write-after}
+use Rattle.phrases.proofs.ReadLaws.{Turn, ands-again, ands-dual, ands-falls, ands-index, ands-laws, ands-less, ands-low-after, ands-ready, ands-write, arrows-falls, arrows-index, arrows-laws, arrows-low-after, arrows-read, arrows-ready, arrows-write-after, measure, ors-again, ors-falls, ors-laws, ors-less, ors-low-after, ors-ready, ors-write-after, prefixes-falling, prefixes-last, prefixes-laws, prefixes-primary, prefixes-read, prefixes-ready, primaries-laws, untils-falling, untils-index, untils-laws, untils-low-first, untils-low-second, untils-read, untils-ready, untils-stop-high, untils-stop-low, untils-write-after}
 use Prim.Native.Nat.{ℕ, _<_}
 use borrow.Fn.Kinds.{In}
 use borrow.Fn.PlainCycle.{Measures, is, falls, and}
@@ -92,6 +91,24 @@ untils-at t = and 2 untils-kinds.ps (is 2 untils-kinds.ps μ-untils t) untils.Pr
 abbrev untils-below : ℕ → In 2 untils-kinds.ps
 untils-below t = and 2 untils-kinds.ps (falls 2 untils-kinds.ps _<_ μ-untils t) untils.Pre
 
+abbrev ands-claims : ℕ → ands-lts.Claims
+ands-claims t = (untils-below t, untils.Post, peek-reads.Asked, peek-reads.Learnt, not-reads.Asked, not-reads.Learnt, or-reads.Asked, or-reads.Learnt, dual-reads.Asked, dual-reads.Learnt)
+
+abbrev arrows-claims : ℕ → arrows-lts.Claims
+arrows-claims t = (ors-below t, ors.Post, peek-reads.Asked, peek-reads.Learnt, not-reads.Asked, not-reads.Learnt, arrows-below t, arrows.Post, or-reads.Asked, or-reads.Learnt)
+
+abbrev ors-claims : ℕ → ors-lts.Claims
+ors-claims t = (ands-below t, ands.Post, peek-reads.Asked, peek-reads.Learnt, or-reads.Asked, or-reads.Learnt)
+
+abbrev prefixes-claims : ℕ → prefixes-lts.Claims
+prefixes-claims t = (peek-reads.Asked, peek-reads.Learnt, primaries-below t, primaries.Post, open-prefix-reads.Asked, open-prefix-reads.Learnt, prefixes-below t, prefixes.Post, close-prefix-reads.Asked, close-prefix-reads.Learnt)
+
+abbrev primaries-claims : ℕ → primaries-lts.Claims
+primaries-claims t = (peek-reads.Asked, peek-reads.Learnt, arrows-below t, arrows.Post, truth-reads.Asked, truth-reads.Learnt, atom-reads.Asked, atom-reads.Learnt)
+
+abbrev untils-claims : ℕ → untils-lts.Claims
+untils-claims t = (prefixes-below t, prefixes.Post, peek-reads.Asked, peek-reads.Learnt, untils-below t, untils.Post, until-reads.Asked, until-reads.Learnt)
+
 abbrev ands-Inv-loop : ands-lts.InvT-loop
 ands-Inv-loop codes at left made nodes₀ a₀ m₀ nodes a m = Turn Ands 4 left codes at made a₀ m₀ nodes₀ a m nodes
 
@@ -99,513 +116,139 @@ abbrev ands-μ-loop : ands-lts.MeasureT-loop
 ands-μ-loop codes at left made nodes₀ a₀ m₀ nodes a m = length codes - a
 
 -- src/read.rt:68:9
-ands-untils-requires : (t : ℕ) → ands-lts.Need-untils-requires (
-  untils-below t,
-  untils.Post,
-  peek-reads.Asked,
-  peek-reads.Learnt,
-  not-reads.Asked,
-  not-reads.Learnt,
-  or-reads.Asked,
-  or-reads.Learnt,
-  dual-reads.Asked,
-  dual-reads.Learnt,
-) (ands-at t) ands.Post ands-Inv-loop ands-μ-loop
+ands-untils-requires : (t : ℕ) → ands-lts.Need-untils-requires (ands-claims t) (ands-at t) ands.Post ands-Inv-loop ands-μ-loop
 ands-untils-requires t c κs = search ands-laws
 
 -- src/read.rt:71:5
-ands-loop-holds : (t : ℕ) → ands-lts.Need-loop-holds (
-  untils-below t,
-  untils.Post,
-  peek-reads.Asked,
-  peek-reads.Learnt,
-  not-reads.Asked,
-  not-reads.Learnt,
-  or-reads.Asked,
-  or-reads.Learnt,
-  dual-reads.Asked,
-  dual-reads.Learnt,
-) (ands-at t) ands.Post ands-Inv-loop ands-μ-loop
+ands-loop-holds : (t : ℕ) → ands-lts.Need-loop-holds (ands-claims t) (ands-at t) ands.Post ands-Inv-loop ands-μ-loop
 ands-loop-holds t c = search ands-laws
 
 -- src/read.rt:71:11
-ands-peek-requires : (t : ℕ) → ands-lts.Need-peek-requires (
-  untils-below t,
-  untils.Post,
-  peek-reads.Asked,
-  peek-reads.Learnt,
-  not-reads.Asked,
-  not-reads.Learnt,
-  or-reads.Asked,
-  or-reads.Learnt,
-  dual-reads.Asked,
-  dual-reads.Learnt,
-) (ands-at t) ands.Post ands-Inv-loop ands-μ-loop
+ands-peek-requires : (t : ℕ) → ands-lts.Need-peek-requires (ands-claims t) (ands-at t) ands.Post ands-Inv-loop ands-μ-loop
 ands-peek-requires t c κs = search ands-laws
 
 -- src/read.rt:72:30
-ands-sub-not : (t : ℕ) → ands-lts.Need-sub-not (
-  untils-below t,
-  untils.Post,
-  peek-reads.Asked,
-  peek-reads.Learnt,
-  not-reads.Asked,
-  not-reads.Learnt,
-  or-reads.Asked,
-  or-reads.Learnt,
-  dual-reads.Asked,
-  dual-reads.Learnt,
-) (ands-at t) ands.Post ands-Inv-loop ands-μ-loop
+ands-sub-not : (t : ℕ) → ands-lts.Need-sub-not (ands-claims t) (ands-at t) ands.Post ands-Inv-loop ands-μ-loop
 ands-sub-not t c = search ands-laws
 
 -- src/read.rt:72:20
-ands-not-requires : (t : ℕ) → ands-lts.Need-not-requires (
-  untils-below t,
-  untils.Post,
-  peek-reads.Asked,
-  peek-reads.Learnt,
-  not-reads.Asked,
-  not-reads.Learnt,
-  or-reads.Asked,
-  or-reads.Learnt,
-  dual-reads.Asked,
-  dual-reads.Learnt,
-) (ands-at t) ands.Post ands-Inv-loop ands-μ-loop
+ands-not-requires : (t : ℕ) → ands-lts.Need-not-requires (ands-claims t) (ands-at t) ands.Post ands-Inv-loop ands-μ-loop
 ands-not-requires t c κs = search ands-laws
 
 -- src/read.rt:72:9
-ands-mul-nodes : (t : ℕ) → ands-lts.Need-mul-nodes (
-  untils-below t,
-  untils.Post,
-  peek-reads.Asked,
-  peek-reads.Learnt,
-  not-reads.Asked,
-  not-reads.Learnt,
-  or-reads.Asked,
-  or-reads.Learnt,
-  dual-reads.Asked,
-  dual-reads.Learnt,
-) (ands-at t) ands.Post ands-Inv-loop ands-μ-loop
+ands-mul-nodes : (t : ℕ) → ands-lts.Need-mul-nodes (ands-claims t) (ands-at t) ands.Post ands-Inv-loop ands-μ-loop
 ands-mul-nodes t c = search ands-laws
 
 -- src/read.rt:72:9
-ands-slice-write-nodes : (t : ℕ) → ands-lts.Need-slice-write-nodes (
-  untils-below t,
-  untils.Post,
-  peek-reads.Asked,
-  peek-reads.Learnt,
-  not-reads.Asked,
-  not-reads.Learnt,
-  or-reads.Asked,
-  or-reads.Learnt,
-  dual-reads.Asked,
-  dual-reads.Learnt,
-) (ands-at t) ands.Post ands-Inv-loop ands-μ-loop
+ands-slice-write-nodes : (t : ℕ) → ands-lts.Need-slice-write-nodes (ands-claims t) (ands-at t) ands.Post ands-Inv-loop ands-μ-loop
 ands-slice-write-nodes t c = search ands-laws
 
 -- src/read.rt:73:31
-ands-add-untils : (t : ℕ) → ands-lts.Need-add-untils (
-  untils-below t,
-  untils.Post,
-  peek-reads.Asked,
-  peek-reads.Learnt,
-  not-reads.Asked,
-  not-reads.Learnt,
-  or-reads.Asked,
-  or-reads.Learnt,
-  dual-reads.Asked,
-  dual-reads.Learnt,
-) (ands-at t) ands.Post ands-Inv-loop ands-μ-loop
+ands-add-untils : (t : ℕ) → ands-lts.Need-add-untils (ands-claims t) (ands-at t) ands.Post ands-Inv-loop ands-μ-loop
 ands-add-untils t c = ands-index _ _ _ _ _ _ _ _ _ _ _ (c .before .before .before .before .before .before .before .before .before .before .pre .1) (c .before .before .before .before .before .before .untils .ensures) (c .before .before .before .loop .inv) _ (c .before .before .peek .ensures) (c .before .if1 .taken)
 
 -- src/read.rt:73:44
-ands-add-untils-2 : (t : ℕ) → ands-lts.Need-add-untils-2 (
-  untils-below t,
-  untils.Post,
-  peek-reads.Asked,
-  peek-reads.Learnt,
-  not-reads.Asked,
-  not-reads.Learnt,
-  or-reads.Asked,
-  or-reads.Learnt,
-  dual-reads.Asked,
-  dual-reads.Learnt,
-) (ands-at t) ands.Post ands-Inv-loop ands-μ-loop
+ands-add-untils-2 : (t : ℕ) → ands-lts.Need-add-untils-2 (ands-claims t) (ands-at t) ands.Post ands-Inv-loop ands-μ-loop
 ands-add-untils-2 t c = search ands-laws
 
 -- src/read.rt:73:13
-ands-untils-requires-2 : (t : ℕ) → ands-lts.Need-untils-requires-2 (
-  untils-below t,
-  untils.Post,
-  peek-reads.Asked,
-  peek-reads.Learnt,
-  not-reads.Asked,
-  not-reads.Learnt,
-  or-reads.Asked,
-  or-reads.Learnt,
-  dual-reads.Asked,
-  dual-reads.Learnt,
-) (ands-at t) ands.Post ands-Inv-loop ands-μ-loop
+ands-untils-requires-2 : (t : ℕ) → ands-lts.Need-untils-requires-2 (ands-claims t) (ands-at t) ands.Post ands-Inv-loop ands-μ-loop
 ands-untils-requires-2 t c κs = (ands-falls _ _ _ _ _ _ _ _ _ _ _ (c .before .before .before .before .before .before .before .before .before .before .before .pre .1) (c .before .before .before .before .before .before .before .untils .ensures) (c .before .before .before .before .loop .inv) _ (c .before .before .before .peek .ensures) (c .before .before .if1 .taken) t (c .before .before .before .before .before .before .before .before .before .before .before .pre .0), ands-ready _ _ _ _ _ _ _ _ _ _ _ (c .before .before .before .before .before .before .before .before .before .before .before .pre .1) (c .before .before .before .before .before .before .before .untils .ensures) (c .before .before .before .before .loop .inv) _ (c .before .before .before .peek .ensures) (c .before .before .if1 .taken) _ (c .before .not .ensures))
 
 -- src/read.rt:75:31
-ands-or-requires : (t : ℕ) → ands-lts.Need-or-requires (
-  untils-below t,
-  untils.Post,
-  peek-reads.Asked,
-  peek-reads.Learnt,
-  not-reads.Asked,
-  not-reads.Learnt,
-  or-reads.Asked,
-  or-reads.Learnt,
-  dual-reads.Asked,
-  dual-reads.Learnt,
-) (ands-at t) ands.Post ands-Inv-loop ands-μ-loop
+ands-or-requires : (t : ℕ) → ands-lts.Need-or-requires (ands-claims t) (ands-at t) ands.Post ands-Inv-loop ands-μ-loop
 ands-or-requires t c κs = ands-low-after _ _ _ _ _ _ _ _ _ _ _ (c .before .before .before .before .before .before .before .before .before .before .before .before .before .before .pre .1) (c .before .before .before .before .before .before .before .before .before .before .untils .ensures) (c .before .before .before .before .before .before .before .loop .inv) _ (c .before .before .before .before .before .before .peek .ensures) (c .before .before .before .before .before .if1 .taken) _ (c .before .before .before .before .not .ensures) _ _ _ (c .before .before .untils2 .ensures)
 
 -- src/read.rt:75:13
-ands-dual-requires : (t : ℕ) → ands-lts.Need-dual-requires (
-  untils-below t,
-  untils.Post,
-  peek-reads.Asked,
-  peek-reads.Learnt,
-  not-reads.Asked,
-  not-reads.Learnt,
-  or-reads.Asked,
-  or-reads.Learnt,
-  dual-reads.Asked,
-  dual-reads.Learnt,
-) (ands-at t) ands.Post ands-Inv-loop ands-μ-loop
+ands-dual-requires : (t : ℕ) → ands-lts.Need-dual-requires (ands-claims t) (ands-at t) ands.Post ands-Inv-loop ands-μ-loop
 ands-dual-requires t c κs = ands-dual _ _ _ _ _ _ _ _ _ _ _ (c .before .before .before .before .before .before .before .before .before .before .before .before .before .before .before .before .pre .1) (c .before .before .before .before .before .before .before .before .before .before .before .before .untils .ensures) (c .before .before .before .before .before .before .before .before .before .loop .inv) _ (c .before .before .before .before .before .before .before .before .peek .ensures) (c .before .before .before .before .before .before .before .if1 .taken) _ (c .before .before .before .before .before .before .not .ensures) _ _ _ (c .before .before .before .before .untils2 .ensures)
 
 -- src/read.rt:71:5
-ands-loop-less : (t : ℕ) → ands-lts.Need-loop-less (
-  untils-below t,
-  untils.Post,
-  peek-reads.Asked,
-  peek-reads.Learnt,
-  not-reads.Asked,
-  not-reads.Learnt,
-  or-reads.Asked,
-  or-reads.Learnt,
-  dual-reads.Asked,
-  dual-reads.Learnt,
-) (ands-at t) ands.Post ands-Inv-loop ands-μ-loop
+ands-loop-less : (t : ℕ) → ands-lts.Need-loop-less (ands-claims t) (ands-at t) ands.Post ands-Inv-loop ands-μ-loop
 ands-loop-less t c = ands-less _ _ _ _ _ _ _ _ _ _ _ (c .before .before .before .before .before .before .before .before .before .before .before .before .before .before .before .before .before .before .before .pre .1) (c .before .before .before .before .before .before .before .before .before .before .before .before .before .before .before .untils .ensures) (c .before .before .before .before .before .before .before .before .before .before .before .before .loop .inv) _ (c .before .before .before .before .before .before .before .before .before .before .before .peek .ensures) (c .before .before .before .before .before .before .before .before .before .before .if1 .taken) _ (c .before .before .before .before .before .before .before .before .before .not .ensures) _ _ _ (c .before .before .before .before .before .before .before .untils2 .ensures)
 
 -- src/read.rt:71:5
-ands-loop-again : (t : ℕ) → ands-lts.Need-loop-again (
-  untils-below t,
-  untils.Post,
-  peek-reads.Asked,
-  peek-reads.Learnt,
-  not-reads.Asked,
-  not-reads.Learnt,
-  or-reads.Asked,
-  or-reads.Learnt,
-  dual-reads.Asked,
-  dual-reads.Learnt,
-) (ands-at t) ands.Post ands-Inv-loop ands-μ-loop
+ands-loop-again : (t : ℕ) → ands-lts.Need-loop-again (ands-claims t) (ands-at t) ands.Post ands-Inv-loop ands-μ-loop
 ands-loop-again t c = ands-again _ _ _ _ _ _ _ _ _ _ _ (c .before .before .before .before .before .before .before .before .before .before .before .before .loop .inv) (c .before .before .before .before .before .before .before .before .before .before .before .peek .ensures) (c .before .before .before .before .before .before .before .before .before .before .if1 .taken) _ (ands-write _ _ _ _ _ _ _ _ _ _ _ (c .before .before .before .before .before .before .before .before .before .before .before .before .before .before .before .before .before .before .before .pre .1) (c .before .before .before .before .before .before .before .before .before .before .before .before .before .before .before .untils .ensures) (c .before .before .before .before .before .before .before .before .before .before .before .before .loop .inv) _ (c .before .before .before .before .before .before .before .before .before .before .before .peek .ensures) (c .before .before .before .before .before .before .before .before .before .before .if1 .taken)) (c .before .before .before .before .before .before .before .before .before .not .ensures) _ _ _ _ _ _ (c .before .before .before .before .before .before .before .untils2 .ensures) (c .before .before .before .before .or .ensures) (c .before .before .dual .ensures)
 
 -- src/read.rt:64:1
-ands-same-length : (t : ℕ) → ands-lts.Need-same-length (
-  untils-below t,
-  untils.Post,
-  peek-reads.Asked,
-  peek-reads.Learnt,
-  not-reads.Asked,
-  not-reads.Learnt,
-  or-reads.Asked,
-  or-reads.Learnt,
-  dual-reads.Asked,
-  dual-reads.Learnt,
-) (ands-at t) ands.Post ands-Inv-loop ands-μ-loop
+ands-same-length : (t : ℕ) → ands-lts.Need-same-length (ands-claims t) (ands-at t) ands.Post ands-Inv-loop ands-μ-loop
 ands-same-length t c = search ands-laws
 
 -- src/read.rt:64:1
-ands-returns : (t : ℕ) → ands-lts.Need-returns (
-  untils-below t,
-  untils.Post,
-  peek-reads.Asked,
-  peek-reads.Learnt,
-  not-reads.Asked,
-  not-reads.Learnt,
-  or-reads.Asked,
-  or-reads.Learnt,
-  dual-reads.Asked,
-  dual-reads.Learnt,
-) (ands-at t) ands.Post ands-Inv-loop ands-μ-loop
+ands-returns : (t : ℕ) → ands-lts.Need-returns (ands-claims t) (ands-at t) ands.Post ands-Inv-loop ands-μ-loop
 ands-returns t c = search ands-laws
 
 -- src/read.rt:29:9
-arrows-ors-requires : (t : ℕ) → arrows-lts.Need-ors-requires (
-  ors-below t,
-  ors.Post,
-  peek-reads.Asked,
-  peek-reads.Learnt,
-  not-reads.Asked,
-  not-reads.Learnt,
-  arrows-below t,
-  arrows.Post,
-  or-reads.Asked,
-  or-reads.Learnt,
-) (arrows-at t) arrows.Post
+arrows-ors-requires : (t : ℕ) → arrows-lts.Need-ors-requires (arrows-claims t) (arrows-at t) arrows.Post
 arrows-ors-requires t c κs = search arrows-laws
 
 -- src/read.rt:32:8
-arrows-peek-requires : (t : ℕ) → arrows-lts.Need-peek-requires (
-  ors-below t,
-  ors.Post,
-  peek-reads.Asked,
-  peek-reads.Learnt,
-  not-reads.Asked,
-  not-reads.Learnt,
-  arrows-below t,
-  arrows.Post,
-  or-reads.Asked,
-  or-reads.Learnt,
-) (arrows-at t) arrows.Post
+arrows-peek-requires : (t : ℕ) → arrows-lts.Need-peek-requires (arrows-claims t) (arrows-at t) arrows.Post
 arrows-peek-requires t c κs = search arrows-laws
 
 -- src/read.rt:33:30
-arrows-sub-not : (t : ℕ) → arrows-lts.Need-sub-not (
-  ors-below t,
-  ors.Post,
-  peek-reads.Asked,
-  peek-reads.Learnt,
-  not-reads.Asked,
-  not-reads.Learnt,
-  arrows-below t,
-  arrows.Post,
-  or-reads.Asked,
-  or-reads.Learnt,
-) (arrows-at t) arrows.Post
+arrows-sub-not : (t : ℕ) → arrows-lts.Need-sub-not (arrows-claims t) (arrows-at t) arrows.Post
 arrows-sub-not t c = search arrows-laws
 
 -- src/read.rt:33:20
-arrows-not-requires : (t : ℕ) → arrows-lts.Need-not-requires (
-  ors-below t,
-  ors.Post,
-  peek-reads.Asked,
-  peek-reads.Learnt,
-  not-reads.Asked,
-  not-reads.Learnt,
-  arrows-below t,
-  arrows.Post,
-  or-reads.Asked,
-  or-reads.Learnt,
-) (arrows-at t) arrows.Post
+arrows-not-requires : (t : ℕ) → arrows-lts.Need-not-requires (arrows-claims t) (arrows-at t) arrows.Post
 arrows-not-requires t c κs = search arrows-laws
 
 -- src/read.rt:33:9
-arrows-mul-nodes : (t : ℕ) → arrows-lts.Need-mul-nodes (
-  ors-below t,
-  ors.Post,
-  peek-reads.Asked,
-  peek-reads.Learnt,
-  not-reads.Asked,
-  not-reads.Learnt,
-  arrows-below t,
-  arrows.Post,
-  or-reads.Asked,
-  or-reads.Learnt,
-) (arrows-at t) arrows.Post
+arrows-mul-nodes : (t : ℕ) → arrows-lts.Need-mul-nodes (arrows-claims t) (arrows-at t) arrows.Post
 arrows-mul-nodes t c = search arrows-laws
 
 -- src/read.rt:33:9
-arrows-slice-write-nodes : (t : ℕ) → arrows-lts.Need-slice-write-nodes (
-  ors-below t,
-  ors.Post,
-  peek-reads.Asked,
-  peek-reads.Learnt,
-  not-reads.Asked,
-  not-reads.Learnt,
-  arrows-below t,
-  arrows.Post,
-  or-reads.Asked,
-  or-reads.Learnt,
-) (arrows-at t) arrows.Post
+arrows-slice-write-nodes : (t : ℕ) → arrows-lts.Need-slice-write-nodes (arrows-claims t) (arrows-at t) arrows.Post
 arrows-slice-write-nodes t c = search arrows-laws
 
 -- src/read.rt:34:31
-arrows-add-arrows : (t : ℕ) → arrows-lts.Need-add-arrows (
-  ors-below t,
-  ors.Post,
-  peek-reads.Asked,
-  peek-reads.Learnt,
-  not-reads.Asked,
-  not-reads.Learnt,
-  arrows-below t,
-  arrows.Post,
-  or-reads.Asked,
-  or-reads.Learnt,
-) (arrows-at t) arrows.Post
+arrows-add-arrows : (t : ℕ) → arrows-lts.Need-add-arrows (arrows-claims t) (arrows-at t) arrows.Post
 arrows-add-arrows t c = arrows-index _ _ _ _ _ _ _ _ _ (c .before .before .before .before .before .before .before .before .before .pre .1) (c .before .before .before .before .before .ors .ensures) (c .before .before .peek .ensures) (c .before .if1 .taken)
 
 -- src/read.rt:34:44
-arrows-add-arrows-2 : (t : ℕ) → arrows-lts.Need-add-arrows-2 (
-  ors-below t,
-  ors.Post,
-  peek-reads.Asked,
-  peek-reads.Learnt,
-  not-reads.Asked,
-  not-reads.Learnt,
-  arrows-below t,
-  arrows.Post,
-  or-reads.Asked,
-  or-reads.Learnt,
-) (arrows-at t) arrows.Post
+arrows-add-arrows-2 : (t : ℕ) → arrows-lts.Need-add-arrows-2 (arrows-claims t) (arrows-at t) arrows.Post
 arrows-add-arrows-2 t c = search arrows-laws
 
 -- src/read.rt:34:13
-arrows-arrows-requires : (t : ℕ) → arrows-lts.Need-arrows-requires (
-  ors-below t,
-  ors.Post,
-  peek-reads.Asked,
-  peek-reads.Learnt,
-  not-reads.Asked,
-  not-reads.Learnt,
-  arrows-below t,
-  arrows.Post,
-  or-reads.Asked,
-  or-reads.Learnt,
-) (arrows-at t) arrows.Post
+arrows-arrows-requires : (t : ℕ) → arrows-lts.Need-arrows-requires (arrows-claims t) (arrows-at t) arrows.Post
 arrows-arrows-requires t c κs = (arrows-falls _ _ _ _ _ _ _ _ _ (c .before .before .before .before .before .before .before .before .before .before .pre .1) (c .before .before .before .before .before .before .ors .ensures) (c .before .before .before .peek .ensures) (c .before .before .if1 .taken) t (c .before .before .before .before .before .before .before .before .before .before .pre .0), arrows-ready _ _ _ _ _ _ _ _ _ (c .before .before .before .before .before .before .before .before .before .before .pre .1) (c .before .before .before .before .before .before .ors .ensures) (c .before .before .before .peek .ensures) (c .before .before .if1 .taken) _ (c .before .not .ensures))
 
 -- src/read.rt:36:32
-arrows-sub-or : (t : ℕ) → arrows-lts.Need-sub-or (
-  ors-below t,
-  ors.Post,
-  peek-reads.Asked,
-  peek-reads.Learnt,
-  not-reads.Asked,
-  not-reads.Learnt,
-  arrows-below t,
-  arrows.Post,
-  or-reads.Asked,
-  or-reads.Learnt,
-) (arrows-at t) arrows.Post
+arrows-sub-or : (t : ℕ) → arrows-lts.Need-sub-or (arrows-claims t) (arrows-at t) arrows.Post
 arrows-sub-or t c = search arrows-laws
 
 -- src/read.rt:36:20
-arrows-or-requires : (t : ℕ) → arrows-lts.Need-or-requires (
-  ors-below t,
-  ors.Post,
-  peek-reads.Asked,
-  peek-reads.Learnt,
-  not-reads.Asked,
-  not-reads.Learnt,
-  arrows-below t,
-  arrows.Post,
-  or-reads.Asked,
-  or-reads.Learnt,
-) (arrows-at t) arrows.Post
+arrows-or-requires : (t : ℕ) → arrows-lts.Need-or-requires (arrows-claims t) (arrows-at t) arrows.Post
 arrows-or-requires t c κs = arrows-low-after _ _ _ _ _ _ _ _ _ (c .before .before .before .before .before .before .before .before .before .before .before .before .before .pre .1) (c .before .before .before .before .before .before .before .before .before .ors .ensures) (c .before .before .before .before .before .before .peek .ensures) (c .before .before .before .before .before .if1 .taken) _ (c .before .before .before .before .not .ensures) _ _ _ (c .before .before .arrows .ensures)
 
 -- src/read.rt:36:9
-arrows-mul-nodes-2 : (t : ℕ) → arrows-lts.Need-mul-nodes-2 (
-  ors-below t,
-  ors.Post,
-  peek-reads.Asked,
-  peek-reads.Learnt,
-  not-reads.Asked,
-  not-reads.Learnt,
-  arrows-below t,
-  arrows.Post,
-  or-reads.Asked,
-  or-reads.Learnt,
-) (arrows-at t) arrows.Post
+arrows-mul-nodes-2 : (t : ℕ) → arrows-lts.Need-mul-nodes-2 (arrows-claims t) (arrows-at t) arrows.Post
 arrows-mul-nodes-2 t c = search arrows-laws
 
 -- src/read.rt:36:9
-arrows-slice-write-nodes-2 : (t : ℕ) → arrows-lts.Need-slice-write-nodes-2 (
-  ors-below t,
-  ors.Post,
-  peek-reads.Asked,
-  peek-reads.Learnt,
-  not-reads.Asked,
-  not-reads.Learnt,
-  arrows-below t,
-  arrows.Post,
-  or-reads.Asked,
-  or-reads.Learnt,
-) (arrows-at t) arrows.Post
+arrows-slice-write-nodes-2 : (t : ℕ) → arrows-lts.Need-slice-write-nodes-2 (arrows-claims t) (arrows-at t) arrows.Post
 arrows-slice-write-nodes-2 t c = arrows-write-after _ _ _ _ _ _ _ _ _ (c .before .before .before .before .before .before .before .before .before .before .before .before .before .before .pre .1) (c .before .before .before .before .before .before .before .before .before .before .ors .ensures) (c .before .before .before .before .before .before .before .peek .ensures) (c .before .before .before .before .before .before .if1 .taken) _ (c .before .before .before .before .before .not .ensures) _ _ _ (c .before .before .before .arrows .ensures)
 
 -- src/read.rt:39:19
-arrows-add-t17 : (t : ℕ) → arrows-lts.Need-add-t17 (
-  ors-below t,
-  ors.Post,
-  peek-reads.Asked,
-  peek-reads.Learnt,
-  not-reads.Asked,
-  not-reads.Learnt,
-  arrows-below t,
-  arrows.Post,
-  or-reads.Asked,
-  or-reads.Learnt,
-) (arrows-at t) arrows.Post
+arrows-add-t17 : (t : ℕ) → arrows-lts.Need-add-t17 (arrows-claims t) (arrows-at t) arrows.Post
 arrows-add-t17 t c = search arrows-laws
 
 -- src/read.rt:37:9
-arrows-same-length : (t : ℕ) → arrows-lts.Need-same-length (
-  ors-below t,
-  ors.Post,
-  peek-reads.Asked,
-  peek-reads.Learnt,
-  not-reads.Asked,
-  not-reads.Learnt,
-  arrows-below t,
-  arrows.Post,
-  or-reads.Asked,
-  or-reads.Learnt,
-) (arrows-at t) arrows.Post
+arrows-same-length : (t : ℕ) → arrows-lts.Need-same-length (arrows-claims t) (arrows-at t) arrows.Post
 arrows-same-length t c = search arrows-laws
 
 -- src/read.rt:37:9
-arrows-returns : (t : ℕ) → arrows-lts.Need-returns (
-  ors-below t,
-  ors.Post,
-  peek-reads.Asked,
-  peek-reads.Learnt,
-  not-reads.Asked,
-  not-reads.Learnt,
-  arrows-below t,
-  arrows.Post,
-  or-reads.Asked,
-  or-reads.Learnt,
-) (arrows-at t) arrows.Post
+arrows-returns : (t : ℕ) → arrows-lts.Need-returns (arrows-claims t) (arrows-at t) arrows.Post
 arrows-returns t c = arrows-read _ _ _ _ _ _ _ _ _ (c .before .before .before .before .before .before .before .before .before .before .before .before .before .before .pre .1) (c .before .before .before .before .before .before .before .before .before .before .ors .ensures) (c .before .before .before .before .before .before .before .peek .ensures) (c .before .before .before .before .before .before .if1 .taken) _ (c .before .before .before .before .before .not .ensures) _ _ _ (c .before .before .before .arrows .ensures) _ (c .or .ensures)
 
 -- src/read.rt:25:1
-arrows-same-length-2 : (t : ℕ) → arrows-lts.Need-same-length-2 (
-  ors-below t,
-  ors.Post,
-  peek-reads.Asked,
-  peek-reads.Learnt,
-  not-reads.Asked,
-  not-reads.Learnt,
-  arrows-below t,
-  arrows.Post,
-  or-reads.Asked,
-  or-reads.Learnt,
-) (arrows-at t) arrows.Post
+arrows-same-length-2 : (t : ℕ) → arrows-lts.Need-same-length-2 (arrows-claims t) (arrows-at t) arrows.Post
 arrows-same-length-2 t c = search arrows-laws
 
 -- src/read.rt:25:1
-arrows-returns-2 : (t : ℕ) → arrows-lts.Need-returns-2 (
-  ors-below t,
-  ors.Post,
-  peek-reads.Asked,
-  peek-reads.Learnt,
-  not-reads.Asked,
-  not-reads.Learnt,
-  arrows-below t,
-  arrows.Post,
-  or-reads.Asked,
-  or-reads.Learnt,
-) (arrows-at t) arrows.Post
+arrows-returns-2 : (t : ℕ) → arrows-lts.Need-returns-2 (arrows-claims t) (arrows-at t) arrows.Post
 arrows-returns-2 t c = search arrows-laws
 
 abbrev ors-Inv-loop : ors-lts.InvT-loop
@@ -615,887 +258,276 @@ abbrev ors-μ-loop : ors-lts.MeasureT-loop
 ors-μ-loop codes at left made nodes₀ a₀ m₀ nodes a m = length codes - a
 
 -- src/read.rt:50:9
-ors-ands-requires : (t : ℕ) → ors-lts.Need-ands-requires (
-  ands-below t,
-  ands.Post,
-  peek-reads.Asked,
-  peek-reads.Learnt,
-  or-reads.Asked,
-  or-reads.Learnt,
-) (ors-at t) ors.Post ors-Inv-loop ors-μ-loop
+ors-ands-requires : (t : ℕ) → ors-lts.Need-ands-requires (ors-claims t) (ors-at t) ors.Post ors-Inv-loop ors-μ-loop
 ors-ands-requires t c κs = search ors-laws
 
 -- src/read.rt:53:5
-ors-loop-holds : (t : ℕ) → ors-lts.Need-loop-holds (
-  ands-below t,
-  ands.Post,
-  peek-reads.Asked,
-  peek-reads.Learnt,
-  or-reads.Asked,
-  or-reads.Learnt,
-) (ors-at t) ors.Post ors-Inv-loop ors-μ-loop
+ors-loop-holds : (t : ℕ) → ors-lts.Need-loop-holds (ors-claims t) (ors-at t) ors.Post ors-Inv-loop ors-μ-loop
 ors-loop-holds t c = search ors-laws
 
 -- src/read.rt:53:11
-ors-peek-requires : (t : ℕ) → ors-lts.Need-peek-requires (
-  ands-below t,
-  ands.Post,
-  peek-reads.Asked,
-  peek-reads.Learnt,
-  or-reads.Asked,
-  or-reads.Learnt,
-) (ors-at t) ors.Post ors-Inv-loop ors-μ-loop
+ors-peek-requires : (t : ℕ) → ors-lts.Need-peek-requires (ors-claims t) (ors-at t) ors.Post ors-Inv-loop ors-μ-loop
 ors-peek-requires t c κs = search ors-laws
 
 -- src/read.rt:54:29
-ors-add-ands : (t : ℕ) → ors-lts.Need-add-ands (
-  ands-below t,
-  ands.Post,
-  peek-reads.Asked,
-  peek-reads.Learnt,
-  or-reads.Asked,
-  or-reads.Learnt,
-) (ors-at t) ors.Post ors-Inv-loop ors-μ-loop
+ors-add-ands : (t : ℕ) → ors-lts.Need-add-ands (ors-claims t) (ors-at t) ors.Post ors-Inv-loop ors-μ-loop
 ors-add-ands t c = search ors-laws
 
 -- src/read.rt:54:13
-ors-ands-requires-2 : (t : ℕ) → ors-lts.Need-ands-requires-2 (
-  ands-below t,
-  ands.Post,
-  peek-reads.Asked,
-  peek-reads.Learnt,
-  or-reads.Asked,
-  or-reads.Learnt,
-) (ors-at t) ors.Post ors-Inv-loop ors-μ-loop
+ors-ands-requires-2 : (t : ℕ) → ors-lts.Need-ands-requires-2 (ors-claims t) (ors-at t) ors.Post ors-Inv-loop ors-μ-loop
 ors-ands-requires-2 t c κs = (ors-falls _ _ _ _ _ _ _ _ _ _ _ (c .before .before .before .before .before .before .before .before .before .before .pre .1) (c .before .before .before .before .before .before .ands .ensures) (c .before .before .before .loop .inv) _ (c .before .before .peek .ensures) (c .before .if1 .taken) t (c .before .before .before .before .before .before .before .before .before .before .pre .0), ors-ready _ _ _ _ _ _ _ _ _ _ _ (c .before .before .before .before .before .before .before .before .before .before .pre .1) (c .before .before .before .before .before .before .ands .ensures) (c .before .before .before .loop .inv) _ (c .before .before .peek .ensures) (c .before .if1 .taken))
 
 -- src/read.rt:56:29
-ors-sub-or : (t : ℕ) → ors-lts.Need-sub-or (
-  ands-below t,
-  ands.Post,
-  peek-reads.Asked,
-  peek-reads.Learnt,
-  or-reads.Asked,
-  or-reads.Learnt,
-) (ors-at t) ors.Post ors-Inv-loop ors-μ-loop
+ors-sub-or : (t : ℕ) → ors-lts.Need-sub-or (ors-claims t) (ors-at t) ors.Post ors-Inv-loop ors-μ-loop
 ors-sub-or t c = search ors-laws
 
 -- src/read.rt:56:36
-ors-sub-or-2 : (t : ℕ) → ors-lts.Need-sub-or-2 (
-  ands-below t,
-  ands.Post,
-  peek-reads.Asked,
-  peek-reads.Learnt,
-  or-reads.Asked,
-  or-reads.Learnt,
-) (ors-at t) ors.Post ors-Inv-loop ors-μ-loop
+ors-sub-or-2 : (t : ℕ) → ors-lts.Need-sub-or-2 (ors-claims t) (ors-at t) ors.Post ors-Inv-loop ors-μ-loop
 ors-sub-or-2 t c = search ors-laws
 
 -- src/read.rt:56:20
-ors-or-requires : (t : ℕ) → ors-lts.Need-or-requires (
-  ands-below t,
-  ands.Post,
-  peek-reads.Asked,
-  peek-reads.Learnt,
-  or-reads.Asked,
-  or-reads.Learnt,
-) (ors-at t) ors.Post ors-Inv-loop ors-μ-loop
+ors-or-requires : (t : ℕ) → ors-lts.Need-or-requires (ors-claims t) (ors-at t) ors.Post ors-Inv-loop ors-μ-loop
 ors-or-requires t c κs = ors-low-after _ _ _ _ _ _ _ _ _ _ _ (c .before .before .before .before .before .before .before .before .before .before .before .before .before .pre .1) (c .before .before .before .before .before .before .before .before .before .ands .ensures) (c .before .before .before .before .before .before .loop .inv) _ (c .before .before .before .before .before .peek .ensures) (c .before .before .before .before .if1 .taken) _ _ _ (c .before .before .ands2 .ensures)
 
 -- src/read.rt:56:9
-ors-mul-nodes : (t : ℕ) → ors-lts.Need-mul-nodes (
-  ands-below t,
-  ands.Post,
-  peek-reads.Asked,
-  peek-reads.Learnt,
-  or-reads.Asked,
-  or-reads.Learnt,
-) (ors-at t) ors.Post ors-Inv-loop ors-μ-loop
+ors-mul-nodes : (t : ℕ) → ors-lts.Need-mul-nodes (ors-claims t) (ors-at t) ors.Post ors-Inv-loop ors-μ-loop
 ors-mul-nodes t c = search ors-laws
 
 -- src/read.rt:56:9
-ors-slice-write-nodes : (t : ℕ) → ors-lts.Need-slice-write-nodes (
-  ands-below t,
-  ands.Post,
-  peek-reads.Asked,
-  peek-reads.Learnt,
-  or-reads.Asked,
-  or-reads.Learnt,
-) (ors-at t) ors.Post ors-Inv-loop ors-μ-loop
+ors-slice-write-nodes : (t : ℕ) → ors-lts.Need-slice-write-nodes (ors-claims t) (ors-at t) ors.Post ors-Inv-loop ors-μ-loop
 ors-slice-write-nodes t c = ors-write-after _ _ _ _ _ _ _ _ _ _ _ (c .before .before .before .before .before .before .before .before .before .before .before .before .before .before .pre .1) (c .before .before .before .before .before .before .before .before .before .before .ands .ensures) (c .before .before .before .before .before .before .before .loop .inv) _ (c .before .before .before .before .before .before .peek .ensures) (c .before .before .before .before .before .if1 .taken) _ _ _ (c .before .before .before .ands2 .ensures)
 
 -- src/read.rt:58:13
-ors-add-m : (t : ℕ) → ors-lts.Need-add-m (
-  ands-below t,
-  ands.Post,
-  peek-reads.Asked,
-  peek-reads.Learnt,
-  or-reads.Asked,
-  or-reads.Learnt,
-) (ors-at t) ors.Post ors-Inv-loop ors-μ-loop
+ors-add-m : (t : ℕ) → ors-lts.Need-add-m (ors-claims t) (ors-at t) ors.Post ors-Inv-loop ors-μ-loop
 ors-add-m t c = search ors-laws
 
 -- src/read.rt:53:5
-ors-loop-less : (t : ℕ) → ors-lts.Need-loop-less (
-  ands-below t,
-  ands.Post,
-  peek-reads.Asked,
-  peek-reads.Learnt,
-  or-reads.Asked,
-  or-reads.Learnt,
-) (ors-at t) ors.Post ors-Inv-loop ors-μ-loop
+ors-loop-less : (t : ℕ) → ors-lts.Need-loop-less (ors-claims t) (ors-at t) ors.Post ors-Inv-loop ors-μ-loop
 ors-loop-less t c = ors-less _ _ _ _ _ _ _ _ _ _ _ (c .before .before .before .before .before .before .before .before .before .before .before .before .before .before .pre .1) (c .before .before .before .before .before .before .before .before .before .before .ands .ensures) (c .before .before .before .before .before .before .before .loop .inv) _ (c .before .before .before .before .before .before .peek .ensures) (c .before .before .before .before .before .if1 .taken) _ _ _ (c .before .before .before .ands2 .ensures)
 
 -- src/read.rt:53:5
-ors-loop-again : (t : ℕ) → ors-lts.Need-loop-again (
-  ands-below t,
-  ands.Post,
-  peek-reads.Asked,
-  peek-reads.Learnt,
-  or-reads.Asked,
-  or-reads.Learnt,
-) (ors-at t) ors.Post ors-Inv-loop ors-μ-loop
+ors-loop-again : (t : ℕ) → ors-lts.Need-loop-again (ors-claims t) (ors-at t) ors.Post ors-Inv-loop ors-μ-loop
 ors-loop-again t c = ors-again _ _ _ _ _ _ _ _ _ _ _ (c .before .before .before .before .before .before .before .loop .inv) (c .before .before .before .before .before .before .peek .ensures) (c .before .before .before .before .before .if1 .taken) _ _ _ _ (c .before .before .before .ands2 .ensures) (ors-write-after _ _ _ _ _ _ _ _ _ _ _ (c .before .before .before .before .before .before .before .before .before .before .before .before .before .before .pre .1) (c .before .before .before .before .before .before .before .before .before .before .ands .ensures) (c .before .before .before .before .before .before .before .loop .inv) _ (c .before .before .before .before .before .before .peek .ensures) (c .before .before .before .before .before .if1 .taken) _ _ _ (c .before .before .before .ands2 .ensures)) (c .or .ensures)
 
 -- src/read.rt:46:1
-ors-same-length : (t : ℕ) → ors-lts.Need-same-length (
-  ands-below t,
-  ands.Post,
-  peek-reads.Asked,
-  peek-reads.Learnt,
-  or-reads.Asked,
-  or-reads.Learnt,
-) (ors-at t) ors.Post ors-Inv-loop ors-μ-loop
+ors-same-length : (t : ℕ) → ors-lts.Need-same-length (ors-claims t) (ors-at t) ors.Post ors-Inv-loop ors-μ-loop
 ors-same-length t c = search ors-laws
 
 -- src/read.rt:46:1
-ors-returns : (t : ℕ) → ors-lts.Need-returns (
-  ands-below t,
-  ands.Post,
-  peek-reads.Asked,
-  peek-reads.Learnt,
-  or-reads.Asked,
-  or-reads.Learnt,
-) (ors-at t) ors.Post ors-Inv-loop ors-μ-loop
+ors-returns : (t : ℕ) → ors-lts.Need-returns (ors-claims t) (ors-at t) ors.Post ors-Inv-loop ors-μ-loop
 ors-returns t c = search ors-laws
 
 -- src/read.rt:111:9
-prefixes-peek-requires : (t : ℕ) → prefixes-lts.Need-peek-requires (
-  peek-reads.Asked,
-  peek-reads.Learnt,
-  primaries-below t,
-  primaries.Post,
-  open-prefix-reads.Asked,
-  open-prefix-reads.Learnt,
-  prefixes-below t,
-  prefixes.Post,
-  close-prefix-reads.Asked,
-  close-prefix-reads.Learnt,
-) (prefixes-at t) prefixes.Post
+prefixes-peek-requires : (t : ℕ) → prefixes-lts.Need-peek-requires (prefixes-claims t) (prefixes-at t) prefixes.Post
 prefixes-peek-requires t c κs = search prefixes-laws
 
 -- src/read.rt:113:9
-prefixes-primaries-requires : (t : ℕ) → prefixes-lts.Need-primaries-requires (
-  peek-reads.Asked,
-  peek-reads.Learnt,
-  primaries-below t,
-  primaries.Post,
-  open-prefix-reads.Asked,
-  open-prefix-reads.Learnt,
-  prefixes-below t,
-  prefixes.Post,
-  close-prefix-reads.Asked,
-  close-prefix-reads.Learnt,
-) (prefixes-at t) prefixes.Post
+prefixes-primaries-requires : (t : ℕ) → prefixes-lts.Need-primaries-requires (prefixes-claims t) (prefixes-at t) prefixes.Post
 prefixes-primaries-requires t c κs = search prefixes-laws
 
 -- src/read.rt:113:9
-prefixes-same-length : (t : ℕ) → prefixes-lts.Need-same-length (
-  peek-reads.Asked,
-  peek-reads.Learnt,
-  primaries-below t,
-  primaries.Post,
-  open-prefix-reads.Asked,
-  open-prefix-reads.Learnt,
-  prefixes-below t,
-  prefixes.Post,
-  close-prefix-reads.Asked,
-  close-prefix-reads.Learnt,
-) (prefixes-at t) prefixes.Post
+prefixes-same-length : (t : ℕ) → prefixes-lts.Need-same-length (prefixes-claims t) (prefixes-at t) prefixes.Post
 prefixes-same-length t c = search prefixes-laws
 
 -- src/read.rt:113:9
-prefixes-returns : (t : ℕ) → prefixes-lts.Need-returns (
-  peek-reads.Asked,
-  peek-reads.Learnt,
-  primaries-below t,
-  primaries.Post,
-  open-prefix-reads.Asked,
-  open-prefix-reads.Learnt,
-  prefixes-below t,
-  prefixes.Post,
-  close-prefix-reads.Asked,
-  close-prefix-reads.Learnt,
-) (prefixes-at t) prefixes.Post
-prefixes-returns t c = search prefixes-laws
+prefixes-returns : (t : ℕ) → prefixes-lts.Need-returns (prefixes-claims t) (prefixes-at t) prefixes.Post
+prefixes-returns t c = search prefixes-primary
 
 -- src/read.rt:116:9
-prefixes-primaries-requires-2 : (t : ℕ) → prefixes-lts.Need-primaries-requires-2 (
-  peek-reads.Asked,
-  peek-reads.Learnt,
-  primaries-below t,
-  primaries.Post,
-  open-prefix-reads.Asked,
-  open-prefix-reads.Learnt,
-  prefixes-below t,
-  prefixes.Post,
-  close-prefix-reads.Asked,
-  close-prefix-reads.Learnt,
-) (prefixes-at t) prefixes.Post
+prefixes-primaries-requires-2 : (t : ℕ) → prefixes-lts.Need-primaries-requires-2 (prefixes-claims t) (prefixes-at t) prefixes.Post
 prefixes-primaries-requires-2 t c κs = search prefixes-laws
 
 -- src/read.rt:116:9
-prefixes-same-length-2 : (t : ℕ) → prefixes-lts.Need-same-length-2 (
-  peek-reads.Asked,
-  peek-reads.Learnt,
-  primaries-below t,
-  primaries.Post,
-  open-prefix-reads.Asked,
-  open-prefix-reads.Learnt,
-  prefixes-below t,
-  prefixes.Post,
-  close-prefix-reads.Asked,
-  close-prefix-reads.Learnt,
-) (prefixes-at t) prefixes.Post
+prefixes-same-length-2 : (t : ℕ) → prefixes-lts.Need-same-length-2 (prefixes-claims t) (prefixes-at t) prefixes.Post
 prefixes-same-length-2 t c = search prefixes-laws
 
 -- src/read.rt:116:9
-prefixes-returns-2 : (t : ℕ) → prefixes-lts.Need-returns-2 (
-  peek-reads.Asked,
-  peek-reads.Learnt,
-  primaries-below t,
-  primaries.Post,
-  open-prefix-reads.Asked,
-  open-prefix-reads.Learnt,
-  prefixes-below t,
-  prefixes.Post,
-  close-prefix-reads.Asked,
-  close-prefix-reads.Learnt,
-) (prefixes-at t) prefixes.Post
-prefixes-returns-2 t c = search prefixes-laws
+prefixes-returns-2 : (t : ℕ) → prefixes-lts.Need-returns-2 (prefixes-claims t) (prefixes-at t) prefixes.Post
+prefixes-returns-2 t c = search prefixes-primary
 
 -- src/read.rt:118:9
-prefixes-open-prefix-requires : (t : ℕ) → prefixes-lts.Need-open-prefix-requires (
-  peek-reads.Asked,
-  peek-reads.Learnt,
-  primaries-below t,
-  primaries.Post,
-  open-prefix-reads.Asked,
-  open-prefix-reads.Learnt,
-  prefixes-below t,
-  prefixes.Post,
-  close-prefix-reads.Asked,
-  close-prefix-reads.Learnt,
-) (prefixes-at t) prefixes.Post
+prefixes-open-prefix-requires : (t : ℕ) → prefixes-lts.Need-open-prefix-requires (prefixes-claims t) (prefixes-at t) prefixes.Post
 prefixes-open-prefix-requires t c κs = search prefixes-laws
 
 -- src/read.rt:119:29
-prefixes-add-prefixes : (t : ℕ) → prefixes-lts.Need-add-prefixes (
-  peek-reads.Asked,
-  peek-reads.Learnt,
-  primaries-below t,
-  primaries.Post,
-  open-prefix-reads.Asked,
-  open-prefix-reads.Learnt,
-  prefixes-below t,
-  prefixes.Post,
-  close-prefix-reads.Asked,
-  close-prefix-reads.Learnt,
-) (prefixes-at t) prefixes.Post
-prefixes-add-prefixes t c = search prefixes-laws
+prefixes-add-next : (t : ℕ) → prefixes-lts.Need-add-next (prefixes-claims t) (prefixes-at t) prefixes.Post
+prefixes-add-next t c = search prefixes-laws
 
 -- src/read.rt:119:9
-prefixes-prefixes-requires : (t : ℕ) → prefixes-lts.Need-prefixes-requires (
-  peek-reads.Asked,
-  peek-reads.Learnt,
-  primaries-below t,
-  primaries.Post,
-  open-prefix-reads.Asked,
-  open-prefix-reads.Learnt,
-  prefixes-below t,
-  prefixes.Post,
-  close-prefix-reads.Asked,
-  close-prefix-reads.Learnt,
-) (prefixes-at t) prefixes.Post
-prefixes-prefixes-requires t c κs = (prefixes-falls _ _ _ _ _ _ (c .before .before .before .before .before .before .before .before .before .before .pre .1) (c .before .before .before .before .before .before .before .peek .ensures) (c .before .before .before .before .before .before .if1 .left) (c .before .before .before .before .before .if2 .left) t (c .before .before .before .before .before .before .before .before .before .before .pre .0), prefixes-ready _ _ _ _ _ _ (c .before .before .before .before .before .before .before .before .before .before .pre .1) (c .before .before .before .before .before .before .before .peek .ensures) (c .before .before .before .before .before .before .if1 .left) (c .before .before .before .before .before .if2 .left) _ _ (c .before .before .before .open-prefix .ensures))
+prefixes-prefixes-requires : (t : ℕ) → prefixes-lts.Need-prefixes-requires (prefixes-claims t) (prefixes-at t) prefixes.Post
+prefixes-prefixes-requires t c κs = (search prefixes-falling, search prefixes-ready)
 
 -- src/read.rt:121:9
-prefixes-close-prefix-requires : (t : ℕ) → prefixes-lts.Need-close-prefix-requires (
-  peek-reads.Asked,
-  peek-reads.Learnt,
-  primaries-below t,
-  primaries.Post,
-  open-prefix-reads.Asked,
-  open-prefix-reads.Learnt,
-  prefixes-below t,
-  prefixes.Post,
-  close-prefix-reads.Asked,
-  close-prefix-reads.Learnt,
-) (prefixes-at t) prefixes.Post
-prefixes-close-prefix-requires t c κs = prefixes-last _ _ _ _ _ _ (c .before .before .before .before .before .before .before .before .before .before .before .before .before .before .pre .1) (c .before .before .before .before .before .before .before .before .before .before .before .peek .ensures) (c .before .before .before .before .before .before .before .before .before .before .if1 .left) (c .before .before .before .before .before .before .before .before .before .if2 .left) _ _ (c .before .before .before .before .before .before .before .open-prefix .ensures) _ _ _ (c .before .before .before .prefixes .ensures)
+prefixes-close-prefix-requires : (t : ℕ) → prefixes-lts.Need-close-prefix-requires (prefixes-claims t) (prefixes-at t) prefixes.Post
+prefixes-close-prefix-requires t c κs = prefixes-last _ _ _ _ _ _ (c .before .before .before .before .before .before .before .before .before .before .before .before .before .before .pre .1) (c .before .before .before .before .before .before .before .before .before .before .before .peek .ensures) (c .before .before .before .before .before .before .before .before .before .before .if1 .left) (c .before .before .before .before .before .before .before .before .before .if2 .left) _ _ (c .before .before .before .before .before .before .before .open-prefix .ensures) _ _ _ _ _ (c .before .before .before .prefixes .ensures)
 
 -- src/read.rt:107:1
-prefixes-same-length-3 : (t : ℕ) → prefixes-lts.Need-same-length-3 (
-  peek-reads.Asked,
-  peek-reads.Learnt,
-  primaries-below t,
-  primaries.Post,
-  open-prefix-reads.Asked,
-  open-prefix-reads.Learnt,
-  prefixes-below t,
-  prefixes.Post,
-  close-prefix-reads.Asked,
-  close-prefix-reads.Learnt,
-) (prefixes-at t) prefixes.Post
+prefixes-same-length-3 : (t : ℕ) → prefixes-lts.Need-same-length-3 (prefixes-claims t) (prefixes-at t) prefixes.Post
 prefixes-same-length-3 t c = search prefixes-laws
 
 -- src/read.rt:107:1
-prefixes-returns-3 : (t : ℕ) → prefixes-lts.Need-returns-3 (
-  peek-reads.Asked,
-  peek-reads.Learnt,
-  primaries-below t,
-  primaries.Post,
-  open-prefix-reads.Asked,
-  open-prefix-reads.Learnt,
-  prefixes-below t,
-  prefixes.Post,
-  close-prefix-reads.Asked,
-  close-prefix-reads.Learnt,
-) (prefixes-at t) prefixes.Post
-prefixes-returns-3 t c = search prefixes-laws
+prefixes-returns-3 : (t : ℕ) → prefixes-lts.Need-returns-3 (prefixes-claims t) (prefixes-at t) prefixes.Post
+prefixes-returns-3 t c = search prefixes-read
 
 -- src/read.rt:133:9
-primaries-peek-requires : (t : ℕ) → primaries-lts.Need-peek-requires (
-  peek-reads.Asked,
-  peek-reads.Learnt,
-  arrows-below t,
-  arrows.Post,
-  truth-reads.Asked,
-  truth-reads.Learnt,
-  atom-reads.Asked,
-  atom-reads.Learnt,
-) (primaries-at t) primaries.Post
+primaries-peek-requires : (t : ℕ) → primaries-lts.Need-peek-requires (primaries-claims t) (primaries-at t) primaries.Post
 primaries-peek-requires t c κs = search primaries-laws
 
 -- src/read.rt:135:31
-primaries-add-arrows : (t : ℕ) → primaries-lts.Need-add-arrows (
-  peek-reads.Asked,
-  peek-reads.Learnt,
-  arrows-below t,
-  arrows.Post,
-  truth-reads.Asked,
-  truth-reads.Learnt,
-  atom-reads.Asked,
-  atom-reads.Learnt,
-) (primaries-at t) primaries.Post
+primaries-add-arrows : (t : ℕ) → primaries-lts.Need-add-arrows (primaries-claims t) (primaries-at t) primaries.Post
 primaries-add-arrows t c = search primaries-laws
 
 -- src/read.rt:135:39
-primaries-sub-arrows : (t : ℕ) → primaries-lts.Need-sub-arrows (
-  peek-reads.Asked,
-  peek-reads.Learnt,
-  arrows-below t,
-  arrows.Post,
-  truth-reads.Asked,
-  truth-reads.Learnt,
-  atom-reads.Asked,
-  atom-reads.Learnt,
-) (primaries-at t) primaries.Post
+primaries-sub-arrows : (t : ℕ) → primaries-lts.Need-sub-arrows (primaries-claims t) (primaries-at t) primaries.Post
 primaries-sub-arrows t c = search primaries-laws
 
 -- src/read.rt:135:13
-primaries-arrows-requires : (t : ℕ) → primaries-lts.Need-arrows-requires (
-  peek-reads.Asked,
-  peek-reads.Learnt,
-  arrows-below t,
-  arrows.Post,
-  truth-reads.Asked,
-  truth-reads.Learnt,
-  atom-reads.Asked,
-  atom-reads.Learnt,
-) (primaries-at t) primaries.Post
+primaries-arrows-requires : (t : ℕ) → primaries-lts.Need-arrows-requires (primaries-claims t) (primaries-at t) primaries.Post
 primaries-arrows-requires t c κs = search primaries-laws
 
 -- src/read.rt:137:17
-primaries-add-t9 : (t : ℕ) → primaries-lts.Need-add-t9 (
-  peek-reads.Asked,
-  peek-reads.Learnt,
-  arrows-below t,
-  arrows.Post,
-  truth-reads.Asked,
-  truth-reads.Learnt,
-  atom-reads.Asked,
-  atom-reads.Learnt,
-) (primaries-at t) primaries.Post
+primaries-add-t9 : (t : ℕ) → primaries-lts.Need-add-t9 (primaries-claims t) (primaries-at t) primaries.Post
 primaries-add-t9 t c = search primaries-laws
 
 -- src/read.rt:136:9
-primaries-same-length : (t : ℕ) → primaries-lts.Need-same-length (
-  peek-reads.Asked,
-  peek-reads.Learnt,
-  arrows-below t,
-  arrows.Post,
-  truth-reads.Asked,
-  truth-reads.Learnt,
-  atom-reads.Asked,
-  atom-reads.Learnt,
-) (primaries-at t) primaries.Post
+primaries-same-length : (t : ℕ) → primaries-lts.Need-same-length (primaries-claims t) (primaries-at t) primaries.Post
 primaries-same-length t c = search primaries-laws
 
 -- src/read.rt:136:9
-primaries-returns : (t : ℕ) → primaries-lts.Need-returns (
-  peek-reads.Asked,
-  peek-reads.Learnt,
-  arrows-below t,
-  arrows.Post,
-  truth-reads.Asked,
-  truth-reads.Learnt,
-  atom-reads.Asked,
-  atom-reads.Learnt,
-) (primaries-at t) primaries.Post
+primaries-returns : (t : ℕ) → primaries-lts.Need-returns (primaries-claims t) (primaries-at t) primaries.Post
 primaries-returns t c = search primaries-laws
 
 -- src/read.rt:142:23
-primaries-truth-requires : (t : ℕ) → primaries-lts.Need-truth-requires (
-  peek-reads.Asked,
-  peek-reads.Learnt,
-  arrows-below t,
-  arrows.Post,
-  truth-reads.Asked,
-  truth-reads.Learnt,
-  atom-reads.Asked,
-  atom-reads.Learnt,
-) (primaries-at t) primaries.Post
+primaries-truth-requires : (t : ℕ) → primaries-lts.Need-truth-requires (primaries-claims t) (primaries-at t) primaries.Post
 primaries-truth-requires t c κs = search primaries-laws
 
 -- src/read.rt:142:9
-primaries-mul-nodes : (t : ℕ) → primaries-lts.Need-mul-nodes (
-  peek-reads.Asked,
-  peek-reads.Learnt,
-  arrows-below t,
-  arrows.Post,
-  truth-reads.Asked,
-  truth-reads.Learnt,
-  atom-reads.Asked,
-  atom-reads.Learnt,
-) (primaries-at t) primaries.Post
+primaries-mul-nodes : (t : ℕ) → primaries-lts.Need-mul-nodes (primaries-claims t) (primaries-at t) primaries.Post
 primaries-mul-nodes t c = search primaries-laws
 
 -- src/read.rt:142:9
-primaries-slice-write-nodes : (t : ℕ) → primaries-lts.Need-slice-write-nodes (
-  peek-reads.Asked,
-  peek-reads.Learnt,
-  arrows-below t,
-  arrows.Post,
-  truth-reads.Asked,
-  truth-reads.Learnt,
-  atom-reads.Asked,
-  atom-reads.Learnt,
-) (primaries-at t) primaries.Post
+primaries-slice-write-nodes : (t : ℕ) → primaries-lts.Need-slice-write-nodes (primaries-claims t) (primaries-at t) primaries.Post
 primaries-slice-write-nodes t c = search primaries-laws
 
 -- src/read.rt:144:17
-primaries-add-t14 : (t : ℕ) → primaries-lts.Need-add-t14 (
-  peek-reads.Asked,
-  peek-reads.Learnt,
-  arrows-below t,
-  arrows.Post,
-  truth-reads.Asked,
-  truth-reads.Learnt,
-  atom-reads.Asked,
-  atom-reads.Learnt,
-) (primaries-at t) primaries.Post
+primaries-add-t14 : (t : ℕ) → primaries-lts.Need-add-t14 (primaries-claims t) (primaries-at t) primaries.Post
 primaries-add-t14 t c = search primaries-laws
 
 -- src/read.rt:145:19
-primaries-add-t16 : (t : ℕ) → primaries-lts.Need-add-t16 (
-  peek-reads.Asked,
-  peek-reads.Learnt,
-  arrows-below t,
-  arrows.Post,
-  truth-reads.Asked,
-  truth-reads.Learnt,
-  atom-reads.Asked,
-  atom-reads.Learnt,
-) (primaries-at t) primaries.Post
+primaries-add-t16 : (t : ℕ) → primaries-lts.Need-add-t16 (primaries-claims t) (primaries-at t) primaries.Post
 primaries-add-t16 t c = search primaries-laws
 
 -- src/read.rt:143:9
-primaries-same-length-2 : (t : ℕ) → primaries-lts.Need-same-length-2 (
-  peek-reads.Asked,
-  peek-reads.Learnt,
-  arrows-below t,
-  arrows.Post,
-  truth-reads.Asked,
-  truth-reads.Learnt,
-  atom-reads.Asked,
-  atom-reads.Learnt,
-) (primaries-at t) primaries.Post
+primaries-same-length-2 : (t : ℕ) → primaries-lts.Need-same-length-2 (primaries-claims t) (primaries-at t) primaries.Post
 primaries-same-length-2 t c = search primaries-laws
 
 -- src/read.rt:143:9
-primaries-returns-2 : (t : ℕ) → primaries-lts.Need-returns-2 (
-  peek-reads.Asked,
-  peek-reads.Learnt,
-  arrows-below t,
-  arrows.Post,
-  truth-reads.Asked,
-  truth-reads.Learnt,
-  atom-reads.Asked,
-  atom-reads.Learnt,
-) (primaries-at t) primaries.Post
+primaries-returns-2 : (t : ℕ) → primaries-lts.Need-returns-2 (primaries-claims t) (primaries-at t) primaries.Post
 primaries-returns-2 t c = search primaries-laws
 
 -- src/read.rt:148:31
-primaries-sub-atom : (t : ℕ) → primaries-lts.Need-sub-atom (
-  peek-reads.Asked,
-  peek-reads.Learnt,
-  arrows-below t,
-  arrows.Post,
-  truth-reads.Asked,
-  truth-reads.Learnt,
-  atom-reads.Asked,
-  atom-reads.Learnt,
-) (primaries-at t) primaries.Post
+primaries-sub-atom : (t : ℕ) → primaries-lts.Need-sub-atom (primaries-claims t) (primaries-at t) primaries.Post
 primaries-sub-atom t c = search primaries-laws
 
 -- src/read.rt:148:30
-primaries-cast-atom : (t : ℕ) → primaries-lts.Need-cast-atom (
-  peek-reads.Asked,
-  peek-reads.Learnt,
-  arrows-below t,
-  arrows.Post,
-  truth-reads.Asked,
-  truth-reads.Learnt,
-  atom-reads.Asked,
-  atom-reads.Learnt,
-) (primaries-at t) primaries.Post
+primaries-cast-atom : (t : ℕ) → primaries-lts.Need-cast-atom (primaries-claims t) (primaries-at t) primaries.Post
 primaries-cast-atom t c = search primaries-laws
 
 -- src/read.rt:148:19
-primaries-atom-requires : (t : ℕ) → primaries-lts.Need-atom-requires (
-  peek-reads.Asked,
-  peek-reads.Learnt,
-  arrows-below t,
-  arrows.Post,
-  truth-reads.Asked,
-  truth-reads.Learnt,
-  atom-reads.Asked,
-  atom-reads.Learnt,
-) (primaries-at t) primaries.Post
+primaries-atom-requires : (t : ℕ) → primaries-lts.Need-atom-requires (primaries-claims t) (primaries-at t) primaries.Post
 primaries-atom-requires t c κs = search primaries-laws
 
 -- src/read.rt:148:5
-primaries-mul-nodes-2 : (t : ℕ) → primaries-lts.Need-mul-nodes-2 (
-  peek-reads.Asked,
-  peek-reads.Learnt,
-  arrows-below t,
-  arrows.Post,
-  truth-reads.Asked,
-  truth-reads.Learnt,
-  atom-reads.Asked,
-  atom-reads.Learnt,
-) (primaries-at t) primaries.Post
+primaries-mul-nodes-2 : (t : ℕ) → primaries-lts.Need-mul-nodes-2 (primaries-claims t) (primaries-at t) primaries.Post
 primaries-mul-nodes-2 t c = search primaries-laws
 
 -- src/read.rt:148:5
-primaries-slice-write-nodes-2 : (t : ℕ) → primaries-lts.Need-slice-write-nodes-2 (
-  peek-reads.Asked,
-  peek-reads.Learnt,
-  arrows-below t,
-  arrows.Post,
-  truth-reads.Asked,
-  truth-reads.Learnt,
-  atom-reads.Asked,
-  atom-reads.Learnt,
-) (primaries-at t) primaries.Post
+primaries-slice-write-nodes-2 : (t : ℕ) → primaries-lts.Need-slice-write-nodes-2 (primaries-claims t) (primaries-at t) primaries.Post
 primaries-slice-write-nodes-2 t c = search primaries-laws
 
 -- src/read.rt:150:13
-primaries-add-t19 : (t : ℕ) → primaries-lts.Need-add-t19 (
-  peek-reads.Asked,
-  peek-reads.Learnt,
-  arrows-below t,
-  arrows.Post,
-  truth-reads.Asked,
-  truth-reads.Learnt,
-  atom-reads.Asked,
-  atom-reads.Learnt,
-) (primaries-at t) primaries.Post
+primaries-add-t19 : (t : ℕ) → primaries-lts.Need-add-t19 (primaries-claims t) (primaries-at t) primaries.Post
 primaries-add-t19 t c = search primaries-laws
 
 -- src/read.rt:151:15
-primaries-add-t20 : (t : ℕ) → primaries-lts.Need-add-t20 (
-  peek-reads.Asked,
-  peek-reads.Learnt,
-  arrows-below t,
-  arrows.Post,
-  truth-reads.Asked,
-  truth-reads.Learnt,
-  atom-reads.Asked,
-  atom-reads.Learnt,
-) (primaries-at t) primaries.Post
+primaries-add-t20 : (t : ℕ) → primaries-lts.Need-add-t20 (primaries-claims t) (primaries-at t) primaries.Post
 primaries-add-t20 t c = search primaries-laws
 
 -- src/read.rt:129:1
-primaries-same-length-3 : (t : ℕ) → primaries-lts.Need-same-length-3 (
-  peek-reads.Asked,
-  peek-reads.Learnt,
-  arrows-below t,
-  arrows.Post,
-  truth-reads.Asked,
-  truth-reads.Learnt,
-  atom-reads.Asked,
-  atom-reads.Learnt,
-) (primaries-at t) primaries.Post
+primaries-same-length-3 : (t : ℕ) → primaries-lts.Need-same-length-3 (primaries-claims t) (primaries-at t) primaries.Post
 primaries-same-length-3 t c = search primaries-laws
 
 -- src/read.rt:129:1
-primaries-returns-3 : (t : ℕ) → primaries-lts.Need-returns-3 (
-  peek-reads.Asked,
-  peek-reads.Learnt,
-  arrows-below t,
-  arrows.Post,
-  truth-reads.Asked,
-  truth-reads.Learnt,
-  atom-reads.Asked,
-  atom-reads.Learnt,
-) (primaries-at t) primaries.Post
+primaries-returns-3 : (t : ℕ) → primaries-lts.Need-returns-3 (primaries-claims t) (primaries-at t) primaries.Post
 primaries-returns-3 t c = search primaries-laws
 
 -- src/read.rt:87:9
-untils-prefixes-requires : (t : ℕ) → untils-lts.Need-prefixes-requires (
-  prefixes-below t,
-  prefixes.Post,
-  peek-reads.Asked,
-  peek-reads.Learnt,
-  untils-below t,
-  untils.Post,
-  until-reads.Asked,
-  until-reads.Learnt,
-) (untils-at t) untils.Post
-untils-prefixes-requires t c κs = search untils-laws
+untils-prefixes-requires : (t : ℕ) → untils-lts.Need-prefixes-requires (untils-claims t) (untils-at t) untils.Post
+untils-prefixes-requires t c κs = (search untils-falling, search untils-ready)
 
 -- src/read.rt:90:9
-untils-peek-requires : (t : ℕ) → untils-lts.Need-peek-requires (
-  prefixes-below t,
-  prefixes.Post,
-  peek-reads.Asked,
-  peek-reads.Learnt,
-  untils-below t,
-  untils.Post,
-  until-reads.Asked,
-  until-reads.Learnt,
-) (untils-at t) untils.Post
+untils-peek-requires : (t : ℕ) → untils-lts.Need-peek-requires (untils-claims t) (untils-at t) untils.Post
 untils-peek-requires t c κs = search untils-laws
 
 -- src/read.rt:92:9
-untils-same-length : (t : ℕ) → untils-lts.Need-same-length (
-  prefixes-below t,
-  prefixes.Post,
-  peek-reads.Asked,
-  peek-reads.Learnt,
-  untils-below t,
-  untils.Post,
-  until-reads.Asked,
-  until-reads.Learnt,
-) (untils-at t) untils.Post
+untils-same-length : (t : ℕ) → untils-lts.Need-same-length (untils-claims t) (untils-at t) untils.Post
 untils-same-length t c = search untils-laws
 
 -- src/read.rt:92:9
-untils-returns : (t : ℕ) → untils-lts.Need-returns (
-  prefixes-below t,
-  prefixes.Post,
-  peek-reads.Asked,
-  peek-reads.Learnt,
-  untils-below t,
-  untils.Post,
-  until-reads.Asked,
-  until-reads.Learnt,
-) (untils-at t) untils.Post
-untils-returns t c = search untils-laws
+untils-returns : (t : ℕ) → untils-lts.Need-returns (untils-claims t) (untils-at t) untils.Post
+untils-returns t c = search untils-stop-low
 
 -- src/read.rt:95:9
-untils-same-length-2 : (t : ℕ) → untils-lts.Need-same-length-2 (
-  prefixes-below t,
-  prefixes.Post,
-  peek-reads.Asked,
-  peek-reads.Learnt,
-  untils-below t,
-  untils.Post,
-  until-reads.Asked,
-  until-reads.Learnt,
-) (untils-at t) untils.Post
+untils-same-length-2 : (t : ℕ) → untils-lts.Need-same-length-2 (untils-claims t) (untils-at t) untils.Post
 untils-same-length-2 t c = search untils-laws
 
 -- src/read.rt:95:9
-untils-returns-2 : (t : ℕ) → untils-lts.Need-returns-2 (
-  prefixes-below t,
-  prefixes.Post,
-  peek-reads.Asked,
-  peek-reads.Learnt,
-  untils-below t,
-  untils.Post,
-  until-reads.Asked,
-  until-reads.Learnt,
-) (untils-at t) untils.Post
-untils-returns-2 t c = search untils-laws
+untils-returns-2 : (t : ℕ) → untils-lts.Need-returns-2 (untils-claims t) (untils-at t) untils.Post
+untils-returns-2 t c = search untils-stop-high
 
 -- src/read.rt:97:27
-untils-add-untils : (t : ℕ) → untils-lts.Need-add-untils (
-  prefixes-below t,
-  prefixes.Post,
-  peek-reads.Asked,
-  peek-reads.Learnt,
-  untils-below t,
-  untils.Post,
-  until-reads.Asked,
-  until-reads.Learnt,
-) (untils-at t) untils.Post
-untils-add-untils t c = search untils-laws
+untils-add-next : (t : ℕ) → untils-lts.Need-add-next (untils-claims t) (untils-at t) untils.Post
+untils-add-next t c = search untils-index
 
 -- src/read.rt:97:9
-untils-untils-requires : (t : ℕ) → untils-lts.Need-untils-requires (
-  prefixes-below t,
-  prefixes.Post,
-  peek-reads.Asked,
-  peek-reads.Learnt,
-  untils-below t,
-  untils.Post,
-  until-reads.Asked,
-  until-reads.Learnt,
-) (untils-at t) untils.Post
-untils-untils-requires t c κs = (untils-falls _ _ _ _ _ _ _ _ _ (c .before .before .before .before .before .before .before .before .before .before .pre .1) (c .before .before .before .before .before .before .prefixes .ensures) (c .before .before .before .peek .ensures) (c .before .before .if1 .left) (c .before .if2 .left) t (c .before .before .before .before .before .before .before .before .before .before .pre .0), untils-ready _ _ _ _ _ _ _ _ _ (c .before .before .before .before .before .before .before .before .before .before .pre .1) (c .before .before .before .before .before .before .prefixes .ensures) (c .before .before .before .peek .ensures) (c .before .before .if1 .left) (c .before .if2 .left))
+untils-untils-requires : (t : ℕ) → untils-lts.Need-untils-requires (untils-claims t) (untils-at t) untils.Post
+untils-untils-requires t c κs = (search untils-falling, search untils-ready)
 
 -- src/read.rt:99:31
-untils-sub-until : (t : ℕ) → untils-lts.Need-sub-until (
-  prefixes-below t,
-  prefixes.Post,
-  peek-reads.Asked,
-  peek-reads.Learnt,
-  untils-below t,
-  untils.Post,
-  until-reads.Asked,
-  until-reads.Learnt,
-) (untils-at t) untils.Post
+untils-sub-until : (t : ℕ) → untils-lts.Need-sub-until (untils-claims t) (untils-at t) untils.Post
 untils-sub-until t c = search untils-laws
 
 -- src/read.rt:99:38
-untils-sub-until-2 : (t : ℕ) → untils-lts.Need-sub-until-2 (
-  prefixes-below t,
-  prefixes.Post,
-  peek-reads.Asked,
-  peek-reads.Learnt,
-  untils-below t,
-  untils.Post,
-  until-reads.Asked,
-  until-reads.Learnt,
-) (untils-at t) untils.Post
+untils-sub-until-2 : (t : ℕ) → untils-lts.Need-sub-until-2 (untils-claims t) (untils-at t) untils.Post
 untils-sub-until-2 t c = search untils-laws
 
 -- src/read.rt:99:16
-untils-until-requires : (t : ℕ) → untils-lts.Need-until-requires (
-  prefixes-below t,
-  prefixes.Post,
-  peek-reads.Asked,
-  peek-reads.Learnt,
-  untils-below t,
-  untils.Post,
-  until-reads.Asked,
-  until-reads.Learnt,
-) (untils-at t) untils.Post
-untils-until-requires t c κs = untils-low-after _ _ _ _ _ _ _ _ _ (c .before .before .before .before .before .before .before .before .before .before .before .before .before .pre .1) (c .before .before .before .before .before .before .before .before .before .prefixes .ensures) (c .before .before .before .before .before .before .peek .ensures) (c .before .before .before .before .before .if1 .left) (c .before .before .before .before .if2 .left) _ _ _ (c .before .before .untils .ensures)
+untils-until-requires : (t : ℕ) → untils-lts.Need-until-requires (untils-claims t) (untils-at t) untils.Post
+untils-until-requires t c κs = (search untils-low-first, search untils-low-second)
 
 -- src/read.rt:99:5
-untils-mul-nodes : (t : ℕ) → untils-lts.Need-mul-nodes (
-  prefixes-below t,
-  prefixes.Post,
-  peek-reads.Asked,
-  peek-reads.Learnt,
-  untils-below t,
-  untils.Post,
-  until-reads.Asked,
-  until-reads.Learnt,
-) (untils-at t) untils.Post
+untils-mul-nodes : (t : ℕ) → untils-lts.Need-mul-nodes (untils-claims t) (untils-at t) untils.Post
 untils-mul-nodes t c = search untils-laws
 
 -- src/read.rt:99:5
-untils-slice-write-nodes : (t : ℕ) → untils-lts.Need-slice-write-nodes (
-  prefixes-below t,
-  prefixes.Post,
-  peek-reads.Asked,
-  peek-reads.Learnt,
-  untils-below t,
-  untils.Post,
-  until-reads.Asked,
-  until-reads.Learnt,
-) (untils-at t) untils.Post
-untils-slice-write-nodes t c = untils-write-after _ _ _ _ _ _ _ _ _ (c .before .before .before .before .before .before .before .before .before .before .before .before .before .before .pre .1) (c .before .before .before .before .before .before .before .before .before .before .prefixes .ensures) (c .before .before .before .before .before .before .before .peek .ensures) (c .before .before .before .before .before .before .if1 .left) (c .before .before .before .before .before .if2 .left) _ _ _ (c .before .before .before .untils .ensures)
+untils-slice-write-nodes : (t : ℕ) → untils-lts.Need-slice-write-nodes (untils-claims t) (untils-at t) untils.Post
+untils-slice-write-nodes t c = search untils-write-after
 
 -- src/read.rt:102:15
-untils-add-t15 : (t : ℕ) → untils-lts.Need-add-t15 (
-  prefixes-below t,
-  prefixes.Post,
-  peek-reads.Asked,
-  peek-reads.Learnt,
-  untils-below t,
-  untils.Post,
-  until-reads.Asked,
-  until-reads.Learnt,
-) (untils-at t) untils.Post
-untils-add-t15 t c = search untils-laws
+untils-add-end : (t : ℕ) → untils-lts.Need-add-end (untils-claims t) (untils-at t) untils.Post
+untils-add-end t c = search untils-laws
 
 -- src/read.rt:83:1
-untils-same-length-3 : (t : ℕ) → untils-lts.Need-same-length-3 (
-  prefixes-below t,
-  prefixes.Post,
-  peek-reads.Asked,
-  peek-reads.Learnt,
-  untils-below t,
-  untils.Post,
-  until-reads.Asked,
-  until-reads.Learnt,
-) (untils-at t) untils.Post
+untils-same-length-3 : (t : ℕ) → untils-lts.Need-same-length-3 (untils-claims t) (untils-at t) untils.Post
 untils-same-length-3 t c = search untils-laws
 
 -- src/read.rt:83:1
-untils-returns-3 : (t : ℕ) → untils-lts.Need-returns-3 (
-  prefixes-below t,
-  prefixes.Post,
-  peek-reads.Asked,
-  peek-reads.Learnt,
-  untils-below t,
-  untils.Post,
-  until-reads.Asked,
-  until-reads.Learnt,
-) (untils-at t) untils.Post
-untils-returns-3 t c = untils-read _ _ _ _ _ _ _ _ _ (c .before .before .before .before .before .before .before .before .before .before .before .before .before .before .pre .1) (c .before .before .before .before .before .before .before .before .before .before .prefixes .ensures) (c .before .before .before .before .before .before .before .peek .ensures) (c .before .before .before .before .before .before .if1 .left) (c .before .before .before .before .before .if2 .left) _ _ _ (c .before .before .before .untils .ensures) _ (c .until .ensures)
+untils-returns-3 : (t : ℕ) → untils-lts.Need-returns-3 (untils-claims t) (untils-at t) untils.Post
+untils-returns-3 t c = search untils-read
 
 pub +ands+arrows+ors+prefixes+primaries+untils-spec : {M : Type 1} → statement M
 +ands+arrows+ors+prefixes+primaries+untils-spec =
-    close μ-ands μ-arrows μ-ors μ-prefixes μ-primaries μ-untils (λ t. ands-lts.spec (
-      untils-below t,
-      untils.Post,
-      peek-reads.Asked,
-      peek-reads.Learnt,
-      not-reads.Asked,
-      not-reads.Learnt,
-      or-reads.Asked,
-      or-reads.Learnt,
-      dual-reads.Asked,
-      dual-reads.Learnt,
-    )
-    (ands-at t)
+    close μ-ands μ-arrows μ-ors μ-prefixes μ-primaries μ-untils (λ t. ands-lts.spec (ands-claims t) (ands-at t)
     ands.Post
     ands-Inv-loop
     ands-μ-loop
@@ -1515,19 +547,7 @@ pub +ands+arrows+ors+prefixes+primaries+untils-spec : {M : Type 1} → statement
     (ands-loop-again t)
     (ands-same-length t)
     (ands-returns t))
-    (λ t. arrows-lts.spec (
-      ors-below t,
-      ors.Post,
-      peek-reads.Asked,
-      peek-reads.Learnt,
-      not-reads.Asked,
-      not-reads.Learnt,
-      arrows-below t,
-      arrows.Post,
-      or-reads.Asked,
-      or-reads.Learnt,
-    )
-    (arrows-at t)
+    (λ t. arrows-lts.spec (arrows-claims t) (arrows-at t)
     arrows.Post
     (arrows-ors-requires t)
     (arrows-peek-requires t)
@@ -1547,15 +567,7 @@ pub +ands+arrows+ors+prefixes+primaries+untils-spec : {M : Type 1} → statement
     (arrows-returns t)
     (arrows-same-length-2 t)
     (arrows-returns-2 t))
-    (λ t. ors-lts.spec (
-      ands-below t,
-      ands.Post,
-      peek-reads.Asked,
-      peek-reads.Learnt,
-      or-reads.Asked,
-      or-reads.Learnt,
-    )
-    (ors-at t)
+    (λ t. ors-lts.spec (ors-claims t) (ors-at t)
     ors.Post
     ors-Inv-loop
     ors-μ-loop
@@ -1574,19 +586,7 @@ pub +ands+arrows+ors+prefixes+primaries+untils-spec : {M : Type 1} → statement
     (ors-loop-again t)
     (ors-same-length t)
     (ors-returns t))
-    (λ t. prefixes-lts.spec (
-      peek-reads.Asked,
-      peek-reads.Learnt,
-      primaries-below t,
-      primaries.Post,
-      open-prefix-reads.Asked,
-      open-prefix-reads.Learnt,
-      prefixes-below t,
-      prefixes.Post,
-      close-prefix-reads.Asked,
-      close-prefix-reads.Learnt,
-    )
-    (prefixes-at t)
+    (λ t. prefixes-lts.spec (prefixes-claims t) (prefixes-at t)
     prefixes.Post
     (prefixes-peek-requires t)
     (prefixes-primaries-requires t)
@@ -1596,22 +596,12 @@ pub +ands+arrows+ors+prefixes+primaries+untils-spec : {M : Type 1} → statement
     (prefixes-same-length-2 t)
     (prefixes-returns-2 t)
     (prefixes-open-prefix-requires t)
-    (prefixes-add-prefixes t)
+    (prefixes-add-next t)
     (prefixes-prefixes-requires t)
     (prefixes-close-prefix-requires t)
     (prefixes-same-length-3 t)
     (prefixes-returns-3 t))
-    (λ t. primaries-lts.spec (
-      peek-reads.Asked,
-      peek-reads.Learnt,
-      arrows-below t,
-      arrows.Post,
-      truth-reads.Asked,
-      truth-reads.Learnt,
-      atom-reads.Asked,
-      atom-reads.Learnt,
-    )
-    (primaries-at t)
+    (λ t. primaries-lts.spec (primaries-claims t) (primaries-at t)
     primaries.Post
     (primaries-peek-requires t)
     (primaries-add-arrows t)
@@ -1636,17 +626,7 @@ pub +ands+arrows+ors+prefixes+primaries+untils-spec : {M : Type 1} → statement
     (primaries-add-t20 t)
     (primaries-same-length-3 t)
     (primaries-returns-3 t))
-    λ t. untils-lts.spec (
-      prefixes-below t,
-      prefixes.Post,
-      peek-reads.Asked,
-      peek-reads.Learnt,
-      untils-below t,
-      untils.Post,
-      until-reads.Asked,
-      until-reads.Learnt,
-    )
-    (untils-at t)
+    λ t. untils-lts.spec (untils-claims t) (untils-at t)
     untils.Post
     (untils-prefixes-requires t)
     (untils-peek-requires t)
@@ -1654,13 +634,13 @@ pub +ands+arrows+ors+prefixes+primaries+untils-spec : {M : Type 1} → statement
     (untils-returns t)
     (untils-same-length-2 t)
     (untils-returns-2 t)
-    (untils-add-untils t)
+    (untils-add-next t)
     (untils-untils-requires t)
+    (untils-add-end t)
     (untils-sub-until t)
     (untils-sub-until-2 t)
     (untils-until-requires t)
     (untils-mul-nodes t)
     (untils-slice-write-nodes t)
-    (untils-add-t15 t)
     (untils-same-length-3 t)
     (untils-returns-3 t)
