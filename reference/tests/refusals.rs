@@ -162,7 +162,7 @@ fn joint_acceptance_and_joining() {
 
 #[test]
 fn joint_lent_space() {
-    for (n, m, s) in [(63, 8, 128), (64, 7, 128), (64, 8, 127)] {
+    for (n, m, s) in [(63, 11, 128), (64, 10, 128), (64, 11, 127)] {
         let (mut nodes, mut masks, mut states) = (vec![7; n], vec![7; m], vec![7; s]);
         let mut heading = [1; 5];
         let part = model::read_joint(b"x", b"y", &mut nodes, &mut masks, &mut states, &mut heading);
@@ -178,7 +178,7 @@ fn joint_lent_space() {
 fn refused_rule_tables() {
     let word = |kind: u32, first: u32, second: u32| kind + 256 * first + 1048576 * second;
     let cases: &[(usize, usize, Vec<u32>, u8)] = &[
-        (8, 1, vec![0], 2),
+        (11, 1, vec![0], 2),
         (0, 0, vec![0], 2),
         (0, 65, vec![0; 65], 2),
         (0, usize::MAX, vec![0], 2),
