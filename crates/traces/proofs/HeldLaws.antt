@@ -8,7 +8,7 @@ use mathlib.Core.Bool.{Bool, true, false, not, _&&_, _||_}
 use mathlib.Core.List.{List, [], _∷_}
 use lib.Arith.{bin-ind}
 use lib.Dec.{eqb, leb}
-use lib.Bits.{bitAnd, bitOr, bitXor, differ, and-step, xor-step, and-zero-l, and-comm, xor-zero-l, xor-self, and-shr, xor-shr, and-mod, xor-mod, xor-add-and, and-le-l, and-le-r}
+use lib.Bits.{bitAnd, bitOr, bitXor, differ, and-step, xor-step, and-zero-l, or-zero-r, and-comm, xor-zero-l, xor-self, and-shr, xor-shr, and-mod, xor-mod, xor-add-and, and-le-l, and-le-r}
 use lib.ListN.{length, take, getD, length-take, List·getD-eq-default}
 use lib.Seq.{getD-take, take-all, take-length}
 use borrow.Author.Needs.{needs}
@@ -292,15 +292,34 @@ pub by-start : (C : ℕ) (masks : List ℕ) (marks : ℕ) → HeldLeft C masks m
 unfolding heldBy
 by-start C masks marks = let z : C - 0 ≡ C = omega arith in record { within = omega arith; left = rw z }
 
-module _ (C : ℕ) (masks : List ℕ) (marks held c : ℕ) (inv : HeldLeft C masks marks held c) where
-  pub by-next : c < C → (mask held′ : ℕ) → mask ≡ getD masks c 0 → held′ ≡ heldWith held mask (eqb (marks / 2 ^ c % 2) 1) → HeldLeft C masks marks held′ (c + 1)
-  unfolding heldFrom bitOf
-  by-next h mask held′ m e =
-      let n : C - c ≡ suc (C - (c + 1)) = omega arith in
-      record { within = omega arith; left = inv .left ∙ rw (n, e, m) }
+all-held : (C : ℕ) (masks : List ℕ) (marks held c : ℕ) → HeldLeft C masks marks held c → C ≤ c → held ≡ heldBy C masks marks
+unfolding heldFrom
+all-held C masks marks held c inv h = let z : C - c ≡ 0 = omega arith in sym (inv .left ∙ rw z)
 
-  pub by-end : C ≤ c → held ≡ heldBy C masks marks
-  unfolding heldFrom
-  by-end h = let z : C - c ≡ 0 = omega arith in sym (inv .left ∙ rw z)
+pick-same : (z : Bool) (a : ℕ) → pick z a a ≡ a
+unfolding pick
+pick-same true a = refl
+pick-same false a = refl
+
+-- masks that aren't there hold nothing
+none-held : (n c held : ℕ) (masks : List ℕ) (marks : ℕ) → length masks ≤ c → heldFrom n c held masks marks ≡ held
+unfolding heldFrom heldWith
+none-held zero c held masks marks h = refl
+none-held (suc n) c held masks marks h =
+    rw (List·getD-eq-default masks 0 h, or-zero-r held, pick-same (bitOf marks c) held) (none-held n (c + 1) held masks marks (omega arith))
+
+module _ (C : ℕ) (masks : List ℕ) (marks held c n : ℕ) (inv : HeldLeft C masks marks held c) (there : n ≡ min C (length masks)) where
+  pub by-next : c < n → (held′ : ℕ) → held′ ≡ heldWith held (getD masks c 0) (eqb (marks / 2 ^ c % 2) 1) → HeldLeft C masks marks held′ (c + 1)
+  unfolding heldFrom bitOf
+  by-next h held′ e =
+      let one : C - c ≡ suc (C - (c + 1)) = omega arith in
+      record { within = omega arith; left = inv .left ∙ rw (one, e) }
+
+  pub by-end : n ≤ c → held ≡ heldBy C masks marks
+  by-end h = go (decLt c C)
+    where
+      go : Dec (c < C) → held ≡ heldBy C masks marks
+      go (yes l) = sym (inv .left ∙ none-held (C - c) c held masks marks (omega arith))
+      go (no l) = all-held C masks marks held c inv (omega arith)
 
 pub ruleset held-laws = (needs, changed-is, table-is, part-length, group-is, at-few, at-many, broken-is, with-ran, with-held, by-start, by-next, by-end)

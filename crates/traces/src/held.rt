@@ -22,14 +22,14 @@ fn held_with(held: u32, mask: u32, ran: bool) -> u32
 }
 
 // The atoms that a state of these run marks holds, from one mask to the next: for a single state, where a table wouldn't pay.
-pub fn held_by(controllers: usize, masks: &[u32], marks: u64) -> u32
+fn held_by(controllers: usize, masks: &[u32], marks: u64) -> u32
     requires { ⌜ controllers ≤ maxControllers ⌝ }
     ensures { λ r. ⌜ r ≡ heldBy controllers (now (masks .entry)) marks ⌝ }
 {
+    let count = least(controllers, masks.len());
     let mut held: u32 = 0;
-    for c in 0..controllers {
-        let mask = mask_at(masks, c);
-        held = held_with(held, mask, (marks >> c) % 2 == 1);
+    for c in 0..count {
+        held = held_with(held, masks[c], (marks >> c) % 2 == 1);
     }
     held
 }

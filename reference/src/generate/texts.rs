@@ -78,7 +78,8 @@ pub enum Damage {
     HugeCount,
     /// A hexadecimal or decimal digit becomes another.
     DigitChanged,
-    /// The run marks of a state with a digit more, or one fewer.
+    /// The run marks of a state, or any field where there is none, with a digit
+    /// more or one fewer.
     MarkDigits,
     /// A letter, or a hexadecimal digit, in upper case.
     UpperCase,
@@ -300,16 +301,18 @@ fn damage_number(random: &mut Random, text: &mut Vec<u8>, damage: Damage) {
     }
 }
 
-/// Damage to the number of digits of a state's run marks.
+/// Damage to the number of digits of a state's run marks, or of any field where
+/// there is no state.
 fn damage_mark_digits(random: &mut Random, text: &mut Vec<u8>) {
-    let states = places(text, |byte| byte == 9);
-    let states: Vec<usize> =
-        states.into_iter().filter(|at| text[..*at].ends_with(b"\nat")).collect();
-    if states.is_empty() {
+    let tabs = places(text, |byte| byte == 9);
+    let of_state = |at: &usize| text[..*at].ends_with(b"\nat");
+    let states: Vec<usize> = tabs.iter().copied().filter(of_state).collect();
+    let tabs = if states.is_empty() { tabs } else { states };
+    if tabs.is_empty() {
         return;
     }
-    let at = random.pick(&states) + 1;
-    if random.once_in(2) {
+    let at = random.pick(&tabs) + 1;
+    if at == text.len() || random.once_in(2) {
         text.insert(at, b'0');
     } else {
         text.remove(at);

@@ -6,16 +6,22 @@ use Rattle.traces.proofs.held.held_by.Statement.{statement}
 use Rattle.traces.proofs.held.held_by.Tie as tie
 
 abbrev Inv-loop : tie.InvT-loop
-Inv-loop controllers masks marks held₀ c₀ held c = HeldLeft controllers masks marks held c
+Inv-loop controllers masks marks count held₀ c₀ held c = HeldLeft controllers masks marks held c
 
 abbrev μ-loop : tie.MeasureT-loop
-μ-loop controllers masks marks held₀ c₀ held c = controllers - c
+μ-loop controllers masks marks count held₀ c₀ held c = count - c
+
+least-requires : tie.Need-least-requires Inv-loop μ-loop
+least-requires c κs = search needs
 
 loop-holds : tie.Need-loop-holds Inv-loop μ-loop
 loop-holds c = search by-start
 
-mask-at-requires : tie.Need-mask-at-requires Inv-loop μ-loop
-mask-at-requires c κs = search needs
+mul-held-with : tie.Need-mul-held-with Inv-loop μ-loop
+mul-held-with c = search needs
+
+shared-slice-read-held-with : tie.Need-shared-slice-read-held-with Inv-loop μ-loop
+shared-slice-read-held-with c = search needs
 
 shr-held-with : tie.Need-shr-held-with Inv-loop μ-loop
 shr-held-with c = search needs
@@ -30,13 +36,7 @@ loop-less : tie.Need-loop-less Inv-loop μ-loop
 loop-less c = search needs
 
 loop-again : tie.Need-loop-again Inv-loop μ-loop
-loop-again c =
-    let found = c .before in
-    let turn = found .before in
-    let l = turn .before .loop in
-    let a = turn .before .before .before .args in
-    by-next (a .controllers) (a .masks .now) (a .marks) (l .held) (l .c) (l .inv) (turn .loop-test .taken) (found .mask-at .result) (c .held-with .result)
-    (found .mask-at .ensures) (c .held-with .ensures)
+loop-again c = search by-next
 
 returns : tie.Need-returns Inv-loop μ-loop
 returns c = search by-end
@@ -47,8 +47,10 @@ held-by-spec =
     (tie.spec
     Inv-loop
     μ-loop
+    least-requires
     loop-holds
-    mask-at-requires
+    mul-held-with
+    shared-slice-read-held-with
     shr-held-with
     held-with-requires
     add-c
