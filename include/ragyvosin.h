@@ -22,7 +22,7 @@
  * only read may have any length: entries past the count aren't read, and
  * fewer entries than the count are a line missing (4 or 8).
  *
- * A rule is a controller, 0 to 7, and 1 to 64 nodes; the last node is the
+ * A rule is a controller, 0 to 10, and 1 to 64 nodes; the last node is the
  * rule, the others are its parts. A node is
  *     kind + 256 * first + 1048576 * second,
  * each operand below 4096 and 0 where it isn't used. The first operand of an
@@ -31,7 +31,7 @@
  * or, until and since have both, in the order in which they are said: until
  * is "first until second", since is "first since second".
  *
- * A recording is C controllers, 1 to 8, each with a mask of the atoms that it
+ * A recording is C controllers, 1 to 11, each with a mask of the atoms that it
  * owns, and N states, 1 to 128. A state is atoms + 4294967296 * run marks, bit
  * c for controller c. A mark in the last of the N states is a step whose result
  * isn't there: it is read as no run, and the state as read still holds it. A
@@ -88,7 +88,7 @@ enum {
 /* Full sizes of lent space, in entries. */
 enum {
     RGV_RULE_NODES = 64,
-    RGV_MASKS = 8,
+    RGV_MASKS = 11,
     RGV_STATES = 128,
     RGV_PLACES = 128,
     RGV_TABLE_NODES = 1024,

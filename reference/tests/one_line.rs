@@ -62,8 +62,8 @@ fn numbers_come_in_their_order() {
     for (line, number) in trials {
         assert_eq!(read(0, line.as_bytes()).err().unwrap_or(0), number, "{line}");
     }
-    assert_eq!(read(8, b"a0"), Err(2));
-    assert_eq!(read(8, b"("), Err(15));
+    assert_eq!(read(11, b"a0"), Err(2));
+    assert_eq!(read(11, b"("), Err(15));
 }
 
 #[test]

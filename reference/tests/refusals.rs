@@ -45,12 +45,12 @@ const RULE_TEXTS: &[TextCase] = &[
     (b"rule\t0\t1\ntrue\n\n", 4, 14, b""),
     (b"rule\t0\t1\ntrue\nnot\t0\nnot\t0\n", 4, 14, b"not\t0"),
     (b"rule\t0\t1\ntrue\nnot", 4, 14, b"not"),
-    (b"rule\t8\t1\n", 2, 0, b"rule\t8\t1"),
+    (b"rule\t11\t1\n", 2, 0, b"rule\t11\t1"),
     (b"rule\t0\t0\n", 2, 0, b"rule\t0\t0"),
     (b"rule\t0\t65\n", 2, 0, b"rule\t0\t65"),
     (b"rule\t0\t99999999999999999999\n", 2, 0, b"rule\t0\t99999999999999999999"),
     (b"rule\t0\t18446744073709551617\n", 2, 0, b"rule\t0\t18446744073709551617"),
-    (b"rule\t8\t01\n", 1, 0, b"rule\t8\t01"),
+    (b"rule\t11\t01\n", 1, 0, b"rule\t11\t01"),
     (b"rule\t00\t1\n", 1, 0, b"rule\t00\t1"),
     (b"rule\t0\t1\t\n", 1, 0, b"rule\t0\t1\t"),
     (b"rules\t0\t1\n", 1, 0, b"rules\t0\t1"),
@@ -109,11 +109,11 @@ const RECORDING_TEXTS: &[TextCase] = &[
     (b"", 8, 0, b""),
     (b"recording\t1\t1", 5, 0, b"recording\t1\t1"),
     (b"recording\t0\t1\n", 6, 0, b"recording\t0\t1"),
-    (b"recording\t9\t1\n", 6, 0, b"recording\t9\t1"),
+    (b"recording\t12\t1\n", 6, 0, b"recording\t12\t1"),
     (b"recording\t1\t0\n", 6, 0, b"recording\t1\t0"),
     (b"recording\t1\t129\n", 6, 0, b"recording\t1\t129"),
     (b"recording\t1\t99999999999999999999\n", 6, 0, b"recording\t1\t99999999999999999999"),
-    (b"recording\t9\t01\n", 5, 0, b"recording\t9\t01"),
+    (b"recording\t12\t01\n", 5, 0, b"recording\t12\t01"),
     (b"recording\t1\n", 5, 0, b"recording\t1"),
     (b"recording\t1\t1\n", 8, 14, b""),
     (b"recording\t1\t1\nowns\t0000000A\n", 5, 14, b"owns\t0000000A"),
@@ -162,7 +162,7 @@ fn joint_acceptance_and_joining() {
 
 #[test]
 fn joint_lent_space() {
-    for (n, m, s) in [(63, 8, 128), (64, 7, 128), (64, 8, 127)] {
+    for (n, m, s) in [(63, 11, 128), (64, 10, 128), (64, 11, 127)] {
         let (mut nodes, mut masks, mut states) = (vec![7; n], vec![7; m], vec![7; s]);
         let mut heading = [1; 5];
         let part = model::read_joint(b"x", b"y", &mut nodes, &mut masks, &mut states, &mut heading);
@@ -178,7 +178,7 @@ fn joint_lent_space() {
 fn refused_rule_tables() {
     let word = |kind: u32, first: u32, second: u32| kind + 256 * first + 1048576 * second;
     let cases: &[(usize, usize, Vec<u32>, u8)] = &[
-        (8, 1, vec![0], 2),
+        (11, 1, vec![0], 2),
         (0, 0, vec![0], 2),
         (0, 65, vec![0; 65], 2),
         (0, usize::MAX, vec![0], 2),
@@ -219,7 +219,7 @@ fn refused_recording_tables() {
     type Case = (usize, usize, Vec<u32>, Vec<u64>, usize, u8);
     let cases: &[Case] = &[
         (0, 1, vec![], vec![0], 0, 6),
-        (9, 1, vec![0; 9], vec![0], 0, 6),
+        (12, 1, vec![0; 12], vec![0], 0, 6),
         (1, 0, vec![0], vec![], 0, 6),
         (1, 129, vec![0], vec![0; 129], 0, 6),
         (usize::MAX, usize::MAX, vec![], vec![], 0, 6),

@@ -123,9 +123,9 @@ pub record Behind : Type 0 where
   pub laid : evidencePairs (rule response) R weakly (replicate maxPairs 7 ++ (7 ∷ [])) ≡ 64 ∷ 66 ∷ (replicate 8190 0 ++ (7 ∷ []))
   pub none : evidenceAnswer (rule response) R strongly (replicate maxPairs 7) ≡ answer 0 (0 ∷ [])
   -- "Lent space for fewer than 8,192 pairs is refused with 13", before the rule; then the rule, the recording, 11
-  pub short : evidenceNumber (ruleFor 8 []) (recorded [] []) (replicate 8191 7) ≡ 13
+  pub short : evidenceNumber (ruleFor 11 []) (recorded [] []) (replicate 8191 7) ≡ 13
   pub untouched : evidencePairs (rule response) R weakly (7 ∷ 7 ∷ []) ≡ 7 ∷ 7 ∷ []
-  pub rule2 : evidenceNumber (ruleFor 8 []) (recorded [] []) (replicate maxPairs 7) ≡ 2
+  pub rule2 : evidenceNumber (ruleFor 11 []) (recorded [] []) (replicate maxPairs 7) ≡ 2
   pub rule3 : evidenceAnswer (rule (node Not 0 0 ∷ [])) R weakly (replicate maxPairs 7) ≡ answer 3 []
   pub recording6 : evidenceNumber (rule response) (recorded [] []) (replicate maxPairs 7) ≡ 6
   pub joining : evidenceNumber (ruleFor 2 response) R (replicate maxPairs 7) ≡ 11

@@ -143,9 +143,9 @@ pub record Numbers : Type 0 where
   pub atom32 : lineRefusal 0 (bytes "a32") ≡ 2
   pub atomLong : lineRefusal 0 (bytes "a4294967296") ≡ 2
   -- "a controller above its limit"
-  pub controller7 : lineRefusal 7 (bytes "a0") ≡ 0
-  pub controller8 : lineRefusal 8 (bytes "a0") ≡ 2
-  pub controller8NoSentence : lineRefusal 8 (bytes "(") ≡ 15
+  pub controller10 : lineRefusal 10 (bytes "a0") ≡ 0
+  pub controller11 : lineRefusal 11 (bytes "a0") ≡ 2
+  pub controller11NoSentence : lineRefusal 11 (bytes "(") ≡ 15
   -- "over 1,024 bytes"
   pub bytes1024 : lineRefusal 0 (times 13 (nested 16 ++ bytes " | ") ++ (times 13 (nested 16 ++ bytes "|") ++ nested 16)) ≡ 0
   pub bytes1025 : lineRefusal 0 (times 13 (nested 16 ++ bytes " | ") ++ (nested 16 ++ (bytes " |" ++ (times 12 (nested 16 ++ bytes "|") ++ nested 16)))) ≡ 15
@@ -174,9 +174,9 @@ numbers = record {
   atom31 = refl;
   atom32 = refl;
   atomLong = refl;
-  controller7 = refl;
-  controller8 = refl;
-  controller8NoSentence = refl;
+  controller10 = refl;
+  controller11 = refl;
+  controller11NoSentence = refl;
   bytes1024 = refl;
   bytes1025 = refl;
 }

@@ -34,7 +34,7 @@ pub record RefusedLines : Type 0 where
   pub shortMask : afterTrue "recording\t1\t1\nowns\t1\nat\t00\t00000000\n" ≡ bytes "refused\t5\towns\t1\n"
   pub upperCase : afterTrue "recording\t1\t1\nowns\t00000001\nat\t00\t0000000A\n" ≡ bytes "refused\t5\tat\t00\t0000000A\n"
   -- "6 a number outside its limits, a run mark at C or above"
-  pub controllers9 : afterTrue "recording\t9\t1\n" ≡ bytes "refused\t6\trecording\t9\t1\n"
+  pub controllers12 : afterTrue "recording\t12\t1\n" ≡ bytes "refused\t6\trecording\t12\t1\n"
   pub markAtCount : afterTrue "recording\t1\t1\nowns\t00000001\nat\t02\t00000000\n" ≡ bytes "refused\t6\tat\t02\t00000000\n"
   -- "7 mask meets an earlier mask"
   pub masksMeet : afterTrue "recording\t3\t1\nowns\t00000001\nowns\t00000002\nowns\t00000005\n" ≡ bytes "refused\t7\towns\t00000005\n"
@@ -58,7 +58,7 @@ refusedLines = record {
   unclosedHeading = refl;
   shortMask = refl;
   upperCase = refl;
-  controllers9 = refl;
+  controllers12 = refl;
   markAtCount = refl;
   masksMeet = refl;
   outputBroken = refl;
@@ -71,8 +71,8 @@ refusedLines = record {
 pub record RefusedTables : Type 0 where
   -- 6 from both sides of the limits of C and N, and a run mark at C
   pub controllers0 : recordingRefusal (recorded [] (0 ∷ [])) ≡ 6
-  pub controllers8 : recordingRefusal (recorded (replicate 8 0) (0 ∷ [])) ≡ 0
-  pub controllers9 : recordingRefusal (recorded (replicate 9 0) (0 ∷ [])) ≡ 6
+  pub controllers11 : recordingRefusal (recorded (replicate 11 0) (0 ∷ [])) ≡ 0
+  pub controllers12 : recordingRefusal (recorded (replicate 12 0) (0 ∷ [])) ≡ 6
   pub states0 : recordingRefusal (recorded (1 ∷ []) []) ≡ 6
   pub markAtCount : recordingRefusal (recorded (1 ∷ 2 ∷ []) (stateOf 4 0 ∷ [])) ≡ 6
   -- 7, not only of neighbours
@@ -92,8 +92,8 @@ refusedTables : RefusedTables
 unfolding computed
 refusedTables = record {
   controllers0 = refl;
-  controllers8 = refl;
-  controllers9 = refl;
+  controllers11 = refl;
+  controllers12 = refl;
   states0 = refl;
   markAtCount = refl;
   masksMeet = refl;
@@ -110,10 +110,10 @@ refusedTables = record {
 pub record LentShort : Type 0 where
   pub ruleNodes : readRuleNumber [] (replicate 63 7) ≡ 13
   pub ruleText : writeRuleNumber (rule []) (replicate 1023 7) ≡ 13
-  pub masks : readRecordingNumber [] (replicate 7 7) (replicate maxStates 7) ≡ 13
+  pub masks : readRecordingNumber [] (replicate 10 7) (replicate maxStates 7) ≡ 13
   pub states : readRecordingNumber [] (replicate maxControllers 7) (replicate 127 7) ≡ 13
   pub jointNodes : readJointNumber [] [] (replicate 63 7) (replicate maxControllers 7) (replicate maxStates 7) ≡ 13
-  pub jointMasks : readJointNumber [] [] (replicate maxRuleNodes 7) (replicate 7 7) (replicate maxStates 7) ≡ 13
+  pub jointMasks : readJointNumber [] [] (replicate maxRuleNodes 7) (replicate 10 7) (replicate maxStates 7) ≡ 13
   pub jointStates : readJointNumber [] [] (replicate maxRuleNodes 7) (replicate maxControllers 7) (replicate 127 7) ≡ 13
   pub places : projectNumber (recorded [] []) 0 (replicate 127 7) ≡ 13
   pub table : rewriteNumber (rule []) (replicate 1023 7) ≡ 13
@@ -148,11 +148,11 @@ pub record LeftInLentSpace : Type 0 where
   pub textShort : writeRuleText (rule (node True 0 0 ∷ [])) (replicate 1023 7) ≡ replicate 1023 7
   pub textRefused : writeRuleText (rule []) (replicate 1025 7) ≡ replicate 1024 0 ++ (7 ∷ [])
   pub textWritten : writeRuleText (rule (node True 0 0 ∷ [])) (replicate 1025 7) ≡ bytes "rule\t0\t1\ntrue\n" ++ (replicate 1010 0 ++ (7 ∷ []))
-  pub masksShort : readRecordingMasks [] (replicate 7 7) (replicate 129 7) ≡ replicate 7 7
-  pub masksRefused : readRecordingMasks [] (replicate 9 7) (replicate 129 7) ≡ replicate 8 0 ++ (7 ∷ [])
+  pub masksShort : readRecordingMasks [] (replicate 10 7) (replicate 129 7) ≡ replicate 10 7
+  pub masksRefused : readRecordingMasks [] (replicate 12 7) (replicate 129 7) ≡ replicate 11 0 ++ (7 ∷ [])
   -- one short slice leaves the other untouched too
-  pub statesShort : readRecordingStates [] (replicate 7 7) (replicate 129 7) ≡ replicate 129 7
-  pub statesRefused : readRecordingStates [] (replicate 9 7) (replicate 129 7) ≡ replicate 128 0 ++ (7 ∷ [])
+  pub statesShort : readRecordingStates [] (replicate 10 7) (replicate 129 7) ≡ replicate 129 7
+  pub statesRefused : readRecordingStates [] (replicate 12 7) (replicate 129 7) ≡ replicate 128 0 ++ (7 ∷ [])
   pub placesShort : projectPlaces R 0 (replicate 127 7) ≡ replicate 127 7
   pub placesRefused : projectPlaces R 2 (replicate 129 7) ≡ replicate 128 0 ++ (7 ∷ [])
   -- the local traces of R: "whole word" at each place but the last; of a controller that never runs, state 0 "with own atoms only"

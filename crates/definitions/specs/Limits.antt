@@ -1,9 +1,13 @@
 -- The limits and the refusal numbers of document 01, each said once.
 use Prim.Native.Nat.{ℕ, _*_}
 
--- "C controllers (1 to 8, numbered from 0)"
+-- "C controllers (1 to ..", and "Make eleven the limit, and 10 the highest controller in a rule" (document 02)
 abbrev pub maxControllers : ℕ
-maxControllers = 8
+maxControllers = 11
+
+-- "Run marks are three hexadecimal digits where C is above 8" (document 02)
+abbrev pub twoDigitControllers : ℕ
+twoDigitControllers = 8
 
 -- "N states (1 to 128)"; a row has as many marks, a local trace at most as many places
 abbrev pub maxStates : ℕ

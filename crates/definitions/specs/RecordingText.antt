@@ -1,10 +1,10 @@
--- "Recording: `recording`, C, N; C lines `owns`, mask; N lines `at`, run marks (two digits, bit c for controller c), word", and "The joint reading".
+-- "Recording: `recording`, C, N; C lines `owns`, mask; N lines `at`, run marks (.., bit c for controller c), word", and "The joint reading".
 use Prim.Native.Nat.{ℕ, zero, suc, _+_, _-_}
 use mathlib.Core.Bool.{Bool, true, false}
 use mathlib.Core.List.{List, [], _∷_}
 use lib.ListN.{length}
-use lib.Dec.{eqb}
-use Rattle.definitions.specs.Limits.{accepted, recordingForm, recordingLines, noController}
+use lib.Dec.{eqb, ltb}
+use Rattle.definitions.specs.Limits.{twoDigitControllers, accepted, recordingForm, recordingLines, noController}
 use Rattle.definitions.specs.Bounded.{pick}
 use Rattle.definitions.specs.Recordings.{stateOf, stateRefusal, maskRefusal, recordingHeadingRefusal, controllerRefusal}
 use Rattle.definitions.specs.Lines.{bytes, isEmpty, lineLength, Parsed, hexadecimal, Heading, twoFields, worded, headingForm, NextLine, onNext, nextLine, Scan, stop, more}
@@ -24,9 +24,9 @@ atWord = bytes "at"
 abbrev pub wordDigits : ℕ
 wordDigits = 8
 
--- "run marks (two digits, bit c for controller c)"
-abbrev pub markDigits : ℕ
-markDigits = 2
+-- "Run marks are three hexadecimal digits where C is above 8 and two otherwise, in every text" (document 02)
+unfoldable pub markDigits : (C : ℕ) → ℕ
+markDigits C = pick (ltb twoDigitControllers C) 3 2
 
 -- the first line: `recording`, C, N
 abbrev pub recordingHeading : List ℕ → Parsed Heading
@@ -36,9 +36,9 @@ recordingHeading s = headingForm recordingWord s
 unfoldable pub maskForm : List ℕ → Parsed ℕ
 maskForm s = worded ownsWord (hexadecimal wordDigits) s
 
--- `at`, run marks, word
-unfoldable pub stateForm : List ℕ → Parsed ℕ
-stateForm s = worded atWord (twoFields (hexadecimal markDigits) (hexadecimal wordDigits) stateOf) s
+-- `at`, run marks, word, of a recording of C controllers
+unfoldable pub stateForm : (C : ℕ) → List ℕ → Parsed ℕ
+stateForm C s = worded atWord (twoFields (hexadecimal (markDigits C)) (hexadecimal wordDigits) stateOf) s
 
 -- the next line, as the first of a recording
 abbrev pub recordingHeadingLine : List ℕ → NextLine Heading
@@ -50,7 +50,7 @@ maskLine earlier t = nextLine recordingLines recordingForm maskForm (maskRefusal
 
 -- the next line, as the `at` line of state k; `prior` is the state before it
 abbrev pub stateLine : (C : ℕ) (masks : List ℕ) (k prior : ℕ) → List ℕ → NextLine ℕ
-stateLine C masks k prior t = nextLine recordingLines recordingForm stateForm (stateRefusal C masks k prior) t
+stateLine C masks k prior t = nextLine recordingLines recordingForm (stateForm C) (stateRefusal C masks k prior) t
 
 -- so many `owns` lines
 unfoldable pub scanMasks : (lines : ℕ) (earlier : List ℕ) → List ℕ → Scan

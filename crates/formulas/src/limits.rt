@@ -3,7 +3,10 @@
 pub struct Limits {}
 
 impl Limits {
-    pub const CONTROLLERS: usize = 8;
+    pub const CONTROLLERS: usize = 11;
+
+    // The run marks of so many controllers are two digits.
+    pub const TWO_DIGIT_CONTROLLERS: usize = 8;
 
     pub const STATES: usize = 128;
 

@@ -41,9 +41,9 @@ module _ (C : ℕ) (masks : List ℕ) where
   states-fine zero k prior t = λ n. refl
   states-fine (suc lines) k prior t =
       on-next (StatesFine k prior) (stateLine C masks k prior t) _ _
-      (λ j e n. absurd (next-some recordingLines recordingForm stateForm (stateRefusal C masks k prior) t (omega arith) (omega arith) j e n))
+      (λ j e n. absurd (next-some recordingLines recordingForm (stateForm C) (stateRefusal C masks k prior) t (omega arith) (omega arith) j e n))
       (λ s rest e n. none-or-else (stateRefusal C masks k prior s) _
-      (next-back recordingLines recordingForm stateForm (stateRefusal C masks k prior) t s rest e .fine) (states-fine lines (k + 1) s rest n))
+      (next-back recordingLines recordingForm (stateForm C) (stateRefusal C masks k prior) t s rest e .fine) (states-fine lines (k + 1) s rest n))
 
 -- ---- the whole text: an accepted recording, with as many masks and states as its heading says
 record Read (s : RecordingScan) : Type 0 where

@@ -105,3 +105,14 @@ same-verdicts-all-four-times r R S A B places mask plainR shortR plainS shortS l
       localOfFirst = judged-locally r R localR A l;
       localOfSecond = judged-locally r R localS A (other localS m);
     }
+
+-- "Equality of verdicts between recordings must hold between one of eight controllers and one of eleven": nothing above asks how many there are
+pub same-verdicts-of-eight-and-eleven : (r : Rule) (R S : Recording) → R .controllers ≡ 8 → S .controllers ≡ 11 → Accepted r R → Accepted r S →
+    localTrace R (r .controller) ≡ localTrace S (r .controller) → maskOf R (r .controller) ≡ maskOf S (r .controller) →
+    (plainR shortR plainS shortS localR localS : Judgement) →
+    JudgedWhole false r R plainR → JudgedWhole true r R shortR → JudgedWhole false r S plainS → JudgedWhole true r S shortS →
+    JudgedLocally r R localR → JudgedLocally r S localS →
+    SameVerdicts
+    (ownVerdicts r (maskOf R (r .controller)) (localTrace R (r .controller)))
+    plainR shortR plainS shortS localR localS
+same-verdicts-of-eight-and-eleven r R S eight eleven = same-verdicts-all-four-times r R S

@@ -99,14 +99,14 @@ mask-plain s v e =
     let w = worded-back ownsWord _ v s e in
     tabbed carriageReturn (omega arith) (λ q. omega arith) ownsWord (after tab s) s (w .0) refl (hex-plain carriageReturn (omega arith) wordDigits v (after tab s) (w .1))
 
-state-plain : (s : List ℕ) (v : ℕ) → stateForm s ≡ formed v → Without carriageReturn s
+state-plain : (C : ℕ) (s : List ℕ) (v : ℕ) → stateForm C s ≡ formed v → Without carriageReturn s
 unfolding stateForm before pick
-state-plain s v e =
+state-plain C s v e =
     let w = worded-back atWord _ v s e in
     let o : tab ≡ carriageReturn → ⊥ = λ q. omega arith in
     let h = hex-plain carriageReturn (omega arith) in
     tabbed carriageReturn (omega arith) o atWord (after tab s) s (w .0) refl
-    (two-plain carriageReturn (omega arith) o (hexadecimal markDigits) (hexadecimal wordDigits) stateOf v (after tab s) (h markDigits) (h wordDigits) (w .1))
+    (two-plain carriageReturn (omega arith) o (hexadecimal (markDigits C)) (hexadecimal wordDigits) stateOf v (after tab s) (h (markDigits C)) (h wordDigits) (w .1))
 
 -- a recording line that was read, and then a rest without byte 13
 module _ {A : Type 0} (form : List ℕ → Parsed A) (check : A → ℕ) (t : List ℕ) where
@@ -135,8 +135,8 @@ states-plain C masks zero k prior [] e = without-none carriageReturn
 states-plain C masks zero k prior (x ∷ t) e = absurd (omega (arith, rw (ne-eqb (suc (length t)) 0 (λ q. omega arith)) at e))
 states-plain C masks (suc lines) k prior t e =
     on-next (λ (s : Scan). s .number ≡ 0 → Without carriageReturn (withNewlines t)) (stateLine C masks k prior t) _ _
-    (λ j r z. refused-not stateForm (stateRefusal C masks k prior) t j r z)
-    (λ v rest r z. read-plain stateForm (stateRefusal C masks k prior) t v rest r (λ s f. state-plain s v f) (states-plain C masks lines (k + 1) v rest z)) e
+    (λ j r z. refused-not (stateForm C) (stateRefusal C masks k prior) t j r z)
+    (λ v rest r z. read-plain (stateForm C) (stateRefusal C masks k prior) t v rest r (λ s f. state-plain C s v f) (states-plain C masks lines (k + 1) v rest z)) e
 
 masked-plain : (C N : ℕ) (t : List ℕ) → (recordingMasks C N (scanMasks C [] t)) .number ≡ 0 → Without carriageReturn (withNewlines t)
 masked-plain C N t e =

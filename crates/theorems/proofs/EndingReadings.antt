@@ -152,7 +152,7 @@ states-same : (C : ℕ) (masks : List ℕ) (lines k prior : ℕ) (t : List ℕ) 
 unfolding scanStates
 states-same C masks zero k prior t p = rw (empty-same t)
 states-same C masks (suc lines) k prior t p =
-    reads-same t p recordingLines recordingForm stateForm (stateRefusal C masks k prior) renewed (λ number. stop number t) (λ number. stop number (withNewlines t))
+    reads-same t p recordingLines recordingForm (stateForm C) (stateRefusal C masks k prior) renewed (λ number. stop number t) (λ number. stop number (withNewlines t))
     (λ s rest. more s (scanStates C masks lines (k + 1) s rest)) (λ j. refl) (λ s rest q. ap (more s) (states-same C masks lines (k + 1) s rest q))
 
 -- ---- the two texts

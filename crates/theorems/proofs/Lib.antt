@@ -21,6 +21,7 @@ pub mod Beginnings
 pub mod LastMarks
 pub mod ProjectionLaws
 pub mod ScheduleIndependence
+pub mod ElevenControllers
 pub mod NodeReadings
 pub mod EvidenceSteps
 pub mod EvidenceWalk

@@ -115,9 +115,9 @@ states-front C masks zero n k prior u v h w z = rw (eq-eqb (length u) 0 w)
 states-front C masks (suc m) zero k prior u v h w z = absurd (omega arith)
 states-front C masks (suc m) (suc n) k prior u v h w z =
     on-next (λ (s : Scan). s .number ≡ 0 → (scanStates C masks (suc m) k prior u) .number ≡ 0) (stateLine C masks k prior (u ++ v)) _ _
-    (λ j r y. absurd (next-some recordingLines recordingForm stateForm (stateRefusal C masks k prior) (u ++ v) (omega arith) (omega arith) j r y))
+    (λ j r y. absurd (next-some recordingLines recordingForm (stateForm C) (stateRefusal C masks k prior) (u ++ v) (omega arith) (omega arith) j r y))
     (λ s rest r y.
-    let f = reads-front stateForm (stateRefusal C masks k prior) u v s rest (w .0) r in
+    let f = reads-front (stateForm C) (stateRefusal C masks k prior) u v s rest (w .0) r in
     let same : scanStates C masks n (k + 1) s rest ≡ scanStates C masks n (k + 1) s (restOf u ++ v) = ap (scanStates C masks n (k + 1) s) (f .left) in
     rw (f .is) (states-front C masks m n (k + 1) s (restOf u) v (omega arith) (w .1) (sym (ap (λ (q : Scan). q .number) same) ∙ y))) z
 

@@ -71,7 +71,7 @@ unfolding scanStates
 states-end C masks zero k prior t = end-whole t
 states-end C masks (suc lines) k prior t =
     on-next (λ (s : Scan). EndOf t (s .rest)) (stateLine C masks k prior t) _ _ (λ j e. end-whole t)
-    (λ s rest e. end-later t rest _ (next-end recordingLines recordingForm stateForm (stateRefusal C masks k prior) t s rest e) (states-end C masks lines (k + 1) s rest))
+    (λ s rest e. end-later t rest _ (next-end recordingLines recordingForm (stateForm C) (stateRefusal C masks k prior) t s rest e) (states-end C masks lines (k + 1) s rest))
 
 masked-end : (C N : ℕ) (m : Scan) (t : List ℕ) → EndOf t (m .rest) → EndOf t ((recordingMasks C N m) .rest)
 unfolding pick

@@ -4,13 +4,16 @@ use mathlib.Core.Bool.{true}
 use mathlib.Core.List.{List}
 use Prim.Native.Nat.{ℕ}
 use native.Mathlib.Omega.{arith}
+use lib.Dec.{ltb}
 use lib.ListN.{take}
-use Rattle.definitions.specs.Limits.{recordingForm, recordingLines}
+use Rattle.definitions.specs.Limits.{twoDigitControllers, recordingForm, recordingLines}
+use Rattle.definitions.specs.Bounded.{pick}
 use Rattle.definitions.specs.Recordings.{stateOf, stateRefusal}
 use Rattle.definitions.specs.Lines.{lineLength, lineOf, isClosed, restOf, formed, malformed, onParsed, heading, worded, hexadecimal, twoFields, NextLine, refused, read}
 use Rattle.definitions.specs.RecordingText.{atWord, wordDigits, markDigits, stateForm, stateLine}
+use Rattle.theorems.proofs.Choice.{by-test, pick-true, pick-false}
 use Rattle.theorems.proofs.NextLines.{next-malformed, next-denied, next-read, next-back}
-use Rattle.lines.specs.Forms.{exactPair}
+use Rattle.lines.specs.Forms.{Widths, exactPair}
 use Rattle.lines.specs.Reading.{endRefusal}
 use Rattle.lines.specs.declared.form.Pair.{Pair}
 use Rattle.lines.specs.declared.form.Pair.the-variants as pair
@@ -29,45 +32,57 @@ unfolding stateAnswer
 is-read n s rest e = rw e
 
 -- ---- the form
-state-not : (s : List ℕ) → worded atWord (twoFields (hexadecimal markDigits) (hexadecimal wordDigits) heading) s ≡ malformed → stateForm s ≡ malformed
-unfolding stateForm onParsed
-state-not s e = worded-made stateOf (hexadecimal markDigits) (hexadecimal wordDigits) atWord s ∙ rw e
+pub digits-is : (C r : ℕ) → r ≡ pick (ltb twoDigitControllers C) 3 2 → r ≡ markDigits C
+unfolding markDigits
+digits-is C r e = e
 
-state-formed : (s : List ℕ) (a b : ℕ) → worded atWord (twoFields (hexadecimal markDigits) (hexadecimal wordDigits) heading) s ≡ formed (heading a b) → stateForm s ≡ formed (stateOf a b)
+pub digits-few : (C r : ℕ) → r ≡ markDigits C → Widths r wordDigits
+unfolding markDigits
+digits-few C r e =
+    by-test (ltb twoDigitControllers C)
+    (λ z. let is : r ≡ 3 = e ∙ pick-true {A = ℕ} (ltb twoDigitControllers C) 3 2 z in record { one = omega arith; two = omega arith })
+    (λ z. let is : r ≡ 2 = e ∙ pick-false {A = ℕ} (ltb twoDigitControllers C) 3 2 z in record { one = omega arith; two = omega arith })
+
+state-not : (C : ℕ) (s : List ℕ) → worded atWord (twoFields (hexadecimal (markDigits C)) (hexadecimal wordDigits) heading) s ≡ malformed → stateForm C s ≡ malformed
 unfolding stateForm onParsed
-state-formed s a b e = worded-made stateOf (hexadecimal markDigits) (hexadecimal wordDigits) atWord s ∙ rw e
+state-not C s e = worded-made stateOf (hexadecimal (markDigits C)) (hexadecimal wordDigits) atWord s ∙ rw e
+
+state-formed : (C : ℕ) (s : List ℕ) (a b : ℕ) → worded atWord (twoFields (hexadecimal (markDigits C)) (hexadecimal wordDigits) heading) s ≡ formed (heading a b) → stateForm C s ≡ formed (stateOf a b)
+unfolding stateForm onParsed
+state-formed C s a b e = worded-made stateOf (hexadecimal (markDigits C)) (hexadecimal wordDigits) atWord s ∙ rw e
 
 -- ---- `next_state`
 module _ (C : ℕ) (masks : List ℕ) (k prior : ℕ) (t : List ℕ) (n : ℕ) (ns : n ≡ endRefusal recordingLines recordingForm t) where
   pub state-unread : (n ≡ 0 → ⊥) → state.Refused n ≡ stateAnswer (stateLine C masks k prior t)
   state-unread z = is-refused (stateLine C masks k prior t) n (next-unread recordingLines recordingForm t n ns _ _ z)
 
-  module _ (z : n ≡ 0) (len : ℕ) (is : len ≡ lineLength t) (r : Pair) (rs : r ≡ exactPair (worded atWord (twoFields (hexadecimal markDigits) (hexadecimal wordDigits) heading) (take len t))) where
+  module _ (z : n ≡ 0) (len : ℕ) (is : len ≡ lineLength t) (width : ℕ) (ws : width ≡ markDigits C) (r : Pair)
+      (rs : r ≡ exactPair (worded atWord (twoFields (hexadecimal width) (hexadecimal wordDigits) heading) (take len t))) where
     closed : isClosed t ≡ true
     closed = end-fine recordingLines recordingForm t n ns (omega arith) (omega arith) z
 
-    line : r ≡ exactPair (worded atWord (twoFields (hexadecimal markDigits) (hexadecimal wordDigits) heading) (lineOf t))
-    line = rw (line-part t len is) at rs
+    line : r ≡ exactPair (worded atWord (twoFields (hexadecimal (markDigits C)) (hexadecimal wordDigits) heading) (lineOf t))
+    line = rw (line-part t len is, ws) at rs
 
     pub state-malformed : r ≡ pair.Malformed → state.Refused recordingForm ≡ stateAnswer (stateLine C masks k prior t)
     state-malformed x =
         is-refused (stateLine C masks k prior t) recordingForm
-        (next-malformed recordingLines recordingForm stateForm (stateRefusal C masks k prior) t closed (state-not (lineOf t) (exact-pair-malformed _ r line x)))
+        (next-malformed recordingLines recordingForm (stateForm C) (stateRefusal C masks k prior) t closed (state-not C (lineOf t) (exact-pair-malformed _ r line x)))
 
     module _ (a b : ℕ) (x : r ≡ pair.Numbers a b) (s : ℕ) (ss : s ≡ stateOf a b) (j : ℕ) (js : j ≡ stateRefusal C masks k prior s) where
-      form : stateForm (lineOf t) ≡ formed s
-      form = state-formed (lineOf t) a b (exact-pair _ r a b line x) ∙ ap formed (sym ss)
+      form : stateForm C (lineOf t) ≡ formed s
+      form = state-formed C (lineOf t) a b (exact-pair _ r a b line x) ∙ ap formed (sym ss)
 
       pub state-refused : (j ≡ 0 → ⊥) → state.Refused j ≡ stateAnswer (stateLine C masks k prior t)
       state-refused y =
-          is-refused (stateLine C masks k prior t) j (next-denied recordingLines recordingForm stateForm (stateRefusal C masks k prior) t closed s form j (sym js) y)
+          is-refused (stateLine C masks k prior t) j (next-denied recordingLines recordingForm (stateForm C) (stateRefusal C masks k prior) t closed s form j (sym js) y)
 
       pub state-read : j ≡ 0 → state.State s ≡ stateAnswer (stateLine C masks k prior t)
       state-read y =
           is-read (stateLine C masks k prior t) s (restOf t)
-          (next-read recordingLines recordingForm stateForm (stateRefusal C masks k prior) t closed s form (sym js ∙ y))
+          (next-read recordingLines recordingForm (stateForm C) (stateRefusal C masks k prior) t closed s form (sym js ∙ y))
 
-pub ruleset state-laws = (line-part-laws, state-unread, state-malformed, state-refused, state-read)
+pub ruleset state-laws = (line-part-laws, digits-few, state-unread, state-malformed, state-refused, state-read)
 
 -- ---- what a caller has of an answer
 pub record StateIs (C : ℕ) (masks : List ℕ) (k prior : ℕ) (t : List ℕ) (s : ℕ) : Type 0 where
@@ -91,7 +106,7 @@ module _ (C : ℕ) (masks : List ℕ) (k prior : ℕ) (t : List ℕ) (r : StateR
   pub state-is : (s : ℕ) → r ≡ state.State s → StateIs C masks k prior t s
   state-is s x =
       let a = answer-read (stateLine C masks k prior t) r s rs x in
-      let b = next-back recordingLines recordingForm stateForm (stateRefusal C masks k prior) t s (a .rest) (a .is) in
+      let b = next-back recordingLines recordingForm (stateForm C) (stateRefusal C masks k prior) t s (a .rest) (a .is) in
       record { is = a .is ∙ ap (read s) (b .left) }
 
   pub state-denied : (j : ℕ) → r ≡ state.Refused j → stateLine C masks k prior t ≡ refused j

@@ -3,9 +3,10 @@
 ghost use mathlib.Core.Path.{_≡_};
 ghost use Rattle.definitions.specs.Recordings.{stateOf};
 ghost use Rattle.definitions.specs.Lines.{lineLength};
-ghost use Rattle.definitions.specs.RecordingText.{recordingHeadingLine, stateLine};
+ghost use Rattle.definitions.specs.RecordingText.{markDigits, recordingHeadingLine, stateLine};
 ghost use Rattle.trace_lines.specs.NextLines.{headingAnswer, maskAnswer, stateAnswer, seenLine, StateTurn};
 use fields::number::Field;
+use formulas::choice::pick_index;
 use formulas::limits::Limits;
 use formulas::limits::Refusal;
 use lines::form;
@@ -35,7 +36,11 @@ pub enum StateRead {
 const WORD_DIGITS: usize = 8;
 
 // The digits of run marks.
-const MARK_DIGITS: usize = 2;
+fn mark_digits(controllers: usize) -> usize
+    ensures { λ r. ⌜ r ≡ markDigits controllers ⌝ }
+{
+    pick_index(Limits::TWO_DIGIT_CONTROLLERS < controllers, 3, 2)
+}
 
 pub fn next_heading(t: &[u8], len: usize) -> HeadingRead
     requires { ⌜ len ≡ lineLength (now t) ⌝ }
@@ -100,7 +105,7 @@ pub fn next_state(
     let Pair::Numbers(marks, word) = form::worded_hexadecimals(
         &t[..len],
         b"at",
-        MARK_DIGITS,
+        mark_digits(controllers),
         WORD_DIGITS,
     ) else {
         return StateRead::Refused(Refusal::RECORDING_FORM);

@@ -67,7 +67,7 @@ unfolding scanStates
 scan-own C masks zero k prior t = refl
 scan-own C masks (suc lines) k prior t =
     same-next (stateLine C masks k prior t) (stateLine C (take C masks) k prior t) _ _ _
-    (same-check recordingLines recordingForm stateForm (stateRefusal C masks k prior) (stateRefusal C (take C masks) k prior) t (state-own C masks k prior))
+    (same-check recordingLines recordingForm (stateForm C) (stateRefusal C masks k prior) (stateRefusal C (take C masks) k prior) t (state-own C masks k prior))
     (λ s rest. ap (more s) (scan-own C masks lines (k + 1) s rest))
 
 -- ---- how many words, and which refusals
@@ -97,8 +97,8 @@ mask-line-low earlier t k e = record {
 
 state-line-low : (C : ℕ) (masks : List ℕ) (k prior : ℕ) (t : List ℕ) (n : ℕ) → stateLine C masks k prior t ≡ refused n → Low n
 state-line-low C masks k prior t n e = record {
-  low = next-number recordingLines recordingForm stateForm (stateRefusal C masks k prior) t (λ n. n < noController) (omega arith) (omega arith) (λ s z. state-low C masks k prior s) n e;
-  some = next-some recordingLines recordingForm stateForm (stateRefusal C masks k prior) t (omega arith) (omega arith) n e;
+  low = next-number recordingLines recordingForm (stateForm C) (stateRefusal C masks k prior) t (λ n. n < noController) (omega arith) (omega arith) (λ s z. state-low C masks k prior s) n e;
+  some = next-some recordingLines recordingForm (stateForm C) (stateRefusal C masks k prior) t (omega arith) (omega arith) n e;
 }
 
 heading-line-low : (t : List ℕ) (k : ℕ) → recordingHeadingLine t ≡ refused k → Low k

@@ -135,7 +135,7 @@ marked-is c s marks e = rw e
 -- ---- one state
 -- the code's shift loses nothing
 pub limit-is : (C : ℕ) → C ≤ maxControllers → 2 ^ 32 * 2 ^ C % 2 ^ 64 ≡ stateOf (2 ^ C) 0
-limit-is C h = let e : 2 ^ C ≤ 256 = pow-mono {i = C} {j = 8} h in omega arith
+limit-is C h = let e : 2 ^ C ≤ 2 ^ maxControllers = pow-mono {i = C} {j = maxControllers} h in omega arith
 
 pub step-is : (limit s output r : ℕ) (broken : Bool) → output ≡ pick broken outputRule accepted → r ≡ pick (leb limit s) recordingLimits output → r ≡ stepRefusal limit s broken
 unfolding stepRefusal
@@ -195,13 +195,14 @@ module _ (C N : ℕ) (masks states : List ℕ) (prior held k there : ℕ) (inv :
     pub states-refused : (r ≡ 0 → ⊥) → r ≡ statesRefusal C masks 0 0 (take N states)
     states-refused z = sym (one-left ∙ rw (or-else-stop r _ z))
 
-    pub states-next : r ≡ 0 → C ≤ maxControllers → (low high : List ℕ) → low ≡ heldGroup (take C masks) 0 → high ≡ heldGroup (take C masks) 4 →
-        (marks held′ : ℕ) → marks ≡ marksOf (getD states k 0) → held′ ≡ heldAt low high marks → StatesLeft C N masks states (getD states k 0) held′ (k + 1)
-    states-next z few low high p q marks held′ m h′ =
+    pub states-next : r ≡ 0 → C ≤ maxControllers → (low high top : List ℕ) →
+        low ≡ heldGroup (take C masks) 0 → high ≡ heldGroup (take C masks) 4 → top ≡ heldGroup (take C masks) 8 →
+        (marks held′ : ℕ) → marks ≡ marksOf (getD states k 0) → held′ ≡ heldAt C low high top marks → StatesLeft C N masks states (getD states k 0) held′ (k + 1)
+    states-next z few low high top p q t′ marks held′ m h′ =
         record {
           within = omega arith;
           left = one-left ∙ rw (or-else-go r _ z);
-          rule = λ s. rw (lt-ltb 0 (k + 1) (omega arith)) (held-broken C masks (getD states k 0) s few low high p q marks held′ m h′);
+          rule = λ s. rw (lt-ltb 0 (k + 1) (omega arith)) (held-broken C masks (getD states k 0) s few low high top p q t′ marks held′ m h′);
         }
 
 -- ---- the output rule depends on the masks of the controllers only

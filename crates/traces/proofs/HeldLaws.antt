@@ -1,24 +1,25 @@
 -- The output rule is broken where a held atom differs, and the tables of four controllers give the held atoms.
 use mathlib.Core.Path.{_≡_, refl, sym, ap, _∙_}
-use Prim.Native.Nat.{ℕ, zero, suc, _+_, _-_, _*_, _/_, _%_, _≤_, _<_, min}
+use Prim.Native.Nat.{ℕ, zero, suc, _+_, _-_, _*_, _/_, _%_, _^_, _≤_, _<_, min}
 use native.Mathlib.Omega.{arith}
 use native.Mathlib.Numerals.{add-one}
 use native.Mathlib.Decide.{ℕ-discrete, decLt}
 use mathlib.Core.Bool.{Bool, true, false, not, _&&_, _||_}
 use mathlib.Core.List.{List, [], _∷_}
 use lib.Arith.{bin-ind}
-use lib.Dec.{eqb}
-use lib.Bits.{bitAnd, bitOr, bitXor, differ, and-step, xor-step, and-zero-l, and-comm, xor-zero-l, xor-self, and-shr, xor-shr, and-mod, xor-mod, xor-add-and, and-le-l, and-le-r}
+use lib.Dec.{eqb, leb}
+use lib.Bits.{bitAnd, bitOr, bitXor, differ, and-step, xor-step, and-zero-l, or-zero-r, and-comm, xor-zero-l, xor-self, and-shr, xor-shr, and-mod, xor-mod, xor-add-and, and-le-l, and-le-r}
 use lib.ListN.{length, take, getD, length-take, List·getD-eq-default}
 use lib.Seq.{getD-take, take-all, take-length}
 use borrow.Author.Needs.{needs}
-use borrow.Author.Tests.{eq-eqb, ne-eqb}
+use borrow.Author.Tests.{eq-eqb, ne-eqb, leb-true, le-leb, lt-leb}
 use Rattle.definitions.specs.Limits.{maxControllers}
 use Rattle.definitions.specs.Bounded.{pick, bitOf, someOf}
 use Rattle.definitions.specs.Recordings.{atomsOf, marksOf, marked, outputBroken}
+use Rattle.theorems.proofs.Choice.{by-test, pick-true, pick-false}
 use Rattle.theorems.proofs.Recursions.{some-cong}
 use Rattle.mark_words.proofs.WordLaws.{bit-shr}
-use Rattle.traces.specs.Held.{heldWith, heldFrom, heldBy, heldEntries, heldTable, heldGroup, heldAt, heldChanged}
+use Rattle.traces.specs.Held.{heldWith, heldFrom, heldBy, heldEntries, heldTable, heldGroup, heldOfEight, heldAt, heldChanged}
 use Rattle.traces.proofs.MaskLaws.{and-or, some-atom}
 
 -- ---- own atoms differ where the difference meets the mask
@@ -189,7 +190,7 @@ some-more f zero (suc m) c h none = rw (none c (omega arith)) (some-more f zero 
 some-more f (suc n) zero c h none = absurd (omega arith)
 some-more f (suc n) (suc m) c h none = ap (λ (z : Bool). f c || z) (some-more f n m (suc c) (omega arith) (λ j k. none j (omega arith)))
 
-module _ (C : ℕ) (masks : List ℕ) (prior s : ℕ) (few : C ≤ maxControllers) where
+module _ (C : ℕ) (masks : List ℕ) (prior s : ℕ) where
   abbrev marks : ℕ
   marks = marksOf prior
 
@@ -203,45 +204,122 @@ module _ (C : ℕ) (masks : List ℕ) (prior s : ℕ) (few : C ≤ maxController
   abbrev broke : ℕ → Bool
   broke j = not (bitOf marks j) && touched (getD own j 0) differing
 
-  broken-eight : outputBroken C masks prior s ≡ someOf 8 0 broke
-  broken-eight =
+  -- controllers past the last have no atoms
+  broken-of : (n : ℕ) → C ≤ n → outputBroken C masks prior s ≡ someOf n 0 broke
+  broken-of n few =
       broken-touched C masks prior s
       ∙ (some-cong (λ (j : ℕ). not (bitOf marks j) && touched (getD masks j 0) differing) broke C 0 (λ j a b. rw (getD-take C masks j 0 (omega arith)))
-      ∙ some-more broke C 8 0 few (λ j h. rw (← own-past C masks j (omega arith)) (and-none (not (bitOf marks j)))))
+      ∙ some-more broke C n 0 few (λ j h. rw (← own-past C masks j (omega arith)) (and-none (not (bitOf marks j)))))
+
+  -- the table of the four controllers from `first` on, looked up by their marks w
+  group-broken : (first w : ℕ) → ((k : ℕ) → bitOf w k ≡ bitOf marks (first + k)) → touched (getD (heldGroup own first) (w % 16) 0) differing ≡ someOf 4 first broke
+  unfolding heldBy
+  group-broken first w shifted =
+      let bits = low-bits w in
+      let z : first + 0 ≡ first = omega arith in
+      let one : first + 1 ≡ suc first = omega arith in
+      let two : first + 2 ≡ suc (suc first) = omega arith in
+      let three : first + 3 ≡ suc (suc (suc first)) = omega arith in
+      rw (group-at own first (w % 16) (omega arith))
+      (touched-from 4 0 0 (getD own first 0 ∷ getD own (first + 1) 0 ∷ getD own (first + 2) 0 ∷ getD own (first + 3) 0 ∷ []) (w % 16) differing
+      ∙ rw (bits .0, bits .1, bits .2, bits .3, shifted 0, shifted 1, shifted 2, shifted 3, z, one, two, three))
 
   low-four : touched (getD (heldGroup own 0) (marks % 16) 0) differing ≡ someOf 4 0 broke
-  unfolding heldBy
-  low-four =
-      let bits = low-bits marks in
-      rw (group-at own 0 (marks % 16) (omega arith))
-      (touched-from 4 0 0 (getD own 0 0 ∷ getD own 1 0 ∷ getD own 2 0 ∷ getD own 3 0 ∷ []) (marks % 16) differing
-      ∙ rw (bits .0, bits .1, bits .2, bits .3))
+  low-four = group-broken 0 marks (λ k. let z : 0 + k ≡ k = omega arith in rw z)
 
   high-four : touched (getD (heldGroup own 4) (marks / 16 % 16) 0) differing ≡ someOf 4 4 broke
-  unfolding heldBy
-  high-four =
-      let bits = low-bits (marks / 16) in
-      rw (group-at own 4 (marks / 16 % 16) (omega arith))
-      (touched-from 4 0 0 (getD own 4 0 ∷ getD own 5 0 ∷ getD own 6 0 ∷ getD own 7 0 ∷ []) (marks / 16 % 16) differing
-      ∙ rw (bits .0, bits .1, bits .2, bits .3, bit-shr 0 4 marks, bit-shr 1 4 marks, bit-shr 2 4 marks, bit-shr 3 4 marks))
+  high-four = group-broken 4 (marks / 16) (λ k. bit-shr k 4 marks)
 
-  tables-broken : heldChanged (heldAt (heldGroup own 0) (heldGroup own 4) marks) prior s ≡ outputBroken C masks prior s
-  unfolding heldAt heldChanged
-  tables-broken =
+  top-four : touched (getD (heldGroup own 8) (marks / 256 % 16) 0) differing ≡ someOf 4 8 broke
+  top-four = group-broken 8 (marks / 256) (λ k. bit-shr k 8 marks)
+
+  eight-broken : touched (heldOfEight (heldGroup own 0) (heldGroup own 4) marks) differing ≡ someOf 8 0 broke
+  eight-broken =
       touched-or (getD (heldGroup own 0) (marks % 16) 0) (getD (heldGroup own 4) (marks / 16 % 16) 0) differing
-      ∙ (rw (low-four, high-four) (simp or-group) ∙ sym broken-eight)
+      ∙ rw (low-four, high-four) (simp or-group)
+
+  twelve-broken : touched (bitOr (heldOfEight (heldGroup own 0) (heldGroup own 4) marks) (getD (heldGroup own 8) (marks / 256 % 16) 0)) differing ≡ someOf 12 0 broke
+  twelve-broken =
+      touched-or (heldOfEight (heldGroup own 0) (heldGroup own 4) marks) (getD (heldGroup own 8) (marks / 256 % 16) 0) differing
+      ∙ rw (eight-broken, top-four) (simp or-group)
+
+  tables-broken : C ≤ maxControllers → heldChanged (heldAt C (heldGroup own 0) (heldGroup own 4) (heldGroup own 8) marks) prior s ≡ outputBroken C masks prior s
+  unfolding heldAt heldChanged
+  tables-broken few =
+      by-test (leb C 8)
+      (λ e. rw (pick-true {A = ℕ} (leb C 8) (heldOfEight (heldGroup own 0) (heldGroup own 4) marks) _ e) (eight-broken ∙ sym (broken-of 8 (leb-true C 8 e))))
+      (λ e. rw (pick-false {A = ℕ} (leb C 8) (heldOfEight (heldGroup own 0) (heldGroup own 4) marks) _ e) (twelve-broken ∙ sym (broken-of 12 (omega arith))))
+
+  masks-broken : heldChanged (heldBy C masks marks) prior s ≡ outputBroken C masks prior s
+  unfolding heldBy heldChanged
+  masks-broken = touched-from C 0 0 masks marks differing ∙ sym (broken-touched C masks prior s)
 
 -- the atoms that a state holds, of the tables of its recording
-pub held-broken : (C : ℕ) (masks : List ℕ) (prior s : ℕ) → C ≤ maxControllers → (low high : List ℕ) → low ≡ heldGroup (take C masks) 0 → high ≡ heldGroup (take C masks) 4 →
-    (marks held : ℕ) → marks ≡ marksOf prior → held ≡ heldAt low high marks → heldChanged held prior s ≡ outputBroken C masks prior s
-held-broken C masks prior s few low high l h marks held m e = rw (e, l, h, m) (tables-broken C masks prior s few)
+pub held-broken : (C : ℕ) (masks : List ℕ) (prior s : ℕ) → C ≤ maxControllers → (low high top : List ℕ) →
+    low ≡ heldGroup (take C masks) 0 → high ≡ heldGroup (take C masks) 4 → top ≡ heldGroup (take C masks) 8 →
+    (marks held : ℕ) → marks ≡ marksOf prior → held ≡ heldAt C low high top marks → heldChanged held prior s ≡ outputBroken C masks prior s
+held-broken C masks prior s few low high top l h t marks held m e = rw (e, l, h, t, m) (tables-broken C masks prior s few)
 
-pub broken-is : (C : ℕ) (masks : List ℕ) (prior s : ℕ) → C ≤ maxControllers → (low high : List ℕ) → low ≡ heldGroup (take C masks) 0 → high ≡ heldGroup (take C masks) 4 →
-    (marks held : ℕ) → marks ≡ marksOf prior → held ≡ heldAt low high marks → (r : Bool) → r ≡ heldChanged held prior s → r ≡ outputBroken C masks prior s
-broken-is C masks prior s few low high l h marks held m e r d = d ∙ held-broken C masks prior s few low high l h marks held m e
+pub broken-is : (C : ℕ) (masks : List ℕ) (prior s marks held : ℕ) → marks ≡ marksOf prior → held ≡ heldBy C masks marks →
+    (r : Bool) → r ≡ heldChanged held prior s → r ≡ outputBroken C masks prior s
+broken-is C masks prior s marks held m e r d = d ∙ rw (e, m) (masks-broken C masks prior s)
 
-pub at-is : (low high : List ℕ) (marks : ℕ) → bitOr (getD low (marks % 16) 0) (getD high (marks / 16 % 16) 0) ≡ heldAt low high marks
-unfolding heldAt
-at-is low high marks = refl
+-- ---- `held_at`
+pub at-few : (C : ℕ) (low high top : List ℕ) (marks : ℕ) → C ≤ 8 → bitOr (getD low (marks % 16) 0) (getD high (marks / 16 % 16) 0) ≡ heldAt C low high top marks
+unfolding heldAt pick
+at-few C low high top marks h = rw (le-leb C 8 h)
 
-pub ruleset held-laws = (needs, changed-is, table-is, part-length, group-is, at-is, broken-is)
+pub at-many : (C : ℕ) (low high top : List ℕ) (marks : ℕ) → 8 < C →
+    bitOr (bitOr (getD low (marks % 16) 0) (getD high (marks / 16 % 16) 0)) (getD top (marks / 256 % 16) 0) ≡ heldAt C low high top marks
+unfolding heldAt pick
+at-many C low high top marks h = rw (lt-leb C 8 h)
+
+-- ---- `held_by`
+pub with-ran : (held mask : ℕ) (ran : Bool) → ran ≡ true → held ≡ heldWith held mask ran
+unfolding heldWith pick
+with-ran held mask ran e = rw e
+
+pub with-held : (held mask : ℕ) (ran : Bool) → ran ≡ false → bitOr held mask ≡ heldWith held mask ran
+unfolding heldWith pick
+with-held held mask ran e = rw e
+
+-- what is left to hold at controller c
+pub record HeldLeft (C : ℕ) (masks : List ℕ) (marks held c : ℕ) : Type 0 where
+  pub within : c ≤ C
+  pub left : heldBy C masks marks ≡ heldFrom (C - c) c held masks marks
+
+pub by-start : (C : ℕ) (masks : List ℕ) (marks : ℕ) → HeldLeft C masks marks 0 0
+unfolding heldBy
+by-start C masks marks = let z : C - 0 ≡ C = omega arith in record { within = omega arith; left = rw z }
+
+all-held : (C : ℕ) (masks : List ℕ) (marks held c : ℕ) → HeldLeft C masks marks held c → C ≤ c → held ≡ heldBy C masks marks
+unfolding heldFrom
+all-held C masks marks held c inv h = let z : C - c ≡ 0 = omega arith in sym (inv .left ∙ rw z)
+
+pick-same : (z : Bool) (a : ℕ) → pick z a a ≡ a
+unfolding pick
+pick-same true a = refl
+pick-same false a = refl
+
+-- masks that aren't there hold nothing
+none-held : (n c held : ℕ) (masks : List ℕ) (marks : ℕ) → length masks ≤ c → heldFrom n c held masks marks ≡ held
+unfolding heldFrom heldWith
+none-held zero c held masks marks h = refl
+none-held (suc n) c held masks marks h =
+    rw (List·getD-eq-default masks 0 h, or-zero-r held, pick-same (bitOf marks c) held) (none-held n (c + 1) held masks marks (omega arith))
+
+module _ (C : ℕ) (masks : List ℕ) (marks held c n : ℕ) (inv : HeldLeft C masks marks held c) (there : n ≡ min C (length masks)) where
+  pub by-next : c < n → (held′ : ℕ) → held′ ≡ heldWith held (getD masks c 0) (eqb (marks / 2 ^ c % 2) 1) → HeldLeft C masks marks held′ (c + 1)
+  unfolding heldFrom bitOf
+  by-next h held′ e =
+      let one : C - c ≡ suc (C - (c + 1)) = omega arith in
+      record { within = omega arith; left = inv .left ∙ rw (one, e) }
+
+  pub by-end : n ≤ c → held ≡ heldBy C masks marks
+  by-end h = go (decLt c C)
+    where
+      go : Dec (c < C) → held ≡ heldBy C masks marks
+      go (yes l) = sym (inv .left ∙ none-held (C - c) c held masks marks (omega arith))
+      go (no l) = all-held C masks marks held c inv (omega arith)
+
+pub ruleset held-laws = (needs, changed-is, table-is, part-length, group-is, at-few, at-many, broken-is, with-ran, with-held, by-start, by-next, by-end)

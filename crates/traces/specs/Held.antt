@@ -3,7 +3,7 @@ use Prim.Native.Nat.{ℕ, zero, suc, _+_, _/_, _%_}
 use mathlib.Core.Bool.{Bool, not}
 use mathlib.Core.List.{List, [], _∷_}
 use lib.ListN.{getD}
-use lib.Dec.{eqb}
+use lib.Dec.{eqb, leb}
 use lib.Bits.{bitAnd, bitOr, bitXor}
 use Rattle.definitions.specs.Bounded.{pick, bitOf}
 use Rattle.definitions.specs.Recordings.{atomsOf}
@@ -34,9 +34,13 @@ heldTable a b c d = heldEntries 16 0 (a ∷ b ∷ c ∷ d ∷ [])
 unfoldable pub heldGroup : List ℕ → ℕ → List ℕ
 heldGroup masks c = heldTable (getD masks c 0) (getD masks (c + 1) 0) (getD masks (c + 2) 0) (getD masks (c + 3) 0)
 
--- the atoms that eight controllers hold, of the tables of the first four and of the others
-unfoldable pub heldAt : List ℕ → List ℕ → ℕ → ℕ
-heldAt low high marks = bitOr (getD low (marks % 16) 0) (getD high (marks / 16 % 16) 0)
+-- the atoms that eight controllers hold, of the tables of the first four and of the next four
+abbrev pub heldOfEight : (low high : List ℕ) (marks : ℕ) → ℕ
+heldOfEight low high marks = bitOr (getD low (marks % 16) 0) (getD high (marks / 16 % 16) 0)
+
+-- the atoms that C controllers hold, where there are more than eight with the table of the last ones
+unfoldable pub heldAt : (C : ℕ) (low high top : List ℕ) (marks : ℕ) → ℕ
+heldAt C low high top marks = pick (leb C 8) (heldOfEight low high marks) (bitOr (heldOfEight low high marks) (getD top (marks / 256 % 16) 0))
 
 -- a held atom differs in two states
 unfoldable pub heldChanged : ℕ → ℕ → ℕ → Bool

@@ -68,6 +68,7 @@ pub fn states_refusal(controllers: usize, count: usize, masks: &[u32], states: &
 {
     let low = held_group(controllers, masks, 0);
     let high = held_group(controllers, masks, 4);
+    let top = held_group(controllers, masks, 8);
     let limit = state_limit(controllers);
     let there = least(count, states.len());
     let mut prior: u64 = 0;
@@ -78,7 +79,7 @@ pub fn states_refusal(controllers: usize, count: usize, masks: &[u32], states: &
         if refusal != Refusal::NONE {
             return refusal;
         }
-        held = held_at(&low, &high, marks_of(state));
+        held = held_at(controllers, &low, &high, &top, marks_of(state));
         prior = state;
     }
     Refusal::NONE

@@ -4,10 +4,35 @@ ghost use Prim.Native.Nat.{_≤_, min};
 ghost use lib.ListN.{length, take};
 ghost use Rattle.definitions.specs.Limits.{maxControllers};
 ghost use Rattle.definitions.specs.Recordings.{outputBroken};
-ghost use Rattle.traces.specs.Held.{heldTable, heldGroup, heldAt, heldChanged};
+ghost use Rattle.traces.specs.Held.{heldWith, heldBy, heldTable, heldGroup, heldAt, heldChanged};
 use super::masks::mask_at;
 use super::state::atoms_of;
 use super::state::marks_of;
+
+// Four run marks each look up a table: two tables serve this many controllers.
+const TWO_TABLES: usize = 8;
+
+fn held_with(held: u32, mask: u32, ran: bool) -> u32
+    ensures { λ r. ⌜ r ≡ heldWith held mask ran ⌝ }
+{
+    if ran {
+        return held;
+    }
+    held | mask
+}
+
+// The atoms that a state of these run marks holds, from one mask to the next: for a single state, where a table wouldn't pay.
+fn held_by(controllers: usize, masks: &[u32], marks: u64) -> u32
+    requires { ⌜ controllers ≤ maxControllers ⌝ }
+    ensures { λ r. ⌜ r ≡ heldBy controllers (now (masks .entry)) marks ⌝ }
+{
+    let count = least(controllers, masks.len());
+    let mut held: u32 = 0;
+    for c in 0..count {
+        held = held_with(held, masks[c], (marks >> c) % 2 == 1);
+    }
+    held
+}
 
 // What four masks hold, for each word of four run marks.
 fn held_table(a: u32, b: u32, c: u32, d: u32) -> [u32; 16]
@@ -56,12 +81,16 @@ pub fn held_group(controllers: usize, masks: &[u32], first: usize) -> [u32; 16]
     held_table(a, b, c, d)
 }
 
-// Looked up by the marks of controllers 0 to 3 and of 4 to 7, so that no branch depends on them.
-pub fn held_at(low: &[u32], high: &[u32], marks: u64) -> u32
-    requires { ⌜ (16 ≤ length (now low)) × (16 ≤ length (now high)) ⌝ }
-    ensures { λ r. ⌜ r ≡ heldAt (now (low .entry)) (now (high .entry)) marks ⌝ }
+// Looked up by the marks of controllers 0 to 3, of 4 to 7 and of 8 to 10, so that no branch depends on them.
+pub fn held_at(controllers: usize, low: &[u32], high: &[u32], top: &[u32], marks: u64) -> u32
+    requires { ⌜ (16 ≤ length (now low)) × (16 ≤ length (now high)) × (16 ≤ length (now top)) ⌝ }
+    ensures { λ r. ⌜ r ≡ heldAt controllers (now (low .entry)) (now (high .entry)) (now (top .entry)) marks ⌝ }
 {
-    low[(marks % 16) as usize] | high[(marks / 16 % 16) as usize]
+    let held = low[(marks % 16) as usize] | high[(marks / 16 % 16) as usize];
+    if controllers <= TWO_TABLES {
+        return held;
+    }
+    held | top[(marks / 256 % 16) as usize]
 }
 
 pub fn held_changed(held: u32, prior: u64, state: u64) -> bool
@@ -74,7 +103,5 @@ pub fn output_broken(controllers: usize, masks: &[u32], prior: u64, state: u64) 
     requires { ⌜ controllers ≤ maxControllers ⌝ }
     ensures { λ r. ⌜ r ≡ outputBroken controllers (now (masks .entry)) prior state ⌝ }
 {
-    let low = held_group(controllers, masks, 0);
-    let high = held_group(controllers, masks, 4);
-    held_changed(held_at(&low, &high, marks_of(prior)), prior, state)
+    held_changed(held_by(controllers, masks, marks_of(prior)), prior, state)
 }

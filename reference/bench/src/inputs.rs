@@ -17,11 +17,14 @@ fn seek(random: &mut Random, largest: &[usize]) {
     }
 }
 
-/// A recording of all eight controllers.
+/// So many controllers have the recordings that are timed.
+const CONTROLLERS: usize = 8;
+
+/// A recording of eight controllers.
 fn recording(random: &mut Random, states: usize) -> RecordingTable {
-    seek(random, &[limits::CONTROLLERS, states]);
-    let recording = traces::recording(random, limits::CONTROLLERS, states);
-    assert!(recording.controllers == limits::CONTROLLERS && recording.length == states);
+    seek(random, &[CONTROLLERS, states]);
+    let recording = traces::recording(random, CONTROLLERS, states);
+    assert!(recording.controllers == CONTROLLERS && recording.length == states);
     recording
 }
 

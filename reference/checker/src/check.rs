@@ -11,6 +11,7 @@ use crate::last_state::LastState;
 use crate::library;
 use crate::misread;
 use crate::misstep;
+use crate::of_eight;
 use crate::outcome::Outcome;
 use crate::tally::{Operation, Section, Tally};
 use crate::wrong::{Place, WrongAnswer};
@@ -52,6 +53,7 @@ impl<'a> Check<'a> {
             self.alter(input, &mut expected);
             self.misread(input, &mut expected);
             self.misstepped(input, &mut expected);
+            self.of_eight(input, &mut expected);
         }
         // The wrapper panics where a part isn't within its text.
         let found = catch_unwind(AssertUnwindSafe(|| library::of(input)));
@@ -107,6 +109,17 @@ impl<'a> Check<'a> {
         let Some(Place::Misstep(misstep)) = self.place(operation) else { return };
         let wrong = misstep::outcome(misstep, input, expected);
         if let Some(wrong) = wrong.filter(|_| self.wrong(operation, Place::Misstep(misstep))) {
+            *expected = wrong;
+        }
+    }
+
+    /// Expects what a library of eight controllers answers, if it belongs here
+    /// and is another answer.
+    fn of_eight(&self, input: &Input, expected: &mut Outcome) {
+        let operation = input.operation();
+        let Some(Place::OfEight(of_eight)) = self.place(operation) else { return };
+        let wrong = of_eight::outcome(of_eight, input, expected);
+        if let Some(wrong) = wrong.filter(|_| self.wrong(operation, Place::OfEight(of_eight))) {
             *expected = wrong;
         }
     }

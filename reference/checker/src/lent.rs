@@ -73,7 +73,7 @@ fn large_inputs() -> Vec<Input> {
     }
     vec![
         Input::read_rule(rule_text(&rule)),
-        Input::read_line(7, [&[b'!'; 63][..], b"a31"].concat()),
+        Input::read_line(limits::CONTROLLERS - 1, [&[b'!'; 63][..], b"a31"].concat()),
         Input::write_rule(rule.clone()),
         Input::read_recording(recording_text(&recording)),
         Input::read_joint(rule_text(&rule), recording_text(&recording)),

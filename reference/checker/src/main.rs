@@ -20,6 +20,7 @@ mod library;
 mod lines;
 mod misread;
 mod misstep;
+mod of_eight;
 mod options;
 mod outcome;
 mod plan;

@@ -1,5 +1,5 @@
 //! Random inputs up to every limit: texts, rules of up to 64 nodes, recordings
-//! of up to 128 states and 8 controllers, judge's tables of up to 1,024 nodes,
+//! of up to 128 states and 11 controllers, judge's tables of up to 1,024 nodes,
 //! valid and damaged, other schedules of the same local trace, and beginnings
 //! of recordings.
 
@@ -8,7 +8,9 @@ use reference::generate::lines;
 use reference::generate::random::Random;
 use reference::generate::texts;
 use reference::generate::traces::{self, RecordingTable};
-use reference::model::limits::{CONTROLLERS, RULE_NODES, STATES, TABLE_NODES};
+use reference::model::limits::{
+    CONTROLLERS, RULE_NODES, STATES, TABLE_NODES, TWO_DIGIT_CONTROLLERS,
+};
 
 use crate::check::Check;
 use crate::difference::Difference;
@@ -124,11 +126,15 @@ fn verdicts(
 }
 
 /// Demand 3: a rule on two recordings of one local trace, six verdicts that
-/// are one.
+/// are one; half of the time one of eight controllers and one of eleven.
 fn schedules(check: &mut Check, random: &mut Random) -> Result<(), Difference> {
-    let one = traces::recording(random, CONTROLLERS, STATES);
+    let mut one = traces::recording(random, CONTROLLERS, STATES);
     let controller = random.below(one.controllers);
-    let other = traces::rescheduled(random, &one, controller);
+    let mut other = traces::rescheduled(random, &one, controller);
+    if controller < TWO_DIGIT_CONTROLLERS && random.once_in(2) {
+        one = traces::rescheduled_among(random, &one, TWO_DIGIT_CONTROLLERS, controller);
+        other = traces::rescheduled_among(random, &one, CONTROLLERS, controller);
+    }
     let rule = formulas::rule_for(random, controller, RULE_NODES);
     let mut expected = verdicts(check, &rule, &one)?;
     let found = verdicts(check, &rule, &other)?;

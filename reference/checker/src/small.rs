@@ -137,7 +137,7 @@ impl<'a> Small<'a> {
     }
 
     /// Every rule on other schedules of the recordings of a local trace, of up
-    /// to 128 states and 8 controllers. Rows are compared for a few rules.
+    /// to 128 states and 11 controllers. Rows are compared for a few rules.
     fn judge_schedules(&self, check: &mut Check, local: usize) -> Result<(), Difference> {
         let mut random = self.plan.random(Section::Small, local);
         let Member { recording, controller } = self.views.locals[local];

@@ -5,9 +5,12 @@
 use reference::generate::endings::{any_endings, plain_endings};
 use reference::generate::exhaustive;
 use reference::generate::formulas::{self, RuleTable};
-use reference::generate::texts::{damage, recording_text, rule_text, DAMAGES, NUMBERS};
+use reference::generate::texts::{
+    damage, recording_text, recording_text_with, rule_text, DAMAGES, NUMBERS,
+};
 use reference::generate::traces::{self, RecordingTable};
 use reference::model::limits::{CONTROLLERS, RULE_NODES, STATES};
+use reference::model::text::mark_digits;
 
 use crate::check::Check;
 use crate::difference::Difference;
@@ -157,16 +160,35 @@ fn damage_numbers(check: &mut Check, kind: Kind) -> Result<(), Difference> {
     Ok(())
 }
 
-/// Every byte of run marks in every state of the example, for every C.
+/// The example's recording with so many controllers, one atom each.
+fn among(controllers: usize) -> RecordingTable {
+    let masks = (0..controllers).map(|c| 1 << c).collect();
+    RecordingTable { controllers, masks, ..recording_r() }
+}
+
+/// All that the digits of run marks can say in every state of the example, for
+/// every C.
 fn every_run_mark(check: &mut Check, controllers: usize) -> Result<(), Difference> {
-    let mut recording = recording_r();
-    recording.controllers = controllers;
-    recording.masks = (0..controllers).map(|c| 1 << c).collect();
+    let recording = among(controllers);
     for k in 0..recording.length {
-        for marks in 0..256 {
+        for marks in 0..1 << (4 * mark_digits(controllers)) {
             let mut recording = recording.clone();
             recording.states[k] = marks << 32;
             read(check, Kind::Recording, recording_text(&recording))?;
+        }
+    }
+    Ok(())
+}
+
+/// Run marks of every number of digits up to five, for every C and one more.
+fn every_mark_width(check: &mut Check, controllers: usize) -> Result<(), Difference> {
+    for digits in 1..=5 {
+        for marks in [0, 1, (1 << controllers) - 1, 1 << controllers] {
+            let mut recording = among(controllers);
+            recording.states = vec![0, marks << 32, 0, 0, 0];
+            read(check, Kind::Recording, recording_text_with(&recording, digits))?;
+            recording.states = vec![marks << 32; 5];
+            read(check, Kind::Recording, recording_text_with(&recording, digits))?;
         }
     }
     Ok(())
@@ -176,7 +198,7 @@ fn every_run_mark(check: &mut Check, controllers: usize) -> Result<(), Differenc
 fn every_count(check: &mut Check) -> Result<(), Difference> {
     for lines in [1, 2, 63, 64, 65] {
         for count in lines - 1..=lines + 1 {
-            let rule = RuleTable { controller: 7, count, nodes: vec![0; lines] };
+            let rule = RuleTable { controller: CONTROLLERS - 1, count, nodes: vec![0; lines] };
             read(check, Kind::Rule, rule_text(&rule))?;
         }
     }
@@ -241,6 +263,9 @@ fn example_jobs<'a>() -> Vec<Job<'a>> {
     }
     for controllers in 1..=CONTROLLERS {
         jobs.push(Box::new(move |check| every_run_mark(check, controllers)));
+    }
+    for controllers in 1..=CONTROLLERS + 1 {
+        jobs.push(Box::new(move |check| every_mark_width(check, controllers)));
     }
     jobs
 }

@@ -6,6 +6,7 @@ use reference::generate::formulas::{JudgeTable, RuleTable};
 use reference::generate::texts::{recording_text, rule_text};
 use reference::generate::traces::RecordingTable;
 use reference::model::formula::{Node, ATOM, END, NEXT, NOT, OR, PREV, RUN, SINCE, TRUE, UNTIL};
+use reference::model::limits::{CONTROLLERS, TWO_DIGIT_CONTROLLERS};
 
 use crate::check::Check;
 use crate::difference::Difference;
@@ -316,8 +317,8 @@ fn one_line(check: &mut Check) -> Result<(), Difference> {
     for (line, number, count) in trials {
         named(check, Input::read_line(0, line.into_bytes()), number, &[0, count])?;
     }
-    named(check, Input::read_line(8, b"a0".to_vec()), 2, &[])?;
-    named(check, Input::read_line(8, b"(".to_vec()), 15, &[])
+    named(check, Input::read_line(CONTROLLERS, b"a0".to_vec()), 2, &[])?;
+    named(check, Input::read_line(CONTROLLERS, b"(".to_vec()), 15, &[])
 }
 
 /// The traps, each by a rule and a recording on which its victim answers
@@ -372,6 +373,95 @@ fn mid_step(check: &mut Check) -> Result<(), Difference> {
         let lowered = RecordingTable { length, ..recording_r() };
         named(check, Input::project(lowered.clone(), 0), 0, &[places])?;
         verdict(check, &example_rule(), &lowered, [1, 0])?;
+    }
+    Ok(())
+}
+
+/// A recording of so many controllers, controller c with atom c.
+fn among(controllers: usize, states: &[(u64, u64)]) -> RecordingTable {
+    let masks = (0..controllers).map(|c| 1 << c).collect();
+    let words = states.iter().map(|(runs, word)| (runs << 32) + word).collect();
+    RecordingTable { controllers, length: states.len(), masks, states: words }
+}
+
+/// Document 02, eleven controllers, in texts: the digits of run marks by C, a
+/// mark at C, C of 12, and the controllers of rules.
+fn eleven_in_texts(check: &mut Check) -> Result<(), Difference> {
+    let trials: [(usize, &str, u8); 11] = [
+        (11, "7ff", 0),
+        (11, "800", 6),
+        (11, "00", 5),
+        (11, "0000", 5),
+        (9, "1ff", 0),
+        (9, "200", 6),
+        (9, "00", 5),
+        (8, "ff", 0),
+        (8, "000", 5),
+        (1, "001", 5),
+        (12, "000", 6),
+    ];
+    for (controllers, marks, number) in trials {
+        let mut text = format!("recording\t{controllers}\t1\n");
+        text.push_str(&"owns\t00000000\n".repeat(controllers));
+        text.push_str(&format!("at\t{marks}\t00000000\n"));
+        let text = text.into_bytes();
+        named(check, Input::read_recording(text.clone()), number, &[controllers, 1])?;
+        let rule = b"rule\t0\t1\ntrue\n".to_vec();
+        let joint = check.compare(&Input::read_joint(rule, text.clone()))?;
+        if joint.number != number {
+            let place = format!("the trial: {} for {number}", joint.number);
+            return Err(Difference::new(place, text.escape_ascii().to_string()));
+        }
+    }
+    for (controller, number) in [(8, 0), (10, 0), (11, 2)] {
+        let text = format!("rule\t{controller}\t1\ntrue\n").into_bytes();
+        named(check, Input::read_rule(text), number, &[controller, 1])?;
+    }
+    Ok(())
+}
+
+/// Document 02, eleven controllers, in tables: the limits, a mark at C, masks
+/// that meet and the output rule past the eighth, and one local trace in a
+/// recording of eight and in one of eleven.
+fn eleven_in_tables(check: &mut Check) -> Result<(), Difference> {
+    let mut meeting = among(CONTROLLERS, &[(0, 0)]);
+    meeting.masks[10] |= 1 << 8;
+    let trials = [
+        (among(CONTROLLERS, &[(2047, 0), (0, 2047)]), 0),
+        (among(CONTROLLERS + 1, &[(0, 0)]), 6),
+        (among(CONTROLLERS, &[(2048, 0)]), 6),
+        (meeting, 7),
+        (among(CONTROLLERS, &[(1791, 0), (0, 256)]), 10),
+        (among(CONTROLLERS, &[(1023, 0), (0, 1024)]), 10),
+    ];
+    let fine = rule(&[(TRUE, 0, 0)]);
+    let table = JudgeTable { count: 1, nodes: vec![0], weak_top: 0, strong_top: 0 };
+    for (recording, number) in trials {
+        let places = if number == 0 { recording.length } else { 0 };
+        named(check, Input::project(recording.clone(), 0), number, &[places])?;
+        let local = Input::JudgeLocal { rule: fine.clone(), recording: recording.clone() };
+        named(check, local, number, &[1, 1])?;
+        let whole = Input::judge_recording(table.clone(), recording.clone(), 0);
+        named(check, whole, number, &[1, 1])?;
+        named(check, Input::evidence(fine.clone(), recording, true), number, &[0])?;
+    }
+    let eight = among(TWO_DIGIT_CONTROLLERS, &[(1, 1026), (0, 1027)]);
+    let eleven = among(CONTROLLERS, &[(1024, 2), (1, 1026), (0, 1027)]);
+    let next = rule(&[(ATOM, 1, 0), (NEXT, 0, 0)]);
+    verdict(check, &next, &eight, [1, 0])?;
+    verdict(check, &next, &eleven, [1, 0])?;
+    named(check, Input::project(eleven.clone(), 10), 0, &[2])?;
+    let last = RuleTable { controller: 10, ..rule(&[(ATOM, 10, 0), (NEXT, 0, 0)]) };
+    verdict(check, &last, &eleven, [1, 1])
+}
+
+/// "The full size of lent mask space is eleven masks".
+fn eleven_masks_lent(check: &mut Check) -> Result<(), Difference> {
+    let text = recording_text(&recording_r());
+    for (masks, number) in [(8, 13), (10, 13), (11, 0), (12, 0)] {
+        let mut input = Input::read_recording(text.clone());
+        input.lent_mut()[0].length = masks;
+        named(check, input, number, &[2, 5])?;
     }
     Ok(())
 }
@@ -457,5 +547,8 @@ pub fn jobs<'a>() -> Vec<Job<'a>> {
         Box::new(traps),
         Box::new(mid_step),
         Box::new(walked),
+        Box::new(eleven_in_texts),
+        Box::new(eleven_in_tables),
+        Box::new(eleven_masks_lent),
     ]
 }

@@ -5,6 +5,7 @@ use std::sync::atomic::{AtomicBool, Ordering};
 
 use crate::misread::Misreading;
 use crate::misstep::Misstep;
+use crate::of_eight::OfEight;
 use crate::program::misprint::Misprint;
 use crate::tally::{Operation, Section};
 
@@ -37,6 +38,8 @@ pub enum Place {
     Misstep(Misstep),
     /// What the program `why` or `longest` writes, by a wrong printer.
     Misprint(Misprint),
+    /// All of it, by a library that still assumes eight controllers.
+    OfEight(OfEight),
     /// A mark in the last state taken for a run.
     LastRun,
     /// The marks of the last state, as they are handed back.
@@ -62,6 +65,7 @@ impl Place {
             Place::Misread(misreading) => misreading.name(),
             Place::Misstep(misstep) => misstep.name(),
             Place::Misprint(misprint) => misprint.name(),
+            Place::OfEight(of_eight) => of_eight.name(),
             Place::LastRun => "last_run",
             Place::Cleared => "cleared",
             Place::Nine => "nine",
@@ -106,6 +110,11 @@ impl Wrong {
         let (section, operation) = (Section::Evidence, Operation::Evidence);
         let misstep = |(misstep, _)| Wrong { section, operation, place: Place::Misstep(misstep) };
         all.extend(Misstep::ALL.map(misstep));
+        for (operation, libraries) in of_eight() {
+            let place = |of_eight| Place::OfEight(of_eight);
+            let wrong = |place| Wrong { section: Section::Trials, operation, place };
+            all.extend(libraries.map(place).map(wrong));
+        }
         all
     }
 }
@@ -179,6 +188,18 @@ fn lists() -> Vec<(Section, Operation, &'static [Place])> {
         (Section::Evidence, Operation::Promise, &[Value, Content]),
     ]);
     lists
+}
+
+/// The libraries that still assume eight controllers, by operation.
+fn of_eight() -> [(Operation, [OfEight; 4]); 6] {
+    [
+        (Operation::ReadRecording, OfEight::TEXTS),
+        (Operation::ReadJoint, OfEight::TEXTS),
+        (Operation::Project, OfEight::TABLES),
+        (Operation::JudgeLocal, OfEight::TABLES),
+        (Operation::JudgeRecording, OfEight::TABLES),
+        (Operation::Evidence, OfEight::TABLES),
+    ]
 }
 
 /// The wrong readers of line endings by section and operation.

@@ -18,7 +18,7 @@ pub mod full {
     /// Nodes of a rule.
     pub const RULE_NODES: usize = 64;
     /// Masks of a recording.
-    pub const MASKS: usize = 8;
+    pub const MASKS: usize = 11;
     /// States of a recording.
     pub const STATES: usize = 128;
     /// Places of a local trace.

@@ -6,6 +6,7 @@ use super::random::Random;
 use super::traces::{self, RecordingTable};
 use crate::model::formula::{operand_count, Node, KIND_WORDS};
 use crate::model::limits;
+use crate::model::text::mark_digits;
 use crate::model::trace::State;
 
 /// The text of a rule table, accepted or not: a kind that has no word gets an
@@ -24,16 +25,21 @@ pub fn rule_text(rule: &RuleTable) -> Vec<u8> {
     text
 }
 
-/// The text of a recording table, accepted or not. Run marks above the eighth
-/// make the field longer than it may be.
+/// The text of a recording table, accepted or not. Run marks above those that
+/// the digits hold make the field longer than it may be.
 pub fn recording_text(recording: &RecordingTable) -> Vec<u8> {
+    recording_text_with(recording, mark_digits(recording.controllers))
+}
+
+/// The same with run marks of at least so many digits.
+pub fn recording_text_with(recording: &RecordingTable, digits: usize) -> Vec<u8> {
     let mut text = format!("recording\t{}\t{}\n", recording.controllers, recording.length);
     for mask in &recording.masks {
         text.push_str(&format!("owns\t{mask:08x}\n"));
     }
     for word in &recording.states {
         let state = State::of_word(*word);
-        text.push_str(&format!("at\t{:02x}\t{:08x}\n", state.scheduled, state.atoms));
+        text.push_str(&format!("at\t{:0digits$x}\t{:08x}\n", state.scheduled, state.atoms));
     }
     text.into_bytes()
 }
@@ -72,6 +78,9 @@ pub enum Damage {
     HugeCount,
     /// A hexadecimal or decimal digit becomes another.
     DigitChanged,
+    /// The run marks of a state, or any field where there is none, with a digit
+    /// more or one fewer.
+    MarkDigits,
     /// A letter, or a hexadecimal digit, in upper case.
     UpperCase,
     /// A zero before a field.
@@ -101,7 +110,7 @@ pub enum Damage {
 }
 
 /// Every kind of damage.
-pub const DAMAGES: [Damage; 26] = [
+pub const DAMAGES: [Damage; 27] = [
     Damage::ByteChanged,
     Damage::OddByte,
     Damage::ByteDropped,
@@ -115,6 +124,7 @@ pub const DAMAGES: [Damage; 26] = [
     Damage::NumberChanged,
     Damage::HugeCount,
     Damage::DigitChanged,
+    Damage::MarkDigits,
     Damage::UpperCase,
     Damage::LeadingZero,
     Damage::TabAdded,
@@ -132,7 +142,7 @@ pub const DAMAGES: [Damage; 26] = [
 
 /// Numbers at and beyond each limit, and beyond what a machine word holds;
 /// some would be small ones if they were cut to a word.
-pub const NUMBERS: [&str; 37] = [
+pub const NUMBERS: [&str; 39] = [
     "0",
     "1",
     "2",
@@ -141,6 +151,8 @@ pub const NUMBERS: [&str; 37] = [
     "8",
     "9",
     "10",
+    "11",
+    "12",
     "30",
     "31",
     "32",
@@ -289,6 +301,24 @@ fn damage_number(random: &mut Random, text: &mut Vec<u8>, damage: Damage) {
     }
 }
 
+/// Damage to the number of digits of a state's run marks, or of any field where
+/// there is no state.
+fn damage_mark_digits(random: &mut Random, text: &mut Vec<u8>) {
+    let tabs = places(text, |byte| byte == 9);
+    let of_state = |at: &usize| text[..*at].ends_with(b"\nat");
+    let states: Vec<usize> = tabs.iter().copied().filter(of_state).collect();
+    let tabs = if states.is_empty() { tabs } else { states };
+    if tabs.is_empty() {
+        return;
+    }
+    let at = random.pick(&tabs) + 1;
+    if at == text.len() || random.once_in(2) {
+        text.insert(at, b'0');
+    } else {
+        text.remove(at);
+    }
+}
+
 /// Damage to one of the bytes that a condition picks.
 fn damage_picked(random: &mut Random, text: &mut Vec<u8>, damage: Damage) {
     let picked = match damage {
@@ -367,6 +397,7 @@ pub fn damage(random: &mut Random, text: &[u8], damage: Damage) -> Vec<u8> {
         Damage::NumberChanged | Damage::HugeCount | Damage::LeadingZero => {
             damage_number(random, &mut text, damage);
         }
+        Damage::MarkDigits => damage_mark_digits(random, &mut text),
         Damage::LastNewlineDropped => drop(text.pop()),
         Damage::WordChanged | Damage::FieldsAdded | Damage::UnknownWord | Damage::FieldDropped => {
             damage_fields(random, &mut text, damage)

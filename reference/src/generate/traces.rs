@@ -266,8 +266,19 @@ fn recorded(
     steps: &[u32],
     last: u32,
 ) -> RecordingTable {
-    let length = random.size(steps.len() + 1, limits::STATES);
     let controllers = random.between(controller + 1, limits::CONTROLLERS);
+    recorded_among(random, (controllers, controller), own, steps, last)
+}
+
+/// The same of so many controllers.
+fn recorded_among(
+    random: &mut Random,
+    (controllers, controller): (usize, usize),
+    own: u32,
+    steps: &[u32],
+    last: u32,
+) -> RecordingTable {
+    let length = random.size(steps.len() + 1, limits::STATES);
     let masks = other_masks(random, controllers, controller, own);
     let habits: Vec<usize> = masks.iter().map(|_| random.below(4)).collect();
     let picked = schedule(random, steps.len(), length);
@@ -311,6 +322,19 @@ pub fn rescheduled(
 ) -> RecordingTable {
     let (steps, last) = local_words(recording, controller);
     recorded(random, controller, recording.masks[controller], &steps, last)
+}
+
+/// The same of so many controllers: "between one of eight controllers and one of
+/// eleven".
+pub fn rescheduled_among(
+    random: &mut Random,
+    recording: &RecordingTable,
+    controllers: usize,
+    controller: usize,
+) -> RecordingTable {
+    let (steps, last) = local_words(recording, controller);
+    let own = recording.masks[controller];
+    recorded_among(random, (controllers, controller), own, &steps, last)
 }
 
 /// Another recording that has this controller, with the same mask of own atoms

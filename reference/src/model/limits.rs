@@ -1,7 +1,10 @@
 //! The limits of document 01, each said once.
 
-/// "C controllers (1 to 8, numbered from 0)"; also the 8 masks of lent space.
-pub const CONTROLLERS: usize = 8;
+/// "Make eleven the limit, and 10 the highest controller in a rule"; also "The
+/// full size of lent mask space is eleven masks" (document 02).
+pub const CONTROLLERS: usize = 11;
+/// "Run marks are three hexadecimal digits where C is above 8 and two otherwise".
+pub const TWO_DIGIT_CONTROLLERS: usize = 8;
 /// "N states (1 to 128)"; also the 128 states of lent space.
 pub const STATES: usize = 128;
 /// The 128 places of lent space.

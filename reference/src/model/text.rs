@@ -4,8 +4,8 @@
 use std::ops::Range;
 
 use super::formula::{self, Formula, Language, Node, KIND_WORDS};
-use super::refusal;
 use super::trace::{self, State, Trace};
+use super::{limits, refusal};
 
 /// The byte that closes a line.
 const NEWLINE: u8 = 10;
@@ -196,13 +196,24 @@ fn mask_of_line(line: &[u8]) -> Result<u32, u8> {
     hexadecimal(fields[1], 8).ok_or(refusal::RECORDING_FORM)
 }
 
-/// The line `at`, run marks, word.
-fn state_of_line(line: &[u8]) -> Result<State, u8> {
+/// "Run marks are three hexadecimal digits where C is above 8 and two
+/// otherwise, in every text."
+pub fn mark_digits(components: usize) -> usize {
+    if components > limits::TWO_DIGIT_CONTROLLERS {
+        3
+    } else {
+        2
+    }
+}
+
+/// The line `at`, run marks, word, in a recording of so many controllers.
+fn state_of_line(components: usize, line: &[u8]) -> Result<State, u8> {
     let fields = fields(line);
     if fields.len() != 3 || fields[0] != b"at" {
         return Err(refusal::RECORDING_FORM);
     }
-    let scheduled = hexadecimal(fields[1], 2).ok_or(refusal::RECORDING_FORM)?;
+    let scheduled =
+        hexadecimal(fields[1], mark_digits(components)).ok_or(refusal::RECORDING_FORM)?;
     let atoms = hexadecimal(fields[2], 8).ok_or(refusal::RECORDING_FORM)?;
     Ok(State { atoms, scheduled })
 }
@@ -223,7 +234,7 @@ pub fn read_recording(text: &[u8]) -> Result<Trace, RefusedLine> {
     let mut states = Vec::new();
     for _ in 0..length {
         states.push(lines.read(|line| {
-            let state = state_of_line(line)?;
+            let state = state_of_line(components, line)?;
             trace::check_state(components, &masks, &states, state)?;
             Ok(state)
         })?);

@@ -60,7 +60,7 @@ impl Trace {
     }
 }
 
-/// Refusal 6 of the heading: C from 1 to 8, N from 1 to 128.
+/// Refusal 6 of the heading: C from 1 to 11, N from 1 to 128.
 pub fn check_heading(components: usize, length: usize) -> Result<(), u8> {
     if !(1..=limits::CONTROLLERS).contains(&components) || !(1..=limits::STATES).contains(&length) {
         return Err(refusal::RECORDING_LIMIT);

@@ -1,5 +1,5 @@
 -- `next_state` meets its contract.
-use Rattle.trace_lines.proofs.StateLaws.{state-laws, state-unread, state-malformed, state-refused, state-read}
+use Rattle.trace_lines.proofs.StateLaws.{state-laws, digits-few, state-unread, state-malformed, state-refused, state-read}
 use borrow.Author.Needs.{needs}
 use Rattle.trace_lines.proofs.next_state.Statement.{statement}
 use Rattle.trace_lines.proofs.next_state.Tie as tie
@@ -16,8 +16,11 @@ slice-aggregate-worded-hexadecimals c = search state-laws
 slice-aggregate-worded-hexadecimals-2 : tie.Need-slice-aggregate-worded-hexadecimals-2
 slice-aggregate-worded-hexadecimals-2 c = search needs
 
+mark-digits-requires : tie.Need-mark-digits-requires
+mark-digits-requires c κs = search needs
+
 worded-hexadecimals-requires : tie.Need-worded-hexadecimals-requires
-worded-hexadecimals-requires c κs = search needs
+worded-hexadecimals-requires c κs = search digits-few
 
 enum-known-marks : tie.Need-enum-known-marks
 enum-known-marks c = search needs
@@ -48,6 +51,7 @@ next-state-spec =
     returns
     slice-aggregate-worded-hexadecimals
     slice-aggregate-worded-hexadecimals-2
+    mark-digits-requires
     worded-hexadecimals-requires
     enum-known-marks
     enum-told

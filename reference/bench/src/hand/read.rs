@@ -4,7 +4,7 @@
 use super::check;
 use super::node::{self, ATOM, END, NEXT, NOT, OR, PREV, RUN, SINCE, TRUE, UNTIL};
 use ragyvosin::{full, Joint};
-use reference::model::refusal;
+use reference::model::{limits, refusal};
 
 /// A refusal number and where its line starts.
 struct Refused {
@@ -187,14 +187,15 @@ fn mask_line(seen: u32, line: &[u8]) -> Result<u32, u8> {
     Ok(mask)
 }
 
-/// The word of a state line.
-fn state_line(line: &[u8]) -> Option<u64> {
+/// The word of a state line of a recording of so many controllers.
+fn state_line(controllers: usize, line: &[u8]) -> Option<u64> {
     let (word, rest) = split(line)?;
     if word != b"at" {
         return None;
     }
     let (marks, atoms) = split(rest)?;
-    let (marks, atoms) = (hexadecimal(marks, 2)?, hexadecimal(atoms, 8)?);
+    let digits = if controllers > limits::TWO_DIGIT_CONTROLLERS { 3 } else { 2 };
+    let (marks, atoms) = (hexadecimal(marks, digits)?, hexadecimal(atoms, 8)?);
     Some(u64::from(marks) << 32 | u64::from(atoms))
 }
 
@@ -219,7 +220,7 @@ fn scan_recording(
     let mut before = None;
     for word in states[..count].iter_mut() {
         *word = lines.read(|line| {
-            let state = state_line(line).ok_or(refusal::RECORDING_FORM)?;
+            let state = state_line(controllers, line).ok_or(refusal::RECORDING_FORM)?;
             check::state(controllers, masks, before, state)?;
             Ok(state)
         })?;

@@ -115,12 +115,16 @@ fn masks_fine(masks: &[u32]) -> bool {
 
 /// All states at once: no branch but the loop's.
 fn states_fine(controllers: usize, masks: &[u32], states: &[u64]) -> bool {
-    let (low, high) = masks.split_at(masks.len().min(4));
-    let (low, high) = (held_atoms(low), held_atoms(high));
+    let group = |first: usize| held_atoms(masks.chunks(4).nth(first).unwrap_or(&[]));
+    let (low, high, top) = (group(0), group(1), group(2));
+    let many = controllers > 8;
     let mut bad = states[states.len() - 1] >> limits::ATOMS >> controllers;
     for pair in states.windows(2) {
         let marks = (pair[0] >> limits::ATOMS) as usize;
-        let held = low[marks & 15] | high[marks >> 4 & 15];
+        let mut held = low[marks & 15] | high[marks >> 4 & 15];
+        if many {
+            held |= top[marks >> 8 & 15];
+        }
         bad |= (pair[0] ^ pair[1]) & u64::from(held) | (marks >> controllers) as u64;
     }
     bad == 0

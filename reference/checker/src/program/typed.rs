@@ -32,7 +32,7 @@ fn typed_edges() -> Vec<Vec<u8>> {
     let returned = ["0\ta0\r\n", "0\ta0\r\r\n", "0\ta0\r", "0\r\ta0\r\n", "0\r\n", "\r\n"];
     let odd = ["", "\n", "0", "0\n", "0\ta0", "a0\n", "0 a0\n", "00\ta0\n", "\ta0\n", "0\ta0\n\n"];
     let more =
-        ["0\ta0\na", "0\t\n", "8\ta0\n", "65536\ta0\n", "99999999999999999999\ta0\n", "8\t(\n"];
+        ["0\ta0\na", "0\t\n", "11\ta0\n", "65536\ta0\n", "99999999999999999999\ta0\n", "11\t(\n"];
     let mut inputs: Vec<Vec<u8>> =
         returned.iter().chain(&odd).chain(&more).map(|input| input.as_bytes().to_vec()).collect();
     for length in [PROGRAM_INPUT + 1, PROGRAM_INPUT, PROGRAM_INPUT - 1, 70_000] {

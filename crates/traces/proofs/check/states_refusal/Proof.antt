@@ -5,16 +5,19 @@ use Rattle.traces.proofs.check.states_refusal.Statement.{statement}
 use Rattle.traces.proofs.check.states_refusal.Tie as tie
 
 abbrev Inv-loop : tie.InvT-loop
-Inv-loop controllers count masks states low high limit there prior₀ held₀ k₀ prior held k = StatesLeft controllers count masks states prior held k
+Inv-loop controllers count masks states low high top limit there prior₀ held₀ k₀ prior held k = StatesLeft controllers count masks states prior held k
 
 abbrev μ-loop : tie.MeasureT-loop
-μ-loop controllers count masks states low high limit there prior₀ held₀ k₀ prior held k = there - k
+μ-loop controllers count masks states low high top limit there prior₀ held₀ k₀ prior held k = there - k
 
 held-group-requires : tie.Need-held-group-requires Inv-loop μ-loop
 held-group-requires c κs = search state-laws
 
 held-group-requires-2 : tie.Need-held-group-requires-2 Inv-loop μ-loop
 held-group-requires-2 c κs = search state-laws
+
+held-group-requires-3 : tie.Need-held-group-requires-3 Inv-loop μ-loop
+held-group-requires-3 c κs = search state-laws
 
 state-limit-requires : tie.Need-state-limit-requires Inv-loop μ-loop
 state-limit-requires c κs = search state-laws
@@ -46,6 +49,9 @@ slice-aggregate-held-at c = search state-laws
 slice-aggregate-held-at-2 : tie.Need-slice-aggregate-held-at-2 Inv-loop μ-loop
 slice-aggregate-held-at-2 c = search state-laws
 
+slice-aggregate-held-at-3 : tie.Need-slice-aggregate-held-at-3 Inv-loop μ-loop
+slice-aggregate-held-at-3 c = search state-laws
+
 marks-of-requires : tie.Need-marks-of-requires Inv-loop μ-loop
 marks-of-requires c κs = search state-laws
 
@@ -61,21 +67,22 @@ loop-less c = search state-laws
 loop-again : tie.Need-loop-again Inv-loop μ-loop
 loop-again c =
     let met = c .before in
-    let go = met .before .before .before in
+    let go = met .before .before .before .before in
     let step = go .before in
     let changed = step .before in
     let turn = changed .before .before in
     let l = turn .before .loop in
     let least = turn .before .before in
     let limit = least .before in
-    let high = limit .before in
+    let top = limit .before in
+    let high = top .before in
     let low = high .before in
     let start = low .before .before .before in
     let a = start .args in
     states-next (a .controllers) (a .count) (a .masks .now) (a .states .now) (l .prior) (l .held) (l .k) (least .least .result) (l .inv) (least .least .ensures)
     (turn .loop-test .taken) (limit .state-limit .result) (step .step-refusal .result) (changed .held-changed .result)
     (limit .state-limit .ensures) (changed .held-changed .ensures) (step .step-refusal .ensures) (go .if1 .left) (start .pre)
-    (low .held-group .result) (high .held-group2 .result) (low .held-group .ensures) (high .held-group2 .ensures)
+    (low .held-group .result) (high .held-group2 .result) (top .held-group3 .result) (low .held-group .ensures) (high .held-group2 .ensures) (top .held-group3 .ensures)
     (met .marks-of .result) (c .held-at .result) (met .marks-of .ensures) (c .held-at .ensures)
 
 returns-2 : tie.Need-returns-2 Inv-loop μ-loop
@@ -89,6 +96,7 @@ states-refusal-spec =
     μ-loop
     held-group-requires
     held-group-requires-2
+    held-group-requires-3
     state-limit-requires
     least-requires
     loop-holds
@@ -99,6 +107,7 @@ states-refusal-spec =
     returns
     slice-aggregate-held-at
     slice-aggregate-held-at-2
+    slice-aggregate-held-at-3
     marks-of-requires
     held-at-requires
     add-k

@@ -1,8 +1,23 @@
 -- `traces::held::held_at` meets its contract.
 use borrow.Author.Needs.{needs}
-use Rattle.traces.proofs.HeldLaws.{held-laws}
+use Rattle.traces.proofs.HeldLaws.{at-few, at-many}
 use Rattle.traces.proofs.held.held_at.Statement.{statement}
 use Rattle.traces.proofs.held.held_at.Tie as tie
+
+mul-held : tie.Need-mul-held
+mul-held c = search needs
+
+shared-slice-read-held : tie.Need-shared-slice-read-held
+shared-slice-read-held c = search needs
+
+mul-held-2 : tie.Need-mul-held-2
+mul-held-2 c = search needs
+
+shared-slice-read-held-2 : tie.Need-shared-slice-read-held-2
+shared-slice-read-held-2 c = search needs
+
+returns : tie.Need-returns
+returns c = search at-few
 
 mul-result : tie.Need-mul-result
 mul-result c = search needs
@@ -10,16 +25,10 @@ mul-result c = search needs
 shared-slice-read-result : tie.Need-shared-slice-read-result
 shared-slice-read-result c = search needs
 
-mul-result-2 : tie.Need-mul-result-2
-mul-result-2 c = search needs
-
-shared-slice-read-result-2 : tie.Need-shared-slice-read-result-2
-shared-slice-read-result-2 c = search needs
-
-returns : tie.Need-returns
-returns c = search held-laws
+returns-2 : tie.Need-returns-2
+returns-2 c = search at-many
 
 pub held-at-spec : {M : Type 1} → statement M
 held-at-spec =
     tie.close
-    (tie.spec mul-result shared-slice-read-result mul-result-2 shared-slice-read-result-2 returns)
+    (tie.spec mul-held shared-slice-read-held mul-held-2 shared-slice-read-held-2 returns mul-result shared-slice-read-result returns-2)
