@@ -1,26 +1,27 @@
 -- Laws of rows as lists: two words and a count hold a list of marks.
-use mathlib.Core.Bool.{Bool, true, false}
+use mathlib.Core.Bool.{Bool, true, false, _||_}
 use mathlib.Core.List.{List, [], _∷_, _++_}
 use mathlib.Core.Logic.{⊎-elim}
-use mathlib.Core.Path.{_≡_, refl, sym, ap, _∙_}
-use Prim.Native.Nat.{ℕ, zero, suc, _+_, _-_, _/_, _%_, _<_, _≤_}
+use mathlib.Core.Path.{_≡_, refl, sym, ap, ap₂, _∙_}
+use Prim.Native.Nat.{ℕ, zero, suc, _+_, _-_, _*_, _/_, _%_, _<_, _≤_}
 use native.Mathlib.Nat.{zero-add}
 use native.Mathlib.Omega.{arith}
 use borrow.Author.Needs.{needs}
+use lib.Bits.{bitOr}
 use lib.Count.{ones, ones-le}
 use mir.Val.{Fits}
 use mir.Syntax.{w32, w64}
-use lib.ListN.{length, take, drop, getD, replicate, length-replicate, take-append-drop, drop-of-length-le}
-use lib.Seq.{take-all, getD-take, getD-drop}
+use lib.ListN.{length, take, drop, getD, replicate, length-append, length-drop, length-replicate, take-append-drop, drop-of-length-le}
+use lib.Seq.{take-all, take-append-le, drop-append-le, getD-take, getD-drop}
 use Rattle.definitions.specs.Limits.{maxStates, wordMarks}
-use Rattle.definitions.specs.Bounded.{bitOf, tabulate, tabulateFrom}
+use Rattle.definitions.specs.Bounded.{bit, bitOf, tabulate, tabulateFrom}
 use Rattle.definitions.specs.Readings.{marksWord}
 use Rattle.theorems.proofs.Tabulations.{tabulated, tabulate-length, tabulate-take, tabulate-drop}
 use Rattle.mark_words.specs.Marks.{markAt, yesMarks}
 use Rattle.mark_words.specs.Lists.{lastOnly}
 use Rattle.mark_words.specs.Words.{gathered}
 use Rattle.mark_words.proofs.OperatorLaws.{lt-or-le, same-list, only-length, only-none}
-use Rattle.mark_words.proofs.WordLaws.{word-bit, ones-word}
+use Rattle.mark_words.proofs.WordLaws.{word-bit, ones-word, or-cons}
 use Rattle.rows.specs.declared.row.Row.{Row}
 use Rattle.rows.specs.Marks.{bitAt, marks, packed, lowWord, highWord, Whole, Made}
 
@@ -160,6 +161,43 @@ last-high w n a h few e =
 pub none-made : (r : Row) (n : ℕ) → Made r n (lastOnly false n) → Made r n (tabulate n (λ k. false))
 none-made r n m = retold r n (lastOnly false n) (tabulate n (λ k. false)) m (only-none n)
 
+-- ---- one mark more
+
+word-more : (l : List Bool) (y : Bool) → bitOr (marksWord l) (marksWord (lastOnly y (suc (length l)))) ≡ marksWord (l ++ (y ∷ []))
+word-more [] true = refl
+word-more [] false = refl
+word-more (b ∷ l) y = or-cons (marksWord l) (marksWord (lastOnly y (suc (length l)))) b false ∙ ap₂ (λ (x : ℕ) (z : Bool). x * 2 + bit z) (word-more l y) (or-no b)
+  where
+    or-no : (x : Bool) → (x || false) ≡ x
+    or-no true = refl
+    or-no false = refl
+
+-- the same of a word with n marks, the new one counted
+word-pushed : (l : List Bool) (y : Bool) (n w v : ℕ) → n ≡ suc (length l) → w ≡ marksWord l → v ≡ marksWord (lastOnly y n) → bitOr w v ≡ marksWord (l ++ (y ∷ []))
+word-pushed l y n w v e ew ev = rw (ew, ev, e) (word-more l y)
+
+module _ (s : Row) (y : Bool) (n : ℕ) (w : Whole s) (few : s .count < maxStates) (e : n ≡ s .count + 1) where
+  abbrev grown : List Bool
+  grown = marks s ++ (y ∷ [])
+
+  grown-length : length grown ≡ n
+  grown-length = omega (arith, length-append (marks s) (y ∷ []), marks-length s w)
+
+  pub push-low : (a v : ℕ) → n ≤ wordMarks → a ≡ lowWord s → v ≡ marksWord (lastOnly y n) → Made (record { words = bitOr a v ∷ 0 ∷ []; count = n }) (s .count + 1) grown
+  push-low a v h ea ev =
+      let c : length (marks s) ≡ s .count = marks-length s w in
+      let a′ : a ≡ marksWord (marks s) = ea ∙ ap marksWord (take-all 64 (marks s) (omega arith)) in
+      rw (← e) (of-low grown n (bitOr a v) grown-length h (word-pushed (marks s) y n a v (omega arith) a′ ev))
+
+  pub push-high : (a b v : ℕ) → wordMarks < n → a ≡ lowWord s → b ≡ highWord s → v ≡ marksWord (lastOnly y (n - wordMarks))
+      → Made (record { words = a ∷ bitOr b v ∷ []; count = n }) (s .count + 1) grown
+  push-high a b v h ea eb ev =
+      let c : length (marks s) ≡ s .count = marks-length s w in
+      let t : take 64 grown ≡ take 64 (marks s) = take-append-le 64 (marks s) (y ∷ []) (omega arith) in
+      let d : drop 64 grown ≡ drop 64 (marks s) ++ (y ∷ []) = drop-append-le 64 (marks s) (y ∷ []) (omega arith) in
+      let m : n - 64 ≡ suc (length (drop 64 (marks s))) = omega (arith, length-drop 64 (marks s)) in
+      rw (← e) (of-words grown n a (bitOr b v) grown-length (omega arith) (ea ∙ ap marksWord (sym t)) (word-pushed (drop 64 (marks s)) y (n - 64) b v m eb ev ∙ ap marksWord (sym d)))
+
 -- ---- a column
 
 abbrev columnOf : List ℕ → ℕ → ℕ → Bool
@@ -197,4 +235,4 @@ total-is s a b e f =
 pub total-fits : (a b : ℕ) → Fits w64 a → Fits w64 b → Fits w32 (ones a + ones b)
 total-fits a b f g = record { fits = omega (arith, ones-le 64 a (f .fits), ones-le 64 b (g .fits)) }
 
-pub ruleset packed-laws = (needs, low-is, high-is, full-low, full-high, last-low, last-high, none-made, column-low, column-high, total-is, total-fits)
+pub ruleset packed-laws = (needs, low-is, high-is, full-low, full-high, last-low, last-high, none-made, push-low, push-high, column-low, column-high, total-is, total-fits)

@@ -1,7 +1,8 @@
 // Rows of marks: "A row is 128 yes-or-no marks with the count of states it covers".
 ghost use mathlib.Core.Path.{_≡_};
 ghost use mathlib.Core.Bool.{true, false, not, _&&_, _||_};
-ghost use Prim.Native.Nat.{_<_, _≤_};
+ghost use mathlib.Core.List.{[], _∷_, _++_};
+ghost use Prim.Native.Nat.{_+_, _<_, _≤_};
 ghost use lib.ListN.{length, getD};
 ghost use Rattle.definitions.specs.Limits.{maxStates, wordMarks};
 ghost use Rattle.definitions.specs.Bounded.{tabulate, bitOf};
@@ -107,6 +108,24 @@ impl Row {
         let words = self.words;
         let w = i / WORD_MARKS;
         (words[w] >> (i % WORD_MARKS)) % 2 == 1
+    }
+
+    // One place more, with the mark `yes`.
+    pub fn push(self, yes: bool) -> Row
+        requires { ⌜ (Whole self) × (self .count < maxStates) ⌝ }
+        ensures { λ r. ⌜ Made r (self .count + 1) (marks self ++ (yes ∷ [])) ⌝ }
+    {
+        let n = self.count + 1;
+        if n <= WORD_MARKS {
+            return Row {
+                words: [self.low() | last_word(n, yes), 0],
+                count: n,
+            };
+        }
+        Row {
+            words: [self.low(), self.high() | last_word(n - WORD_MARKS, yes)],
+            count: n,
+        }
     }
 
     // How many marks are yes.

@@ -1,6 +1,6 @@
 -- `projection::project::project` meets its contract.
 use borrow.Author.Needs.{needs}
-use Rattle.projection.proofs.ProjectLaws.{project-laws, project-refused, project-accepted}
+use Rattle.projection.proofs.ProjectLaws.{project-laws, project-refused, project-fits, project-room, project-accepted}
 use Rattle.projection.proofs.project.project.Statement.{statement}
 use Rattle.projection.proofs.project.project.Tie as tie
 
@@ -25,17 +25,20 @@ same-length c = search needs
 returns : tie.Need-returns
 returns c = search project-refused
 
-local-length-requires : tie.Need-local-length-requires
-local-length-requires c κs = search project-laws
-
 mask-at-requires : tie.Need-mask-at-requires
 mask-at-requires c κs = search needs
 
-project-into-requires : tie.Need-project-into-requires
-project-into-requires c κs = search project-laws
+pass-over-requires : tie.Need-pass-over-requires
+pass-over-requires c κs = search project-laws
+
+close-requires : tie.Need-close-requires
+close-requires c κs = search project-laws
+
+length-requires : tie.Need-length-requires
+length-requires c κs = search project-laws
 
 clear-u32-requires-2 : tie.Need-clear-u32-requires-2
-clear-u32-requires-2 c κs = search project-laws
+clear-u32-requires-2 c κs = (search project-fits, search project-room)
 
 same-length-2 : tie.Need-same-length-2
 same-length-2 c = search needs
@@ -54,9 +57,10 @@ project-spec =
     clear-u32-requires
     same-length
     returns
-    local-length-requires
     mask-at-requires
-    project-into-requires
+    pass-over-requires
+    close-requires
+    length-requires
     clear-u32-requires-2
     same-length-2
     returns-2)
