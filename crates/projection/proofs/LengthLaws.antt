@@ -42,6 +42,11 @@ pub length-of : (N c mask : ℕ) (states : List ℕ) → length (placesIn N mask
 unfolding placesIn
 length-of N c mask states = places-length (wordAt (statesOnly N states)) mask (runsIn N c states)
 
+-- the length of a local trace, as a caller has it
+pub length-local : (R : Recording) (c r : ℕ) → r ≡ length (runsIn (R .count) c (R .states)) + 1 → r ≡ length (localTrace R c)
+unfolding placesIn
+length-local R c r e = e ∙ sym (length-of (R .count) c (maskOf R c) (R .states))
+
 -- the last state adds no run
 pub trace-length : (R : Recording) (c : ℕ) → 0 < R .count → length (localTrace R c) ≡ length (runStates (runsAt R c) (R .count - 1)) + 1
 trace-length R c h =

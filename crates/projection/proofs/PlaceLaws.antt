@@ -44,6 +44,8 @@ module _ (N mask c : ℕ) (states entry : List ℕ) (held : Pass) (places : List
 
 pub ruleset into-laws = (into-placed, into-laid)
 
+pub ruleset counted-laws = (into-counted, into-laid)
+
 -- ---- an accepted recording can be projected, and its places are its local trace
 pub projectable : (R : Recording) (c : ℕ) (places : List ℕ) → recordingRefusal R ≡ 0 → c < R .controllers → maxStates ≤ length places →
     Projectable (R .count) c (R .states) places

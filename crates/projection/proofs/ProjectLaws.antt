@@ -17,13 +17,11 @@ use Rattle.lent.specs.Space.{laid, cleared}
 use Rattle.lent.proofs.LeftLaws.{laid-past, laid-begins, left-filled, lent-number, lent-full, zeroed-within, zeroed-left}
 use Rattle.traces.specs.Joining.{traceRefusal}
 use Rattle.traces.proofs.CheckLaws.{own-mask}
-use Rattle.projection.specs.declared.pass.Pass.{Pass}
-use Rattle.projection.specs.Passes.{Holds, Passed, Closed, Counted}
-use Rattle.projection.specs.Places.{Projectable}
+use Rattle.projection.specs.Places.{runsIn, placesIn, Projectable}
 use Rattle.projection.specs.Answers.{answerOf, ProjectIs}
 use Rattle.projection.specs.declared.project.Projection.the-variants.{Places, Refused}
-use Rattle.projection.proofs.PassLaws.{held-length, held-below}
-use Rattle.projection.proofs.PlaceLaws.{projectable}
+use Rattle.projection.proofs.LengthLaws.{length-local}
+use Rattle.projection.proofs.PlaceLaws.{projectable, local-places, few-local}
 
 module _ (C N : ℕ) (masks states : List ℕ) (c : ℕ) (entry : List ℕ) (short other r : ℕ) (s : short ≡ pick (ltb (length entry) maxStates) lentShort accepted)
     (o : other ≡ traceRefusal (recordingOf C N masks states) c) (e : r ≡ orElse short other) where
@@ -56,29 +54,26 @@ module _ (C N : ℕ) (masks states : List ℕ) (c : ℕ) (entry : List ℕ) (sho
     pub project-ready : Projectable N c states entry
     project-ready = projectable R c entry (both .0) below room
 
-    pub project-room : (o₁ o₂ : List ℕ) → length o₁ ≡ length entry → length o₂ ≡ length o₁ → maxStates ≤ length o₂
-    project-room o₁ o₂ kept again = omega (arith, room)
+    pub project-fits : (L : ℕ) → L ≡ length (runsIn N c states) + 1 → L ≤ maxStates
+    project-fits L le = omega (arith, few-local N c states entry project-ready, project-ready .fewStates)
 
-    -- the pass holds the local trace of the whole recording
-    module _ (m : ℕ) (me : m ≡ getD masks c 0) (held : Pass) (o₁ : List ℕ) (H : Passed N m c states entry held o₁) where
-      holds : Holds R c entry held o₁
-      holds = H .holds R refl (sym (me ∙ own-mask R c below))
+    pub project-room : (o′ : List ℕ) → length o′ ≡ length entry → maxStates ≤ length o′
+    project-room o′ kept = omega (arith, room)
 
-      module _ (L : ℕ) (counted : Counted held L) where
-        places : L ≡ length (localTrace R c)
-        places = counted .long R c entry o₁ holds
+    module _ (m : ℕ) (me : m ≡ getD masks c 0) (o′ : List ℕ) (p : o′ ≡ laid (placesIn N m c states) entry)
+        (L : ℕ) (le : L ≡ length (runsIn N c states) + 1) where
+      places : L ≡ length (localTrace R c)
+      places = length-local R c L le
 
-        pub project-fits : L ≤ maxStates
-        project-fits = omega (arith, places, held-length R c entry held o₁ holds, held-below R c entry held o₁ holds, project-ready .fewStates)
+      pub project-accepted : (exit : List ℕ) → exit ≡ cleared o′ L maxStates → ProjectIs R c entry (Places L) exit
+      unfolding answerOf answer projectAnswer projectPlaces pick
+      project-accepted exit x =
+          let content : placesIn N m c states ≡ localTrace R c = rw (me, own-mask R c below) (local-places R c) in
+          let over : o′ ≡ laid (localTrace R c) entry = rw (← content) p in
+          record {
+            answered = rw (number-is, none, places);
+            lent = rw number-is (left-filled r maxStates (localTrace R c) entry o′ exit (laid-past maxStates (localTrace R c) entry o′ (omega (arith, places, project-fits L le)) over)
+                L none (sym places) (laid-begins L (localTrace R c) entry o′ (sym places) over) x);
+          }
 
-        pub project-accepted : (o₂ : List ℕ) → Closed held o₁ o₂ → (exit : List ℕ) → exit ≡ cleared o₂ L maxStates → ProjectIs R c entry (Places L) exit
-        unfolding answerOf answer projectAnswer projectPlaces pick
-        project-accepted o₂ closed exit x =
-            let over : o₂ ≡ laid (localTrace R c) entry = closed .places R c entry holds in
-            record {
-              answered = rw (number-is, none, places);
-              lent = rw number-is (left-filled r maxStates (localTrace R c) entry o₂ exit (laid-past maxStates (localTrace R c) entry o₂ (omega (arith, places, project-fits)) over)
-                  L none (sym places) (laid-begins L (localTrace R c) entry o₂ (sym places) over) x);
-            }
-
-pub ruleset project-laws = (needs, zeroed-within, project-refused, project-ready, project-fits, project-room)
+pub ruleset project-laws = (needs, zeroed-within, project-refused, project-ready, project-fits, project-room, project-accepted)

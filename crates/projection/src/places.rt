@@ -7,16 +7,6 @@ ghost use Rattle.projection.specs.Places.{runsIn, placesIn, Countable, P
 use super::pass::pass_over;
 use formulas::limits::Limits;
 
-// The local length alone, with places in space of its own.
-pub fn local_length(count: usize, c: usize, states: &[u64]) -> usize
-    requires { ⌜ Countable count c (now states) ⌝ }
-    ensures { λ r. ⌜ r ≡ length (runsIn count c (now (states .entry))) + 1 ⌝ }
-{
-    let mut places = [0u32; Limits::STATES];
-    let held = pass_over(count, 0, c, states, &mut places);
-    held.length()
-}
-
 // The places, over the start of what is lent; the answer is the last one's number.
 pub fn project_into(count: usize, mask: u32, c: usize, states: &[u64], places: &mut [u32]) -> usize
     requires { ⌜ Projectable count c (now states) (now places) ⌝ }
@@ -25,4 +15,29 @@ pub fn project_into(count: usize, mask: u32, c: usize, states: &[u64], places: &
     let held = pass_over(count, mask, c, states, places);
     held.close(places);
     held.placed
+}
+
+// The same; the answer is the local length.
+pub fn project_counted(
+    count: usize,
+    mask: u32,
+    c: usize,
+    states: &[u64],
+    places: &mut [u32],
+) -> usize
+    requires { ⌜ Projectable count c (now states) (now places) ⌝ }
+    ensures { λ r. ⌜ (r ≡ length (runsIn count c (now (states .entry))) + 1) × (now (places .exit) ≡ laid (placesIn count mask c (now (states .entry))) (now (places .entry))) ⌝ }
+{
+    let held = pass_over(count, mask, c, states, places);
+    held.close(places);
+    held.length()
+}
+
+// The local length alone, with places in space of its own.
+pub fn local_length(count: usize, c: usize, states: &[u64]) -> usize
+    requires { ⌜ Countable count c (now states) ⌝ }
+    ensures { λ r. ⌜ r ≡ length (runsIn count c (now (states .entry))) + 1 ⌝ }
+{
+    let mut places = [0u32; Limits::STATES];
+    project_counted(count, 0, c, states, &mut places)
 }

@@ -1,7 +1,7 @@
 // Projection as an operation: the local trace of one controller of any recording, in lent space.
 ghost use Rattle.definitions.specs.Recordings.{recordingOf};
 ghost use Rattle.projection.specs.Answers.{ProjectIs};
-use super::pass::pass_over;
+use super::places::project_counted;
 use formulas::choice::or_else;
 use formulas::choice::pick;
 use formulas::choice::pick_index;
@@ -38,9 +38,7 @@ pub fn project(
         clear_u32(places, 0, zeroed);
         return Projection::Refused(refusal);
     }
-    let held = pass_over(count, mask_at(masks, c), c, states, places);
-    held.close(places);
-    let length = held.length();
+    let length = project_counted(count, mask_at(masks, c), c, states, places);
     clear_u32(places, length, Limits::STATES);
     Projection::Places(length)
 }

@@ -1,6 +1,6 @@
 -- `projection::project::project` meets its contract.
 use borrow.Author.Needs.{needs}
-use Rattle.projection.proofs.ProjectLaws.{project-laws, project-refused, project-fits, project-room, project-accepted}
+use Rattle.projection.proofs.ProjectLaws.{project-laws, project-refused, project-accepted}
 use Rattle.projection.proofs.project.project.Statement.{statement}
 use Rattle.projection.proofs.project.project.Tie as tie
 
@@ -28,17 +28,11 @@ returns c = search project-refused
 mask-at-requires : tie.Need-mask-at-requires
 mask-at-requires c κs = search needs
 
-pass-over-requires : tie.Need-pass-over-requires
-pass-over-requires c κs = search project-laws
-
-close-requires : tie.Need-close-requires
-close-requires c κs = search project-laws
-
-length-requires : tie.Need-length-requires
-length-requires c κs = search project-laws
+project-counted-requires : tie.Need-project-counted-requires
+project-counted-requires c κs = search project-laws
 
 clear-u32-requires-2 : tie.Need-clear-u32-requires-2
-clear-u32-requires-2 c κs = (search project-fits, search project-room)
+clear-u32-requires-2 c κs = search project-laws
 
 same-length-2 : tie.Need-same-length-2
 same-length-2 c = search needs
@@ -58,9 +52,7 @@ project-spec =
     same-length
     returns
     mask-at-requires
-    pass-over-requires
-    close-requires
-    length-requires
+    project-counted-requires
     clear-u32-requires-2
     same-length-2
     returns-2)
