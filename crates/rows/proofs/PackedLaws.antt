@@ -3,11 +3,12 @@ use mathlib.Core.Bool.{Bool, true, false, _||_}
 use mathlib.Core.List.{List, [], _∷_, _++_}
 use mathlib.Core.Logic.{⊎-elim}
 use mathlib.Core.Path.{_≡_, refl, sym, ap, ap₂, _∙_}
-use Prim.Native.Nat.{ℕ, zero, suc, _+_, _-_, _*_, _/_, _%_, _<_, _≤_}
-use native.Mathlib.Nat.{zero-add}
+use Prim.Native.Nat.{ℕ, zero, suc, _+_, _-_, _*_, _/_, _%_, _^_, _<_, _≤_}
+use native.Mathlib.Nat.{zero-add, zero-mul, one-mul, mod-eq-of-lt}
 use native.Mathlib.Omega.{arith}
 use borrow.Author.Needs.{needs}
 use lib.Bits.{bitOr}
+use lib.Pow.{pow-lt}
 use lib.Count.{ones, ones-le}
 use mir.Val.{Fits}
 use mir.Syntax.{w32, w64}
@@ -21,7 +22,7 @@ use Rattle.mark_words.specs.Marks.{markAt, yesMarks}
 use Rattle.mark_words.specs.Lists.{lastOnly}
 use Rattle.mark_words.specs.Words.{gathered}
 use Rattle.mark_words.proofs.OperatorLaws.{lt-or-le, same-list, only-length, only-none}
-use Rattle.mark_words.proofs.WordLaws.{word-bit, ones-word, or-cons}
+use Rattle.mark_words.proofs.WordLaws.{word-bit, ones-word, or-cons, last-none, last-one}
 use Rattle.rows.specs.declared.row.Row.{Row}
 use Rattle.rows.specs.Marks.{bitAt, marks, packed, lowWord, highWord, Whole, Made}
 
@@ -172,31 +173,36 @@ word-more (b ∷ l) y = or-cons (marksWord l) (marksWord (lastOnly y (suc (lengt
     or-no true = refl
     or-no false = refl
 
--- the same of a word with n marks, the new one counted
-word-pushed : (l : List Bool) (y : Bool) (n w v : ℕ) → n ≡ suc (length l) → w ≡ marksWord l → v ≡ marksWord (lastOnly y n) → bitOr w v ≡ marksWord (l ++ (y ∷ []))
-word-pushed l y n w v e ew ev = rw (ew, ev, e) (word-more l y)
+-- the new mark, moved to its place
+word-pushed : (l : List Bool) (y : Bool) (k w v : ℕ) → k ≡ length l → k < wordMarks → w ≡ marksWord l → v ≡ bit y → bitOr w (v * 2 ^ k % 2 ^ 64) ≡ marksWord (l ++ (y ∷ []))
+word-pushed l y k w v e h ew ev = rw (ew, ev, placed y) (ap (λ (n : ℕ). bitOr (marksWord l) (marksWord (lastOnly y (suc n)))) e ∙ word-more l y)
+  where
+    placed : (x : Bool) → bit x * 2 ^ k % 2 ^ 64 ≡ marksWord (lastOnly x (suc k))
+    placed true = rw (one-mul, mod-eq-of-lt (pow-lt {i = k} {j = 64} h)) (sym (last-one k))
+    placed false = rw zero-mul (sym (last-none (suc k)))
 
-module _ (s : Row) (y : Bool) (n : ℕ) (w : Whole s) (few : s .count < maxStates) (e : n ≡ s .count + 1) where
+module _ (s : Row) (y : Bool) (v : ℕ) (w : Whole s) (few : s .count < maxStates) (e : v ≡ bit y) where
   abbrev grown : List Bool
   grown = marks s ++ (y ∷ [])
 
-  grown-length : length grown ≡ n
+  grown-length : length grown ≡ s .count + 1
   grown-length = omega (arith, length-append (marks s) (y ∷ []), marks-length s w)
 
-  pub push-low : (a v : ℕ) → n ≤ wordMarks → a ≡ lowWord s → v ≡ marksWord (lastOnly y n) → Made (record { words = bitOr a v ∷ 0 ∷ []; count = n }) (s .count + 1) grown
-  push-low a v h ea ev =
+  pub push-low : (a : ℕ) → s .count < wordMarks → a ≡ lowWord s → Made (record { words = bitOr a (v * 2 ^ s .count % 2 ^ 64) ∷ 0 ∷ []; count = s .count + 1 }) (s .count + 1) grown
+  push-low a h ea =
       let c : length (marks s) ≡ s .count = marks-length s w in
       let a′ : a ≡ marksWord (marks s) = ea ∙ ap marksWord (take-all 64 (marks s) (omega arith)) in
-      rw (← e) (of-low grown n (bitOr a v) grown-length h (word-pushed (marks s) y n a v (omega arith) a′ ev))
+      of-low grown (s .count + 1) (bitOr a (v * 2 ^ s .count % 2 ^ 64)) grown-length (omega arith) (word-pushed (marks s) y (s .count) a v (sym c) h a′ e)
 
-  pub push-high : (a b v : ℕ) → wordMarks < n → a ≡ lowWord s → b ≡ highWord s → v ≡ marksWord (lastOnly y (n - wordMarks))
-      → Made (record { words = a ∷ bitOr b v ∷ []; count = n }) (s .count + 1) grown
-  push-high a b v h ea eb ev =
+  pub push-high : (a b : ℕ) → wordMarks ≤ s .count → a ≡ lowWord s → b ≡ highWord s
+      → Made (record { words = a ∷ bitOr b (v * 2 ^ (s .count - wordMarks) % 2 ^ 64) ∷ []; count = s .count + 1 }) (s .count + 1) grown
+  push-high a b h ea eb =
       let c : length (marks s) ≡ s .count = marks-length s w in
       let t : take 64 grown ≡ take 64 (marks s) = take-append-le 64 (marks s) (y ∷ []) (omega arith) in
       let d : drop 64 grown ≡ drop 64 (marks s) ++ (y ∷ []) = drop-append-le 64 (marks s) (y ∷ []) (omega arith) in
-      let m : n - 64 ≡ suc (length (drop 64 (marks s))) = omega (arith, length-drop 64 (marks s)) in
-      rw (← e) (of-words grown n a (bitOr b v) grown-length (omega arith) (ea ∙ ap marksWord (sym t)) (word-pushed (drop 64 (marks s)) y (n - 64) b v m eb ev ∙ ap marksWord (sym d)))
+      let m : s .count - 64 ≡ length (drop 64 (marks s)) = omega (arith, length-drop 64 (marks s)) in
+      of-words grown (s .count + 1) a (bitOr b (v * 2 ^ (s .count - 64) % 2 ^ 64)) grown-length (omega arith) (ea ∙ ap marksWord (sym t))
+      (word-pushed (drop 64 (marks s)) y (s .count - 64) b v m (omega arith) eb e ∙ ap marksWord (sym d))
 
 -- ---- a column
 

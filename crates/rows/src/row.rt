@@ -13,6 +13,7 @@ ghost use Rattle.mark_words.specs.Marks.{markAt, yesMarks, lastAt};
 use mark_words::WORD_MARKS;
 use mark_words::gather;
 use mark_words::last_word;
+use mark_words::one;
 use mark_words::ones;
 use mark_words::since_word;
 use mark_words::until_word;
@@ -115,16 +116,19 @@ impl Row {
         requires { ⌜ (Whole self) × (self .count < maxStates) ⌝ }
         ensures { λ r. ⌜ Made r (self .count + 1) (marks self ++ (yes ∷ [])) ⌝ }
     {
-        let n = self.count + 1;
-        if n <= WORD_MARKS {
+        let n = self.count;
+        let longer = n + 1;
+        if n < WORD_MARKS {
+            let mark = one(yes) << n;
             return Row {
-                words: [self.low() | last_word(n, yes), 0],
-                count: n,
+                words: [self.low() | mark, 0],
+                count: longer,
             };
         }
+        let mark = one(yes) << (n - WORD_MARKS);
         Row {
-            words: [self.low(), self.high() | last_word(n - WORD_MARKS, yes)],
-            count: n,
+            words: [self.low(), self.high() | mark],
+            count: longer,
         }
     }
 
