@@ -60,6 +60,9 @@ module _ (C N : ℕ) (masks states : List ℕ) (c : ℕ) (entry : List ℕ) (sho
     pub project-room : (o′ : List ℕ) → length o′ ≡ length entry → maxStates ≤ length o′
     project-room o′ kept = omega (arith, room)
 
+    pub project-within : (L : ℕ) → L ≡ length (runsIn N c states) + 1 → (o′ : List ℕ) → length o′ ≡ length entry → L ≤ length o′
+    project-within L le o′ kept = omega (arith, project-fits L le, room)
+
     module _ (m : ℕ) (me : m ≡ getD masks c 0) (o′ : List ℕ) (p : o′ ≡ laid (placesIn N m c states) entry)
         (L : ℕ) (le : L ≡ length (runsIn N c states) + 1) where
       places : L ≡ length (localTrace R c)
@@ -76,4 +79,4 @@ module _ (C N : ℕ) (masks states : List ℕ) (c : ℕ) (entry : List ℕ) (sho
                 L none (sym places) (laid-begins L (localTrace R c) entry o′ (sym places) over) x);
           }
 
-pub ruleset project-laws = (needs, zeroed-within, project-refused, project-ready, project-fits, project-room, project-accepted)
+pub ruleset project-laws = (needs, zeroed-within, project-ready, project-fits, project-room, project-within)
