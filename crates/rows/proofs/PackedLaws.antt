@@ -188,11 +188,15 @@ module _ (s : Row) (y : Bool) (v : ℕ) (w : Whole s) (few : s .count < maxState
   grown-length : length grown ≡ s .count + 1
   grown-length = omega (arith, length-append (marks s) (y ∷ []), marks-length s w)
 
-  pub push-low : (a : ℕ) → s .count < wordMarks → a ≡ lowWord s → Made (record { words = bitOr a (v * 2 ^ s .count % 2 ^ 64) ∷ 0 ∷ []; count = s .count + 1 }) (s .count + 1) grown
-  push-low a h ea =
+  pub push-low : (a b : ℕ) → s .count < wordMarks → a ≡ lowWord s → b ≡ highWord s
+      → Made (record { words = bitOr a (v * 2 ^ s .count % 2 ^ 64) ∷ b ∷ []; count = s .count + 1 }) (s .count + 1) grown
+  push-low a b h ea eb =
       let c : length (marks s) ≡ s .count = marks-length s w in
       let a′ : a ≡ marksWord (marks s) = ea ∙ ap marksWord (take-all 64 (marks s) (omega arith)) in
-      of-low grown (s .count + 1) (bitOr a (v * 2 ^ s .count % 2 ^ 64)) grown-length (omega arith) (word-pushed (marks s) y (s .count) a v (sym c) h a′ e)
+      let t : take 64 grown ≡ grown = take-all 64 grown (omega (arith, grown-length)) in
+      let d : drop 64 (marks s) ≡ drop 64 grown = drop-of-length-le (marks s) {i = 64} (omega arith) ∙ sym (drop-of-length-le grown {i = 64} (omega (arith, grown-length))) in
+      of-words grown (s .count + 1) (bitOr a (v * 2 ^ s .count % 2 ^ 64)) b grown-length (omega arith)
+      (word-pushed (marks s) y (s .count) a v (sym c) h a′ e ∙ ap marksWord (sym t)) (eb ∙ ap marksWord d)
 
   pub push-high : (a b : ℕ) → wordMarks ≤ s .count → a ≡ lowWord s → b ≡ highWord s
       → Made (record { words = a ∷ bitOr b (v * 2 ^ (s .count - wordMarks) % 2 ^ 64) ∷ []; count = s .count + 1 }) (s .count + 1) grown

@@ -121,7 +121,7 @@ impl Row {
         if n < WORD_MARKS {
             let mark = one(yes) << n;
             return Row {
-                words: [self.low() | mark, 0],
+                words: [self.low() | mark, self.high()],
                 count: longer,
             };
         }

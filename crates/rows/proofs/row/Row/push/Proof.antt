@@ -15,6 +15,9 @@ shl-mark c = search packed-laws
 low-requires : tie.Need-low-requires
 low-requires c κs = search packed-laws
 
+high-requires : tie.Need-high-requires
+high-requires c κs = search packed-laws
+
 returns : tie.Need-returns
 returns c = search push-low
 
@@ -27,8 +30,8 @@ shl-mark-2 c = search packed-laws
 low-requires-2 : tie.Need-low-requires-2
 low-requires-2 c κs = search packed-laws
 
-high-requires : tie.Need-high-requires
-high-requires c κs = search packed-laws
+high-requires-2 : tie.Need-high-requires-2
+high-requires-2 c κs = search packed-laws
 
 returns-2 : tie.Need-returns-2
 returns-2 c = search push-high
@@ -41,9 +44,10 @@ push-spec =
     one-requires
     shl-mark
     low-requires
+    high-requires
     returns
     one-requires-2
     shl-mark-2
     low-requires-2
-    high-requires
+    high-requires-2
     returns-2)
