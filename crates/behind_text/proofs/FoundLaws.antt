@@ -25,7 +25,8 @@ use Rattle.theorems.proofs.EvidenceJudged.{pairs-few, pairs-low}
 use Rattle.mark_words.proofs.WordLaws.{bit-few}
 use Rattle.projection.specs.Places.{statesOnly, Countable}
 use Rattle.projection.proofs.LengthLaws.{length-of}
-use Rattle.projection.proofs.PlaceLaws.{few-runs, countable, local-places}
+use Rattle.projection.proofs.PlaceLaws.{countable, local-places}
+use Rattle.theorems.proofs.RunStates.{few-runs}
 use Rattle.walk.proofs.WalkLaws.{node-at}
 use Rattle.judges.proofs.CheckedNodes.{nodes-there}
 use Rattle.evidence_text.specs.Pairs.{maxPairBytes, pairIn, pairsIn, PairReady}

@@ -3,6 +3,7 @@ pub mod Trials
 pub mod OperatorTrials
 pub mod RefusalTrials
 pub mod MidStepTrials
+pub mod BeginningTrials
 pub mod EndingTrials
 pub mod EvidenceTrials
 pub mod OneLineTrials

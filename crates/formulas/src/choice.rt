@@ -21,6 +21,15 @@ pub fn pick_index(test: bool, yes: usize, no: usize) -> usize
     no
 }
 
+pub fn pick_word(test: bool, yes: u32, no: u32) -> u32
+    ensures { λ r. ⌜ r ≡ pick test yes no ⌝ }
+{
+    if test {
+        return yes;
+    }
+    no
+}
+
 // The first refusal, or the other.
 pub fn or_else(number: u8, other: u8) -> u8
     ensures { λ r. ⌜ r ≡ orElse number other ⌝ }

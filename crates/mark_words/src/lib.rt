@@ -76,6 +76,16 @@ pub fn last_word(n: usize, yes: bool) -> u64
     0
 }
 
+// The word of one mark. A shift moves it to its place: no branch that the mark decides.
+pub fn one(yes: bool) -> u64
+    ensures { λ r. ⌜ r ≡ bit yes ⌝ }
+{
+    if yes {
+        return 1;
+    }
+    0
+}
+
 // Bit `bit` of each of the states from..to, gathered from the last one back.
 pub fn gather(states: &[u64], from: usize, to: usize, bit: usize) -> u64
     requires { ⌜ (from ≤ to) × (to ≤ length (now states)) × (to ≤ from + wordMarks) × (bit < wordMarks) ⌝ }

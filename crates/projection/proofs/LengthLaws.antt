@@ -1,70 +1,53 @@
 -- The local length is one more than the ones of the run marks' row.
 use mathlib.Core.Path.{_≡_, refl, sym, ap, _∙_}
-use Prim.Native.Nat.{ℕ, zero, suc, _+_, _-_, _<_}
+use Prim.Native.Nat.{ℕ, zero, suc, _+_, _-_, _≤_, _<_}
 use native.Mathlib.Omega.{arith}
+use native.Mathlib.Numerals.{add-one}
 use mathlib.Core.Bool.{Bool, true, false}
-use mathlib.Core.List.{List, [], _∷_, _++_, map, append-nil}
+use mathlib.Core.List.{List, [], _∷_, _++_, map}
 use lib.Bits.{bitAnd}
-use lib.ListN.{length, take, getD, length-append, length-map}
-use lib.Seq.{getD-take}
-use borrow.Author.Needs.{needs}
-use borrow.Author.Tests.{lt-ltb}
-use Rattle.definitions.specs.Limits.{atomCount}
-use Rattle.definitions.specs.Bounded.{pick, bit, bitOf, tabulate, tabulateFrom}
+use lib.ListN.{length, length-append, length-map}
+use Rattle.definitions.specs.Bounded.{bit, tabulate}
 use Rattle.definitions.specs.Recordings.{Recording, maskOf, wordAt, runsAt}
-use Rattle.definitions.specs.Projection.{runStates, afterLast, localTrace}
-use Rattle.theorems.proofs.Tabulations.{tabulate-same}
+use Rattle.definitions.specs.Projection.{runStates, afterLast, placesOf, localTrace}
+use Rattle.theorems.proofs.Choice.{by-test}
+use Rattle.theorems.proofs.Tabulations.{tabulate-snoc}
 use Rattle.theorems.proofs.LastMarks.{last-adds-none}
+use Rattle.theorems.proofs.RunStates.{runs-on, runs-off}
 use Rattle.mark_words.specs.Marks.{yesMarks}
-use Rattle.rows.specs.Marks.{marks, Made}
-use Rattle.rows.specs.declared.row.Row.{Row}
-use Rattle.mark_words.proofs.WordLaws.{bit-shr}
-use Rattle.projection.specs.Places.{statesOnly, runsIn, placesIn, Countable}
+use Rattle.projection.specs.Places.{statesOnly, runsIn, placesIn}
 
-yes-snoc : (l : List Bool) (b : Bool) → yesMarks (l ++ (b ∷ [])) ≡ yesMarks l + bit b
+pub yes-snoc : (l : List Bool) (b : Bool) → yesMarks (l ++ (b ∷ [])) ≡ yesMarks l + bit b
 yes-snoc [] b = omega arith
 yes-snoc (x ∷ l) b = omega (arith, yes-snoc l b)
 
-tabulate-snoc : (f : ℕ → Bool) (n k : ℕ) → tabulateFrom (suc n) k f ≡ tabulateFrom n k f ++ (f (k + n) ∷ [])
-tabulate-snoc f zero k = let e : k + 0 ≡ k = omega arith in rw e
-tabulate-snoc f (suc n) k = let e : suc k + n ≡ k + suc n = omega arith in ap (λ (l : List Bool). f k ∷ l) (tabulate-snoc f n (suc k) ∙ rw e)
+pub yes-few : (l : List Bool) → yesMarks l ≤ length l
+yes-few [] = omega arith
+yes-few (true ∷ l) = omega (arith, yes-few l)
+yes-few (false ∷ l) = omega (arith, yes-few l)
 
-run-marks : (run : ℕ → Bool) (n : ℕ) → yesMarks (tabulate n run) ≡ length (runStates run n)
-unfolding pick
+pub run-marks : (run : ℕ → Bool) (n : ℕ) → yesMarks (tabulate n run) ≡ length (runStates run n)
 run-marks run zero = refl
 run-marks run (suc n) =
-    let e : 0 + n ≡ n = omega arith in
-    ap yesMarks (tabulate-snoc run n 0) ∙ (yes-snoc (tabulate n run) (run (0 + n)) ∙ rw (e, run-marks run n) (go (run n)))
-  where
-    go : (b : Bool) → length (runStates run n) + bit b ≡ length (runStates run n ++ pick b (n ∷ []) [])
-    go true = omega (arith, length-append (runStates run n) (n ∷ []))
-    go false = rw append-nil (omega arith)
+    let e : suc n ≡ n + 1 = sym (add-one n) in
+    let ih : yesMarks (tabulate n run) ≡ length (runStates run n) = run-marks run n in
+    ap yesMarks (tabulate-snoc n run) ∙ (yes-snoc (tabulate n run) (run n) ∙ by-test (run n)
+    (λ r. omega (arith, ih, ap bit r, ap length (ap (runStates run) e ∙ runs-on run n r), length-append (runStates run n) (n ∷ [])))
+    (λ r. omega (arith, ih, ap bit r, ap length (ap (runStates run) e ∙ runs-off run n r))))
 
--- the column of the run marks before the last state is where the component runs
-run-column : (N c : ℕ) (states : List ℕ) →
-    tabulate (N - 1) (λ k. bitOf (getD states k 0) (atomCount + c)) ≡ tabulate (N - 1) (runsAt (statesOnly N states) c)
-run-column N c states =
-    tabulate-same (N - 1) (λ k. bitOf (getD states k 0) (atomCount + c)) (runsAt (statesOnly N states) c)
-    (λ i less. rw (lt-ltb (suc i) N (omega arith)) (sym (bit-shr c atomCount (getD (take N states) i 0) ∙ rw (getD-take N states i 0 (omega arith)))))
-
-pub length-is : (N c r : ℕ) (states : List ℕ) (row : Row) → Countable N c states → Made row (N - 1) (tabulate (N - 1) (λ k. bitOf (getD states k 0) (atomCount + c))) →
-    r ≡ yesMarks (marks row) → r + 1 ≡ length (runsIn N c states) + 1
-length-is N c r states row few m e =
-    rw (e, m .marked, run-column N c states, run-marks (runsAt (statesOnly N states) c) (N - 1), last-adds-none (statesOnly N states) c (few .someState))
+places-length : (word : ℕ → ℕ) (mask : ℕ) (rs : List ℕ) → length (placesOf word mask rs) ≡ length rs + 1
+places-length word mask rs = omega (arith, length-append (map word rs) (bitAnd (word (afterLast rs)) mask ∷ []), length-map rs word)
 
 pub length-of : (N c mask : ℕ) (states : List ℕ) → length (placesIn N mask c states) ≡ length (runsIn N c states) + 1
 unfolding placesIn
-length-of N c mask states =
-    let w : ℕ → ℕ = wordAt (statesOnly N states) in
-    omega (
-      arith,
-      length-append (map w (runsIn N c states)) (bitAnd (w (afterLast (runsIn N c states))) mask ∷ []),
-      length-map (runsIn N c states) w,
-    )
+length-of N c mask states = places-length (wordAt (statesOnly N states)) mask (runsIn N c states)
 
 -- the length of a local trace, as a caller has it
 pub length-local : (R : Recording) (c r : ℕ) → r ≡ length (runsIn (R .count) c (R .states)) + 1 → r ≡ length (localTrace R c)
 unfolding placesIn
 length-local R c r e = e ∙ sym (length-of (R .count) c (maskOf R c) (R .states))
 
-pub ruleset length-laws = (needs, length-is)
+-- the last state adds no run
+pub trace-length : (R : Recording) (c : ℕ) → 0 < R .count → length (localTrace R c) ≡ length (runStates (runsAt R c) (R .count - 1)) + 1
+trace-length R c h =
+    places-length (wordAt R) (maskOf R c) (runStates (runsAt R c) (R .count)) ∙ ap (λ (rs : List ℕ). length rs + 1) (last-adds-none R c h)

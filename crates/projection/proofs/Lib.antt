@@ -1,3 +1,4 @@
-pub mod PlaceLaws
 pub mod LengthLaws
+pub mod PassLaws
+pub mod PlaceLaws
 pub mod ProjectLaws

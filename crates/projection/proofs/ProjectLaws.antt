@@ -17,11 +17,11 @@ use Rattle.lent.specs.Space.{laid, cleared}
 use Rattle.lent.proofs.LeftLaws.{laid-past, laid-begins, left-filled, lent-number, lent-full, zeroed-within, zeroed-left}
 use Rattle.traces.specs.Joining.{traceRefusal}
 use Rattle.traces.proofs.CheckLaws.{own-mask}
-use Rattle.projection.specs.Places.{runsIn, placesIn, Projectable, Countable}
+use Rattle.projection.specs.Places.{runsIn, placesIn, Projectable}
 use Rattle.projection.specs.Answers.{answerOf, ProjectIs}
 use Rattle.projection.specs.declared.project.Projection.the-variants.{Places, Refused}
-use Rattle.projection.proofs.LengthLaws.{length-of, length-local}
-use Rattle.projection.proofs.PlaceLaws.{projectable, countable, local-places, few-local}
+use Rattle.projection.proofs.LengthLaws.{length-local}
+use Rattle.projection.proofs.PlaceLaws.{projectable, local-places, few-local}
 
 module _ (C N : ℕ) (masks states : List ℕ) (c : ℕ) (entry : List ℕ) (short other r : ℕ) (s : short ≡ pick (ltb (length entry) maxStates) lentShort accepted)
     (o : other ≡ traceRefusal (recordingOf C N masks states) c) (e : r ≡ orElse short other) where
@@ -54,14 +54,14 @@ module _ (C N : ℕ) (masks states : List ℕ) (c : ℕ) (entry : List ℕ) (sho
     pub project-ready : Projectable N c states entry
     project-ready = projectable R c entry (both .0) below room
 
-    pub project-countable : Countable N c states
-    project-countable = countable R c (both .0) below
-
     pub project-fits : (L : ℕ) → L ≡ length (runsIn N c states) + 1 → L ≤ maxStates
     project-fits L le = omega (arith, few-local N c states entry project-ready, project-ready .fewStates)
 
     pub project-room : (o′ : List ℕ) → length o′ ≡ length entry → maxStates ≤ length o′
     project-room o′ kept = omega (arith, room)
+
+    pub project-within : (L : ℕ) → L ≡ length (runsIn N c states) + 1 → (o′ : List ℕ) → length o′ ≡ length entry → L ≤ length o′
+    project-within L le o′ kept = omega (arith, project-fits L le, room)
 
     module _ (m : ℕ) (me : m ≡ getD masks c 0) (o′ : List ℕ) (p : o′ ≡ laid (placesIn N m c states) entry)
         (L : ℕ) (le : L ≡ length (runsIn N c states) + 1) where
@@ -79,4 +79,4 @@ module _ (C N : ℕ) (masks states : List ℕ) (c : ℕ) (entry : List ℕ) (sho
                 L none (sym places) (laid-begins L (localTrace R c) entry o′ (sym places) over) x);
           }
 
-pub ruleset project-laws = (needs, zeroed-within, project-refused, project-ready, project-countable, project-fits, project-room, project-accepted)
+pub ruleset project-laws = (needs, zeroed-within, project-ready, project-fits, project-room, project-within)

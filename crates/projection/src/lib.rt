@@ -1,3 +1,4 @@
 // Projection: the local trace of one controller (component) of a recording.
+pub mod pass;
 pub mod places;
 pub mod project;

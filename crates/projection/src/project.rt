@@ -1,8 +1,7 @@
 // Projection as an operation: the local trace of one controller of any recording, in lent space.
 ghost use Rattle.definitions.specs.Recordings.{recordingOf};
 ghost use Rattle.projection.specs.Answers.{ProjectIs};
-use super::places::local_length;
-use super::places::project_into;
+use super::places::project_counted;
 use formulas::choice::or_else;
 use formulas::choice::pick;
 use formulas::choice::pick_index;
@@ -39,8 +38,7 @@ pub fn project(
         clear_u32(places, 0, zeroed);
         return Projection::Refused(refusal);
     }
-    let length = local_length(count, c, states);
-    project_into(count, mask_at(masks, c), c, states, places);
+    let length = project_counted(count, mask_at(masks, c), c, states, places);
     clear_u32(places, length, Limits::STATES);
     Projection::Places(length)
 }

@@ -1,26 +1,28 @@
 -- Laws of rows as lists: two words and a count hold a list of marks.
-use mathlib.Core.Bool.{Bool, true, false}
+use mathlib.Core.Bool.{Bool, true, false, _||_}
 use mathlib.Core.List.{List, [], _∷_, _++_}
 use mathlib.Core.Logic.{⊎-elim}
-use mathlib.Core.Path.{_≡_, refl, sym, ap, _∙_}
-use Prim.Native.Nat.{ℕ, zero, suc, _+_, _-_, _/_, _%_, _<_, _≤_}
-use native.Mathlib.Nat.{zero-add}
+use mathlib.Core.Path.{_≡_, refl, sym, ap, ap₂, _∙_}
+use Prim.Native.Nat.{ℕ, zero, suc, _+_, _-_, _*_, _/_, _%_, _^_, _<_, _≤_}
+use native.Mathlib.Nat.{zero-add, zero-mul, one-mul, mod-eq-of-lt}
 use native.Mathlib.Omega.{arith}
 use borrow.Author.Needs.{needs}
+use lib.Bits.{bitOr}
+use lib.Pow.{pow-lt}
 use lib.Count.{ones, ones-le}
 use mir.Val.{Fits}
 use mir.Syntax.{w32, w64}
-use lib.ListN.{length, take, drop, getD, replicate, length-replicate, take-append-drop, drop-of-length-le}
-use lib.Seq.{take-all, getD-take, getD-drop}
+use lib.ListN.{length, take, drop, getD, replicate, length-append, length-drop, length-replicate, take-append-drop, drop-of-length-le}
+use lib.Seq.{take-all, take-append-le, drop-append-le, getD-take, getD-drop}
 use Rattle.definitions.specs.Limits.{maxStates, wordMarks}
-use Rattle.definitions.specs.Bounded.{bitOf, tabulate, tabulateFrom}
+use Rattle.definitions.specs.Bounded.{bit, bitOf, tabulate, tabulateFrom}
 use Rattle.definitions.specs.Readings.{marksWord}
 use Rattle.theorems.proofs.Tabulations.{tabulated, tabulate-length, tabulate-take, tabulate-drop}
 use Rattle.mark_words.specs.Marks.{markAt, yesMarks}
 use Rattle.mark_words.specs.Lists.{lastOnly}
 use Rattle.mark_words.specs.Words.{gathered}
 use Rattle.mark_words.proofs.OperatorLaws.{lt-or-le, same-list, only-length, only-none}
-use Rattle.mark_words.proofs.WordLaws.{word-bit, ones-word}
+use Rattle.mark_words.proofs.WordLaws.{word-bit, ones-word, or-cons, last-none, last-one}
 use Rattle.rows.specs.declared.row.Row.{Row}
 use Rattle.rows.specs.Marks.{bitAt, marks, packed, lowWord, highWord, Whole, Made}
 
@@ -160,6 +162,52 @@ last-high w n a h few e =
 pub none-made : (r : Row) (n : ℕ) → Made r n (lastOnly false n) → Made r n (tabulate n (λ k. false))
 none-made r n m = retold r n (lastOnly false n) (tabulate n (λ k. false)) m (only-none n)
 
+-- ---- one mark more
+
+word-more : (l : List Bool) (y : Bool) → bitOr (marksWord l) (marksWord (lastOnly y (suc (length l)))) ≡ marksWord (l ++ (y ∷ []))
+word-more [] true = refl
+word-more [] false = refl
+word-more (b ∷ l) y = or-cons (marksWord l) (marksWord (lastOnly y (suc (length l)))) b false ∙ ap₂ (λ (x : ℕ) (z : Bool). x * 2 + bit z) (word-more l y) (or-no b)
+  where
+    or-no : (x : Bool) → (x || false) ≡ x
+    or-no true = refl
+    or-no false = refl
+
+-- the new mark, moved to its place
+word-pushed : (l : List Bool) (y : Bool) (k w v : ℕ) → k ≡ length l → k < wordMarks → w ≡ marksWord l → v ≡ bit y → bitOr w (v * 2 ^ k % 2 ^ 64) ≡ marksWord (l ++ (y ∷ []))
+word-pushed l y k w v e h ew ev = rw (ew, ev, placed y) (ap (λ (n : ℕ). bitOr (marksWord l) (marksWord (lastOnly y (suc n)))) e ∙ word-more l y)
+  where
+    placed : (x : Bool) → bit x * 2 ^ k % 2 ^ 64 ≡ marksWord (lastOnly x (suc k))
+    placed true = rw (one-mul, mod-eq-of-lt (pow-lt {i = k} {j = 64} h)) (sym (last-one k))
+    placed false = rw zero-mul (sym (last-none (suc k)))
+
+module _ (s : Row) (y : Bool) (v : ℕ) (w : Whole s) (few : s .count < maxStates) (e : v ≡ bit y) where
+  abbrev grown : List Bool
+  grown = marks s ++ (y ∷ [])
+
+  grown-length : length grown ≡ s .count + 1
+  grown-length = omega (arith, length-append (marks s) (y ∷ []), marks-length s w)
+
+  pub push-low : (a b : ℕ) → s .count < wordMarks → a ≡ lowWord s → b ≡ highWord s
+      → Made (record { words = bitOr a (v * 2 ^ s .count % 2 ^ 64) ∷ b ∷ []; count = s .count + 1 }) (s .count + 1) grown
+  push-low a b h ea eb =
+      let c : length (marks s) ≡ s .count = marks-length s w in
+      let a′ : a ≡ marksWord (marks s) = ea ∙ ap marksWord (take-all 64 (marks s) (omega arith)) in
+      let t : take 64 grown ≡ grown = take-all 64 grown (omega (arith, grown-length)) in
+      let d : drop 64 (marks s) ≡ drop 64 grown = drop-of-length-le (marks s) {i = 64} (omega arith) ∙ sym (drop-of-length-le grown {i = 64} (omega (arith, grown-length))) in
+      of-words grown (s .count + 1) (bitOr a (v * 2 ^ s .count % 2 ^ 64)) b grown-length (omega arith)
+      (word-pushed (marks s) y (s .count) a v (sym c) h a′ e ∙ ap marksWord (sym t)) (eb ∙ ap marksWord d)
+
+  pub push-high : (a b : ℕ) → wordMarks ≤ s .count → a ≡ lowWord s → b ≡ highWord s
+      → Made (record { words = a ∷ bitOr b (v * 2 ^ (s .count - wordMarks) % 2 ^ 64) ∷ []; count = s .count + 1 }) (s .count + 1) grown
+  push-high a b h ea eb =
+      let c : length (marks s) ≡ s .count = marks-length s w in
+      let t : take 64 grown ≡ take 64 (marks s) = take-append-le 64 (marks s) (y ∷ []) (omega arith) in
+      let d : drop 64 grown ≡ drop 64 (marks s) ++ (y ∷ []) = drop-append-le 64 (marks s) (y ∷ []) (omega arith) in
+      let m : s .count - 64 ≡ length (drop 64 (marks s)) = omega (arith, length-drop 64 (marks s)) in
+      of-words grown (s .count + 1) a (bitOr b (v * 2 ^ (s .count - 64) % 2 ^ 64)) grown-length (omega arith) (ea ∙ ap marksWord (sym t))
+      (word-pushed (drop 64 (marks s)) y (s .count - 64) b v m (omega arith) eb e ∙ ap marksWord (sym d))
+
 -- ---- a column
 
 abbrev columnOf : List ℕ → ℕ → ℕ → Bool
@@ -197,4 +245,4 @@ total-is s a b e f =
 pub total-fits : (a b : ℕ) → Fits w64 a → Fits w64 b → Fits w32 (ones a + ones b)
 total-fits a b f g = record { fits = omega (arith, ones-le 64 a (f .fits), ones-le 64 b (g .fits)) }
 
-pub ruleset packed-laws = (needs, low-is, high-is, full-low, full-high, last-low, last-high, none-made, column-low, column-high, total-is, total-fits)
+pub ruleset packed-laws = (needs, low-is, high-is, full-low, full-high, last-low, last-high, none-made, push-low, push-high, column-low, column-high, total-is, total-fits)

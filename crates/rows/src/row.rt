@@ -1,7 +1,8 @@
 // Rows of marks: "A row is 128 yes-or-no marks with the count of states it covers".
 ghost use mathlib.Core.Path.{_≡_};
 ghost use mathlib.Core.Bool.{true, false, not, _&&_, _||_};
-ghost use Prim.Native.Nat.{_<_, _≤_};
+ghost use mathlib.Core.List.{[], _∷_, _++_};
+ghost use Prim.Native.Nat.{_+_, _<_, _≤_};
 ghost use lib.ListN.{length, getD};
 ghost use Rattle.definitions.specs.Limits.{maxStates, wordMarks};
 ghost use Rattle.definitions.specs.Bounded.{tabulate, bitOf};
@@ -12,6 +13,7 @@ ghost use Rattle.mark_words.specs.Marks.{markAt, yesMarks, lastAt};
 use mark_words::WORD_MARKS;
 use mark_words::gather;
 use mark_words::last_word;
+use mark_words::one;
 use mark_words::ones;
 use mark_words::since_word;
 use mark_words::until_word;
@@ -107,6 +109,27 @@ impl Row {
         let words = self.words;
         let w = i / WORD_MARKS;
         (words[w] >> (i % WORD_MARKS)) % 2 == 1
+    }
+
+    // One place more, with the mark `yes`.
+    pub fn push(self, yes: bool) -> Row
+        requires { ⌜ (Whole self) × (self .count < maxStates) ⌝ }
+        ensures { λ r. ⌜ Made r (self .count + 1) (marks self ++ (yes ∷ [])) ⌝ }
+    {
+        let n = self.count;
+        let longer = n + 1;
+        if n < WORD_MARKS {
+            let mark = one(yes) << n;
+            return Row {
+                words: [self.low() | mark, self.high()],
+                count: longer,
+            };
+        }
+        let mark = one(yes) << (n - WORD_MARKS);
+        Row {
+            words: [self.low(), self.high() | mark],
+            count: longer,
+        }
     }
 
     // How many marks are yes.

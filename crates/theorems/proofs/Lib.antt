@@ -19,6 +19,8 @@ pub mod Faithful
 pub mod RecordingLaws
 pub mod Beginnings
 pub mod LastMarks
+pub mod RunStates
+pub mod OneStateMore
 pub mod ProjectionLaws
 pub mod ScheduleIndependence
 pub mod ElevenControllers

@@ -17,11 +17,7 @@ use Rattle.theorems.proofs.Recursions.{prevB}
 use Rattle.theorems.proofs.Walk.{count, count-mono, count-lt, down}
 use Rattle.theorems.proofs.Faithful.{Law}
 use Rattle.theorems.proofs.RecordingLaws.{Recorded}
-
-after-snoc : (rs : List ℕ) (n : ℕ) → afterLast (rs ++ (n ∷ [])) ≡ suc n
-after-snoc [] n = refl
-after-snoc (r ∷ []) n = refl
-after-snoc (r ∷ s ∷ rs) n = after-snoc (s ∷ rs) n
+use Rattle.theorems.proofs.RunStates.{after-snoc}
 
 length-map : (f : ℕ → ℕ) (l : List ℕ) → length (map f l) ≡ length l
 length-map f [] = refl

@@ -4,7 +4,7 @@ use Prim.Native.Nat.{ℕ, zero, suc, _+_, _<_}
 use native.Mathlib.Nat.{add-zero, zero-add, not-suc-le-zero, le-of-suc-le-suc}
 use native.Mathlib.Omega.{arith}
 use mathlib.Core.Bool.{Bool, false}
-use mathlib.Core.List.{List, _∷_}
+use mathlib.Core.List.{List, [], _∷_, _++_}
 use lib.ListN.{length, take, drop, getD}
 use lib.Seq.{ext-getD}
 use Rattle.definitions.specs.Bounded.{tabulateFrom, tabulate}
@@ -45,3 +45,11 @@ tabulate-drop (suc m) j k f =
     let e : suc m + j ≡ suc (m + j) = omega arith in
     let g : m + suc k ≡ suc m + k = omega arith in
     rw (e, ← g) (tabulate-drop m j (suc k) f)
+
+tabulate-from-snoc : (n k : ℕ) (f : ℕ → Bool) → tabulateFrom (suc n) k f ≡ tabulateFrom n k f ++ (f (k + n) ∷ [])
+tabulate-from-snoc zero k f = rw add-zero
+tabulate-from-snoc (suc n) k f = let e : suc k + n ≡ k + suc n = omega arith in ap (λ (l : List Bool). f k ∷ l) (tabulate-from-snoc n (suc k) f ∙ rw e)
+
+-- one place more
+pub tabulate-snoc : (n : ℕ) (f : ℕ → Bool) → tabulate (suc n) f ≡ tabulate n f ++ (f n ∷ [])
+tabulate-snoc n f = tabulate-from-snoc n 0 f ∙ rw zero-add

@@ -12,6 +12,7 @@ use reference::generate::formulas::{JudgeTable, RuleTable};
 use reference::generate::traces;
 use reference::model::{self, limits};
 
+use crate::beginnings;
 use crate::check::Check;
 use crate::difference::Difference;
 use crate::growth;
@@ -201,14 +202,15 @@ impl<'a> Small<'a> {
         jobs
     }
 
-    /// The local traces of some recordings for every controller, and for one
-    /// that they don't have.
+    /// The local traces of all beginnings of some recordings for every
+    /// controller, and those of the recordings for one that they don't have.
     fn projections(&self, check: &mut Check, first: usize) -> Result<(), Difference> {
         let recordings = self.views.recordings.iter().skip(first).take(PROJECTIONS);
         for recording in recordings {
-            for controller in 0..=recording.controllers {
-                check.compare(&Input::project(recording.clone(), controller))?;
+            for controller in 0..recording.controllers {
+                beginnings::each(check, recording, controller)?;
             }
+            check.compare(&Input::project(recording.clone(), recording.controllers))?;
         }
         Ok(())
     }

@@ -88,7 +88,8 @@ pub enum Operation {
     Endings,
     /// Recordings of one local trace give one verdict (demand 3).
     Schedules,
-    /// A beginning of an accepted recording is accepted.
+    /// A beginning of an accepted recording is accepted, and its local trace,
+    /// carried on by one state, is that of the next beginning.
     Beginnings,
     /// Local traces that agree in the readings behind a verdict have it.
     Promise,

@@ -466,6 +466,40 @@ fn eleven_masks_lent(check: &mut Check) -> Result<(), Difference> {
     Ok(())
 }
 
+/// The places of a recording for a controller.
+fn projected(
+    check: &mut Check,
+    recording: RecordingTable,
+    controller: usize,
+    places: &[u64],
+) -> Result<(), Difference> {
+    let input = Input::project(recording, controller);
+    named(check, input.clone(), 0, &[places.len()])?;
+    if check.compare(&input)?.slice(0)[..places.len()] != *places {
+        let place = format!("the trial: named places {places:?}");
+        return Err(Difference::new(place, input.to_string()));
+    }
+    Ok(())
+}
+
+/// Document 02, project while counting: the local traces of each beginning of
+/// six states, in three of which controller 0 runs one after the other.
+fn each_beginning(check: &mut Check) -> Result<(), Difference> {
+    let states = [(1, 2), (3, 3), (1, 2), (2, 3), (1, 1), (3, 0)];
+    let states: Vec<u64> = states.iter().map(|(marks, word)| (marks << 32) + word).collect();
+    let whole = RecordingTable { controllers: 2, length: 6, masks: vec![1, 2], states };
+    let first: [&[u64]; 6] =
+        [&[0], &[2, 1], &[2, 3, 0], &[2, 3, 2, 1], &[2, 3, 2, 1], &[2, 3, 2, 1, 0]];
+    let second: [&[u64]; 6] = [&[2], &[2], &[3, 2], &[3, 2], &[3, 3, 0], &[3, 3, 0]];
+    for (controller, named) in [first, second].iter().enumerate() {
+        for (length, places) in (1..).zip(named) {
+            let lowered = RecordingTable { length, ..whole.clone() };
+            projected(check, lowered, controller, places)?;
+        }
+    }
+    Ok(())
+}
+
 /// An input with as many pairs as we know of: at each of 128 places each of 31
 /// own atoms, since strong it is never so that one of them holds.
 pub fn widest() -> Input {
@@ -546,6 +580,7 @@ pub fn jobs<'a>() -> Vec<Job<'a>> {
         Box::new(one_line),
         Box::new(traps),
         Box::new(mid_step),
+        Box::new(each_beginning),
         Box::new(walked),
         Box::new(eleven_in_texts),
         Box::new(eleven_in_tables),

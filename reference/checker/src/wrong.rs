@@ -153,7 +153,7 @@ fn lists() -> Vec<(Section, Operation, &'static [Place])> {
     lists.extend([
         (Section::Random, Operation::ReadJoint, &[Line][..]),
         (Section::Random, Operation::Schedules, &[Value]),
-        (Section::Random, Operation::Beginnings, &[Number]),
+        (Section::Random, Operation::Beginnings, &[Number, Content]),
         (Section::Random, Operation::Growth, &[Value, Length]),
         (Section::Random, Operation::ReadRecording, &[Nine, Cleared]),
         (Section::Random, Operation::Project, &[Nine, LastRun]),
@@ -178,6 +178,7 @@ fn lists() -> Vec<(Section, Operation, &'static [Place])> {
         (Section::Program, Operation::LongestProgram, &[Named, Content, Length]),
         (Section::Program, Operation::LongestProgram, LONGEST_PRINTERS),
         (Section::Small, Operation::Project, &[Number, Value, Content]),
+        (Section::Small, Operation::Beginnings, &[Number, Content]),
         (Section::Small, Operation::RewritePlain, &[Value, Content]),
         (Section::Small, Operation::RewriteShort, &[Value, Content]),
         (Section::Small, Operation::JudgeLocal, &[Value]),

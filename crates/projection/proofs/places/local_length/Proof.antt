@@ -1,30 +1,17 @@
 -- `projection::places::local_length` meets its contract.
 use borrow.Author.Needs.{needs}
-use Rattle.projection.proofs.LengthLaws.{length-laws, length-is}
+use Rattle.projection.proofs.PlaceLaws.{own-places}
 use Rattle.projection.proofs.places.local_length.Statement.{statement}
 use Rattle.projection.proofs.places.local_length.Tie as tie
 
-sub-column : tie.Need-sub-column
-sub-column c = search length-laws
+slice-aggregate-project-counted : tie.Need-slice-aggregate-project-counted
+slice-aggregate-project-counted c = search needs
 
-add-column : tie.Need-add-column
-add-column c = search needs
-
-column-requires : tie.Need-column-requires
-column-requires c κs = search length-laws
-
-total-requires : tie.Need-total-requires
-total-requires c κs = search needs
-
-cast-result : tie.Need-cast-result
-cast-result c = search needs
-
-add-result : tie.Need-add-result
-add-result c = search needs
+project-counted-requires : tie.Need-project-counted-requires
+project-counted-requires c κs = search (needs, own-places)
 
 returns : tie.Need-returns
-returns c = search length-is
+returns c = search needs
 
 pub local-length-spec : {M : Type 1} → statement M
-local-length-spec =
-    tie.close (tie.spec sub-column add-column column-requires total-requires cast-result add-result returns)
+local-length-spec = tie.close (tie.spec slice-aggregate-project-counted project-counted-requires returns)

@@ -25,14 +25,11 @@ same-length c = search needs
 returns : tie.Need-returns
 returns c = search project-refused
 
-local-length-requires : tie.Need-local-length-requires
-local-length-requires c κs = search project-laws
-
 mask-at-requires : tie.Need-mask-at-requires
 mask-at-requires c κs = search needs
 
-project-into-requires : tie.Need-project-into-requires
-project-into-requires c κs = search project-laws
+project-counted-requires : tie.Need-project-counted-requires
+project-counted-requires c κs = search project-laws
 
 clear-u32-requires-2 : tie.Need-clear-u32-requires-2
 clear-u32-requires-2 c κs = search project-laws
@@ -54,9 +51,8 @@ project-spec =
     clear-u32-requires
     same-length
     returns
-    local-length-requires
     mask-at-requires
-    project-into-requires
+    project-counted-requires
     clear-u32-requires-2
     same-length-2
     returns-2)
