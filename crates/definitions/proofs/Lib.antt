@@ -7,3 +7,4 @@ pub mod EndingTrials
 pub mod EvidenceTrials
 pub mod OneLineTrials
 pub mod LongestTrials
+pub mod PastTrials
