@@ -32,7 +32,8 @@ cost short mask is Run a b = 0
 cost short mask is End a b = 0
 cost short mask is Unknown a b = 0
 
-part-count : (short : Bool) (mask : ℕ) (is : List Image) (x g h : ℕ) (k : Kind) (a b : ℕ) →
+-- both images of a node, by its bracketed number
+pub part-count : (short : Bool) (mask : ℕ) (is : List Image) (x g h : ℕ) (k : Kind) (a b : ℕ) →
     length (part short mask is x g true k a b) + length (part short mask is x h false k a b) ≡ cost short mask is k a b
 unfolding pick
 part-count short mask is x g h True a b = refl
@@ -113,7 +114,7 @@ unfolding pick
 pick-most true a b h = h
 pick-most false a b h = omega arith
 
-cost-most : (short : Bool) (mask : ℕ) (is js : List Image) (k : Kind) (a b : ℕ) → cost short mask is k a b ≤ cost false mask js k a b
+pub cost-most : (short : Bool) (mask : ℕ) (is js : List Image) (k : Kind) (a b : ℕ) → cost short mask is k a b ≤ cost false mask js k a b
 unfolding pick
 cost-most short mask is js True a b = omega arith
 cost-most short mask is js Atom a b = omega arith
