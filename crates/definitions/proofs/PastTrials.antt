@@ -1,7 +1,11 @@
 -- Trials of shorter rules about the past: for each number, edge and trap of the request. In R and Z atom 0 is own and atom 1 foreign, for controller 0.
 use mathlib.Core.Path.{_≡_, refl}
+use mathlib.Core.Bool.{false}
 use mathlib.Core.List.{List, [], _∷_}
 use Rattle.definitions.specs.Nodes.{True, Atom, Not, Or, Next, Until, Prev, Since, Node, node}
+use Rattle.definitions.specs.Readings.{whole, verdicts}
+use Rattle.definitions.specs.Rewriting.{rewriting}
+use Rattle.definitions.specs.Operations.{verdictValues}
 use Rattle.definitions.proofs.Samples.{computed, R, Z, ruleFor, rule, yes, no, judged, agreed}
 
 -- "Prev becomes tolerant, with its present image": no closing, also of a foreign atom, and a short next over it
@@ -22,6 +26,9 @@ sinceForeignFirst = node Atom 0 0 ∷ node Atom 1 0 ∷ node Since 1 0 ∷ []
 abbrev sinceForeignSecond : List Node
 sinceForeignSecond = node Atom 0 0 ∷ node Atom 1 0 ∷ node Since 0 1 ∷ []
 
+abbrev heldOwn : List Node
+heldOwn = node Atom 1 0 ∷ node Since 0 0 ∷ []
+
 pub record Past : Type 0 where
   pub prevForeignR : judged (rule prevOfForeign) R ≡ agreed no no 34 26
   pub prevForeignZ : judged (rule prevOfForeign) Z ≡ agreed no no 34 26
@@ -40,10 +47,11 @@ pub record Past : Type 0 where
   pub orOfPrev : judged (rule (node Atom 1 0 ∷ node Prev 0 0 ∷ node Atom 0 0 ∷ node Or 1 2 ∷ [])) R ≡ agreed no no 37 29
   pub sinceOfPrev : judged (rule (node Atom 0 0 ∷ node Prev 0 0 ∷ node Not 1 0 ∷ node Since 0 2 ∷ node Next 3 0 ∷ [])) R ≡ agreed yes yes 52 40
   pub untilOfPast : judged (rule (node Atom 1 0 ∷ node Prev 0 0 ∷ node Not 1 0 ∷ node Since 1 2 ∷ node Until 3 1 ∷ [])) R ≡ agreed yes yes 57 36
-  -- a since at a state before the first step: there the short image is right, the plain one isn't and needs its closing
-  pub sinceBeforeFirst : judged (ruleFor 1 (node Atom 1 0 ∷ node Since 0 0 ∷ [])) R ≡ agreed yes yes 30 14
-  -- an interlock: it was so at the last step, and has been so since it was not so two steps before
-  pub interlock : judged (rule (
+  -- in state 0, before the first step of controller 1, the short image of a since is right as it stands; the plain one, nodes 16 and 21, is not
+  pub sinceBeforeFirst : judged (ruleFor 1 heldOwn) R ≡ agreed yes yes 30 14
+  pub plainBeforeFirst : verdictValues (verdicts (whole R 1) ((rewriting false 2 heldOwn) .nodes) 16 21) ≡ no ∷ no ∷ []
+  -- prev and since below two nexts: the first next is short, the second and the closing are plain
+  pub pastBelowNext : judged (rule (
       node Atom 0 0 ∷ node Prev 0 0 ∷ node Prev 1 0 ∷ node Not 2 0 ∷ node Since 1 3 ∷ node Next 4 0 ∷ node Next 5 0 ∷ [])) R ≡ agreed yes yes 72 60
 
 past : Past
@@ -65,5 +73,6 @@ past = record {
   sinceOfPrev = refl;
   untilOfPast = refl;
   sinceBeforeFirst = refl;
-  interlock = refl;
+  plainBeforeFirst = refl;
+  pastBelowNext = refl;
 }
