@@ -40,7 +40,8 @@ pub record Past : Type 0 where
   pub foreignFirstZ : judged (rule sinceForeignFirst) Z ≡ agreed no no 35 35
   pub foreignSecondR : judged (rule sinceForeignSecond) R ≡ agreed yes yes 35 35
   pub foreignSecondZ : judged (rule sinceForeignSecond) Z ≡ agreed yes no 35 35
-  -- such a since isn't tolerant: a next and a since over it are plain
+  -- such a since isn't tolerant: a next and a since over it are plain. In state 1 its image is yes, at the next place no
+  pub nextOfForeign : judged (rule (node Atom 1 0 ∷ node Since 0 0 ∷ node Next 1 0 ∷ [])) R ≡ agreed no no 44 44
   pub nextOfOther : judged (rule (node Atom 0 0 ∷ node Atom 1 0 ∷ node Since 0 1 ∷ node Next 2 0 ∷ [])) R ≡ agreed yes yes 45 45
   pub sinceOfOther : judged (rule (node Atom 0 0 ∷ node Atom 1 0 ∷ node Since 1 0 ∷ node Since 2 0 ∷ [])) R ≡ agreed no no 45 45
   -- what is newly tolerant counts for or, not, next, until and since, and for the missing closing
@@ -67,6 +68,7 @@ past = record {
   foreignFirstZ = refl;
   foreignSecondR = refl;
   foreignSecondZ = refl;
+  nextOfForeign = refl;
   nextOfOther = refl;
   sinceOfOther = refl;
   orOfPrev = refl;
