@@ -123,7 +123,9 @@ fn r_next_of_atom_1() {
 
 #[test]
 fn r_prev_of_true() {
-    assert_eq!(verdict(&rule(&[(TRUE, 0, 0), (PREV, 0, 0)]), &recording_r()), NO_NO);
+    let prev = rule(&[(TRUE, 0, 0), (PREV, 0, 0)]);
+    assert_eq!(verdict(&prev, &recording_r()), NO_NO);
+    assert_eq!(counts(&prev, 1), (30, 22));
 }
 
 #[test]

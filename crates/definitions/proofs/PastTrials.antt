@@ -48,6 +48,8 @@ pub record Past : Type 0 where
   pub orOfPrev : judged (rule (node Atom 1 0 ∷ node Prev 0 0 ∷ node Atom 0 0 ∷ node Or 1 2 ∷ [])) R ≡ agreed no no 37 29
   pub sinceOfPrev : judged (rule (node Atom 0 0 ∷ node Prev 0 0 ∷ node Not 1 0 ∷ node Since 0 2 ∷ node Next 3 0 ∷ [])) R ≡ agreed yes yes 52 40
   pub untilOfPast : judged (rule (node Atom 1 0 ∷ node Prev 0 0 ∷ node Not 1 0 ∷ node Since 1 2 ∷ node Until 3 1 ∷ [])) R ≡ agreed yes yes 57 36
+  -- prev keeps its image: with an idle state before the second place, the neighbouring recorded state has what the first place hasn't
+  pub untilOfPrev : judged (rule (node Atom 0 0 ∷ node Prev 0 0 ∷ node Atom 1 0 ∷ node Until 2 1 ∷ [])) R ≡ agreed no no 46 38
   -- in state 0, before the first step of controller 1, the short image of a since is right as it stands; the plain one, nodes 16 and 21, is not
   pub sinceBeforeFirst : judged (ruleFor 1 heldOwn) R ≡ agreed yes yes 30 14
   pub plainBeforeFirst : verdictValues (verdicts (whole R 1) ((rewriting false 2 heldOwn) .nodes) 16 21) ≡ no ∷ no ∷ []
@@ -74,6 +76,7 @@ past = record {
   orOfPrev = refl;
   sinceOfPrev = refl;
   untilOfPast = refl;
+  untilOfPrev = refl;
   sinceBeforeFirst = refl;
   plainBeforeFirst = refl;
   pastBelowNext = refl;

@@ -53,16 +53,38 @@ formerShort mask ns =
     let D = formerSteps mask opened ns in
     closed ((lastImage (D .images)) .tolerant) (D .nodes) (lastImage (D .images))
 
--- its counts, by trial: prev of a foreign atom, since of two own ones, a next over a prev, the until of document 01
-pub record Former : Type 0 where
-  pub prevOfForeign : length ((formerShort 1 (node Atom 1 0 ∷ node Prev 0 0 ∷ [])) .nodes) ≡ 34
-  pub sinceOfOwn : length ((formerShort 1 (node Atom 0 0 ∷ node Since 0 0 ∷ [])) .nodes) ≡ 30
-  pub nextOfPrev : length ((formerShort 1 (node True 0 0 ∷ node Prev 0 0 ∷ node Next 1 0 ∷ [])) .nodes) ≡ 40
-  pub untilOfOwn : length ((formerShort 3 (node Atom 0 0 ∷ node Atom 1 0 ∷ node Until 0 1 ∷ [])) .nodes) ≡ 19
+-- its counts with atoms 0 and 1 own, and with atom 0 own alone
+abbrev formerCounts : List Node → List ℕ
+formerCounts ns = length ((formerShort 3 ns) .nodes) ∷ length ((formerShort 1 ns) .nodes) ∷ []
 
-former : Former
+-- by trial, with p for atom 0 and q for atom 1: these are the counts before it in the table of interlocks of docs/FORMATS.md
+pub record FormerCounts : Type 0 where
+  -- "Until of two own atoms: 32 and 19"
+  pub untilOfOwn : length ((formerShort 3 (node Atom 0 0 ∷ node Atom 1 0 ∷ node Until 0 1 ∷ [])) .nodes) ≡ 19
+  -- Y q
+  pub prevOne : formerCounts (node Atom 1 0 ∷ node Prev 0 0 ∷ []) ≡ 30 ∷ 34 ∷ []
+  -- p S q
+  pub sinceBoth : formerCounts (node Atom 0 0 ∷ node Atom 1 0 ∷ node Since 0 1 ∷ []) ≡ 31 ∷ 35 ∷ []
+  -- p S Y q
+  pub sincePrev : formerCounts (node Atom 0 0 ∷ node Atom 1 0 ∷ node Prev 1 0 ∷ node Since 0 2 ∷ []) ≡ 41 ∷ 45 ∷ []
+  -- G (p -> Y q)
+  pub onlyAfter : formerCounts (
+      node True 0 0 ∷ node Atom 0 0 ∷ node Not 1 0 ∷ node Atom 1 0 ∷ node Prev 3 0 ∷ node Or 2 4 ∷ node Not 5 0 ∷ node Until 0 6 ∷ node Not 7 0 ∷ []
+      ) ≡ 43 ∷ 47 ∷ []
+  -- G (p -> Y (!p S q))
+  pub onlyOnce : formerCounts (
+      node True 0 0 ∷ node Atom 0 0 ∷ node Not 1 0 ∷ node Atom 0 0 ∷ node Not 3 0 ∷ node Atom 1 0 ∷ node Since 4 5 ∷ node Prev 6 0 ∷ node Or 2 7
+      ∷ node Not 8 0 ∷ node Until 0 9 ∷ node Not 10 0 ∷ []
+      ) ≡ 56 ∷ 60 ∷ []
+  -- G (p -> Y !p S Y q)
+  pub shutSince : formerCounts (
+      node True 0 0 ∷ node Atom 0 0 ∷ node Not 1 0 ∷ node Atom 0 0 ∷ node Not 3 0 ∷ node Prev 4 0 ∷ node Atom 1 0 ∷ node Prev 6 0 ∷ node Since 5 7
+      ∷ node Or 2 8 ∷ node Not 9 0 ∷ node Until 0 10 ∷ node Not 11 0 ∷ []
+      ) ≡ 66 ∷ 70 ∷ []
+
+former-counts : FormerCounts
 unfolding formerShort pick bitOf
-former = record { prevOfForeign = refl; sinceOfOwn = refl; nextOfPrev = refl; untilOfOwn = refl }
+former-counts = record { untilOfOwn = refl; prevOne = refl; sinceBoth = refl; sincePrev = refl; onlyAfter = refl; onlyOnce = refl; shutSince = refl }
 
 -- ---- what its nodes cost
 abbrev formerCost : (mask : ℕ) (is : List Image) (k : Kind) (a b : ℕ) → ℕ

@@ -19,6 +19,7 @@ mod lent;
 mod library;
 mod lines;
 mod misread;
+mod misrewrite;
 mod misstep;
 mod options;
 mod outcome;

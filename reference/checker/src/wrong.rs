@@ -4,6 +4,7 @@
 use std::sync::atomic::{AtomicBool, Ordering};
 
 use crate::misread::Misreading;
+use crate::misrewrite::Misrewriting;
 use crate::misstep::Misstep;
 use crate::program::misprint::Misprint;
 use crate::tally::{Operation, Section};
@@ -33,6 +34,8 @@ pub enum Place {
     Named,
     /// All of it, by a wrong reader of line endings.
     Misread(Misreading),
+    /// A rewritten table, by a wrong rewriter of rules about the past.
+    Misrewrite(Misrewriting),
     /// The pairs, by a wrong walk.
     Misstep(Misstep),
     /// What the program `why` or `longest` writes, by a wrong printer.
@@ -60,6 +63,7 @@ impl Place {
             Place::Length => "length",
             Place::Named => "named",
             Place::Misread(misreading) => misreading.name(),
+            Place::Misrewrite(misrewriting) => misrewriting.name(),
             Place::Misstep(misstep) => misstep.name(),
             Place::Misprint(misprint) => misprint.name(),
             Place::LastRun => "last_run",
@@ -106,8 +110,20 @@ impl Wrong {
         let (section, operation) = (Section::Evidence, Operation::Evidence);
         let misstep = |(misstep, _)| Wrong { section, operation, place: Place::Misstep(misstep) };
         all.extend(Misstep::ALL.map(misstep));
+        for section in [Section::Trials, Section::Small] {
+            all.extend(misrewriters(section));
+        }
         all
     }
+}
+
+/// The wrong rewriters of rules about the past, in a section.
+fn misrewriters(section: Section) -> Vec<Wrong> {
+    let wrong =
+        |operation| move |(wrong, _)| Wrong { section, operation, place: Place::Misrewrite(wrong) };
+    let short = Misrewriting::SHORT.map(wrong(Operation::RewriteShort));
+    let plain = Misrewriting::PLAIN.map(wrong(Operation::RewritePlain));
+    short.into_iter().chain(plain).collect()
 }
 
 /// The wrong printers of the program `why`.
