@@ -110,15 +110,14 @@ impl Wrong {
         let (section, operation) = (Section::Evidence, Operation::Evidence);
         let misstep = |(misstep, _)| Wrong { section, operation, place: Place::Misstep(misstep) };
         all.extend(Misstep::ALL.map(misstep));
-        for section in [Section::Trials, Section::Small] {
-            all.extend(misrewriters(section));
-        }
+        all.extend(misrewriters());
         all
     }
 }
 
-/// The wrong rewriters of rules about the past, in a section.
-fn misrewriters(section: Section) -> Vec<Wrong> {
+/// The wrong rewriters of rules about the past: the trials have a rule for each.
+fn misrewriters() -> Vec<Wrong> {
+    let section = Section::Trials;
     let wrong =
         |operation| move |(wrong, _)| Wrong { section, operation, place: Place::Misrewrite(wrong) };
     let short = Misrewriting::SHORT.map(wrong(Operation::RewriteShort));
