@@ -2,10 +2,10 @@
 //! tables of wrong rewriters give a wrong verdict on some small pair.
 
 use reference::generate::exhaustive;
-use reference::generate::formulas::{self, RuleTable};
+use reference::generate::formulas::{self, listed, RuleTable};
 use reference::generate::random::Random;
 use reference::generate::traces::RecordingTable;
-use reference::model::formula::{check_formula, Node, KIND_WORDS, PREV, SINCE};
+use reference::model::formula::{check_formula, Node, PREV, SINCE};
 use reference::model::rewriting::{rewrite, rewrite_by, AsWorded, Decisions, Rewritten};
 use reference::model::{self, limits, Verdict};
 
@@ -15,14 +15,7 @@ const YES_YES: Verdict = Verdict { weak: true, strong: true };
 
 /// A rule from its nodes, such as "atom 1; prev 0".
 fn rule(nodes: &str) -> RuleTable {
-    let word = |node: &str| {
-        let fields: Vec<&str> = node.split_whitespace().collect();
-        let kind = KIND_WORDS.iter().position(|word| *word == fields[0].as_bytes());
-        let operand = |at| fields.get(at).map_or(0, |field: &&str| field.parse().unwrap());
-        let kind = kind.expect("one of the ten kinds") as u32;
-        Node { kind, first: operand(1), second: operand(2) }.word()
-    };
-    let nodes: Vec<u32> = nodes.split(';').map(word).collect();
+    let nodes = listed(nodes);
     RuleTable { controller: 0, count: nodes.len(), nodes }
 }
 
@@ -117,14 +110,14 @@ fn other_sinces_stay() {
 fn node_list() {
     let short = table(&AsWorded, true, &rule("atom 1; prev 0; atom 0; since 1 2; next 3"), 1);
     let nodes: Vec<u32> = short.nodes[11..].iter().map(|node| node.word()).collect();
-    let expected = rule(
+    let expected = listed(
         "atom 1; or 1 11; not 11; or 1 13; not 14;
         not 12; or 1 16; not 17; since 1 18; prev 19; not 15; or 1 21; not 22; since 1 23; prev 24;
         atom 0; since 20 26; since 25 26;
         next 27; or 3 29; next 28; not 31; or 3 32; not 33;
         or 8 30; not 35; until 8 36; not 37; not 34; or 8 39; not 40; until 8 41",
     );
-    assert_eq!(nodes, expected.nodes);
+    assert_eq!(nodes, expected);
     assert_eq!((short.weak_top, short.strong_top), (38, 42));
 }
 
