@@ -158,12 +158,12 @@ impl<'a> Small<'a> {
     /// Does a rule of one node more meet this view?
     fn meets(&self, number: usize, view: usize) -> bool {
         let (all, plan) = (self.views.views.len(), &self.plan.small);
-        let turn = (view * 1009 + number * plan.larger_views) % all;
-        let states = match is_past(&self.larger[number]) {
-            true => plan.larger_states.max(plan.past_states),
-            false => plan.larger_states,
+        let views = match is_past(&self.larger[number]) {
+            true => plan.past_views,
+            false => plan.larger_views,
         };
-        self.views.views[view].length <= states || turn < plan.larger_views
+        let turn = (view * 1009 + number * views) % all;
+        self.views.views[view].length <= plan.larger_states || turn < views
     }
 
     /// Rules of one node more, from a number on: each on some views.
