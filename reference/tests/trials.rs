@@ -4,13 +4,11 @@
 use std::collections::HashMap;
 
 use reference::generate::exhaustive;
-use reference::generate::formulas::{self, RuleTable};
+use reference::generate::formulas::{self, listed, RuleTable};
 use reference::generate::random::Random;
 use reference::generate::texts::{recording_text, rule_text};
 use reference::generate::traces::{self, RecordingTable};
-use reference::model::formula::{
-    Node, ATOM, END, KIND_WORDS, NEXT, NOT, OR, PREV, RUN, SINCE, TRUE, UNTIL,
-};
+use reference::model::formula::{Node, ATOM, END, NEXT, NOT, OR, PREV, RUN, SINCE, TRUE, UNTIL};
 use reference::model::semantics::{trace_readings, Reading};
 use reference::model::trace::{check_trace, Trace};
 use reference::model::{self, limits, RecordingHeading, Rewriting, RuleHeading, Verdict};
@@ -123,7 +121,9 @@ fn r_next_of_atom_1() {
 
 #[test]
 fn r_prev_of_true() {
-    assert_eq!(verdict(&rule(&[(TRUE, 0, 0), (PREV, 0, 0)]), &recording_r()), NO_NO);
+    let prev = rule(&[(TRUE, 0, 0), (PREV, 0, 0)]);
+    assert_eq!(verdict(&prev, &recording_r()), NO_NO);
+    assert_eq!(counts(&prev, 1), (30, 22));
 }
 
 #[test]
@@ -259,18 +259,6 @@ fn opening_of_every_rewriting() {
         assert_eq!(table.table[..11], opening.nodes);
         assert!(table.table[table.answer.count..].iter().all(|word| *word == 0));
     }
-}
-
-/// The words of a node list such as "or 8 12; not 17".
-fn listed(list: &str) -> Vec<u32> {
-    let word = |node: &str| {
-        let fields: Vec<&str> = node.split_whitespace().collect();
-        let kind = KIND_WORDS.iter().position(|word| *word == fields[0].as_bytes());
-        let operand = |at| fields.get(at).map_or(0, |field: &&str| field.parse().unwrap());
-        let kind = kind.expect("one of the ten kinds") as u32;
-        Node { kind, first: operand(1), second: operand(2) }.word()
-    };
-    list.split(';').map(word).collect()
 }
 
 /// The rewriting of a rule for mask 1, written out by hand after the opening.

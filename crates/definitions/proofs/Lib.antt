@@ -9,3 +9,4 @@ pub mod EvidenceTrials
 pub mod OneLineTrials
 pub mod LongestTrials
 pub mod ElevenTrials
+pub mod PastTrials

@@ -20,12 +20,12 @@ pub record Operators : Type 0 where
   -- the last place is the last state
   pub nextInLastState : judged (ruleFor 1 (node Atom 1 0 ∷ node Next 0 0 ∷ node Next 1 0 ∷ [])) R ≡ agreed yes yes 40 36
   -- prev and since keep their readings; before the first place there is none
-  pub prevOfNext : judged (rule (node True 0 0 ∷ node Next 0 0 ∷ node Next 1 0 ∷ node Next 2 0 ∷ node Prev 3 0 ∷ node Next 4 0 ∷ [])) R ≡ agreed yes no 70 66
-  pub prevAtFirst : judged (ruleFor 1 (node True 0 0 ∷ node Prev 0 0 ∷ [])) R ≡ agreed no no 30 30
+  pub prevOfNext : judged (rule (node True 0 0 ∷ node Next 0 0 ∷ node Next 1 0 ∷ node Next 2 0 ∷ node Prev 3 0 ∷ node Next 4 0 ∷ [])) R ≡ agreed yes no 70 62
+  pub prevAtFirst : judged (ruleFor 1 (node True 0 0 ∷ node Prev 0 0 ∷ [])) R ≡ agreed no no 30 22
   pub sinceOfNext : judged (rule (node True 0 0 ∷ node Next 0 0 ∷ node Next 1 0 ∷ node Next 2 0 ∷ node Since 0 3 ∷ node Next 4 0 ∷ [])) R ≡ agreed yes no 70 66
   pub nextSinceForeign : judged (rule (node Atom 1 0 ∷ node Next 0 0 ∷ node Since 1 0 ∷ node Next 2 0 ∷ [])) R ≡ agreed yes no 54 54
-  pub sinceOfUntil : judged (ruleFor 1 (node True 0 0 ∷ node Not 0 0 ∷ node Until 1 0 ∷ node Since 0 2 ∷ [])) R ≡ agreed yes yes 43 38
-  pub sinceOfSince : judged (rule (node Atom 0 0 ∷ node Not 0 0 ∷ node Until 0 0 ∷ node Since 1 2 ∷ node Since 3 3 ∷ [])) R ≡ agreed no no 53 48
+  pub sinceOfUntil : judged (ruleFor 1 (node True 0 0 ∷ node Not 0 0 ∷ node Until 1 0 ∷ node Since 0 2 ∷ [])) R ≡ agreed yes yes 43 22
+  pub sinceOfSince : judged (rule (node Atom 0 0 ∷ node Not 0 0 ∷ node Until 0 0 ∷ node Since 1 2 ∷ node Since 3 3 ∷ [])) R ≡ agreed no no 53 24
   -- until of own atoms: met at once, at the next place, never, and not held
   pub untilAtOnce : judged (rule (node True 0 0 ∷ node Until 0 0 ∷ [])) R ≡ agreed yes yes 31 18
   pub untilMet : judged (ruleFor 1 (node Atom 1 0 ∷ node Not 0 0 ∷ node Until 0 1 ∷ [])) R ≡ agreed yes yes 33 20
@@ -37,7 +37,7 @@ pub record Operators : Type 0 where
   pub untilForeign : judged (rule (node True 0 0 ∷ node Atom 1 0 ∷ node Until 0 1 ∷ node Next 2 0 ∷ [])) R ≡ agreed yes no 46 42
   pub untilNextForeign : judged (ruleFor 1 (node Atom 0 0 ∷ node Not 0 0 ∷ node Until 1 0 ∷ node Next 2 0 ∷ [])) R ≡ agreed yes no 47 43
   pub untilOfNext : judged (ruleFor 1 (node Atom 0 0 ∷ node Next 0 0 ∷ node Until 1 1 ∷ [])) R ≡ agreed no no 45 37
-  pub untilFailsAtLast : judged (rule (node True 0 0 ∷ node Prev 0 0 ∷ node Prev 1 0 ∷ node Not 2 0 ∷ node Not 0 0 ∷ node Until 3 4 ∷ [])) R ≡ agreed no no 55 47
+  pub untilFailsAtLast : judged (rule (node True 0 0 ∷ node Prev 0 0 ∷ node Prev 1 0 ∷ node Not 2 0 ∷ node Not 0 0 ∷ node Until 3 4 ∷ [])) R ≡ agreed no no 55 42
   pub untilOfSince : judged (ruleFor 1 (node True 0 0 ∷ node Next 0 0 ∷ node Since 1 1 ∷ node Until 2 2 ∷ [])) R ≡ agreed yes yes 51 39
   pub untilOfUntil : judged (ruleFor 1 (node Atom 0 0 ∷ node Until 0 0 ∷ node Not 1 0 ∷ node Until 1 2 ∷ [])) R ≡ agreed yes yes 48 35
 

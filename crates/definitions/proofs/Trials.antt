@@ -20,7 +20,7 @@ pub record Starred : Type 0 where
   pub throughOperations : judgeRecordingAnswer (answeredTable true (rule (node Atom 1 0 ∷ node Next 0 0 ∷ [])) 1 (replicate maxTableNodes 0)) R 0
       (replicate maxRowWords 0) ≡ answer 0 (no ∷ no ∷ [])
   -- "R, prev of true: no, no"
-  pub prevOfTrue : judged (rule (node True 0 0 ∷ node Prev 0 0 ∷ [])) R ≡ agreed no no 30 30
+  pub prevOfTrue : judged (rule (node True 0 0 ∷ node Prev 0 0 ∷ [])) R ≡ agreed no no 30 22
   -- "Z, foreign atom: yes, no"
   pub foreignAtom : judged (rule (node Atom 1 0 ∷ [])) Z ≡ agreed yes no 24 24
   -- "Z, own atom: no, no"
@@ -62,8 +62,8 @@ pub record Traps : Type 0 where
   -- next over the states in which the controller doesn't run
   pub nextOfNot : judged (rule (node Atom 1 0 ∷ node Not 0 0 ∷ node Next 1 0 ∷ [])) R ≡ agreed yes yes 36 36
   -- prev over them: atom 1 one place back, at the next place; atom 0, which the neighbouring state has and that place hasn't
-  pub prevOfForeign : judged (rule (node Atom 1 0 ∷ node Prev 0 0 ∷ node Next 1 0 ∷ [])) R ≡ agreed yes yes 44 44
-  pub prevOfOwn : judged (rule (node Atom 0 0 ∷ node Prev 0 0 ∷ node Next 1 0 ∷ [])) R ≡ agreed no no 40 40
+  pub prevOfForeign : judged (rule (node Atom 1 0 ∷ node Prev 0 0 ∷ node Next 1 0 ∷ [])) R ≡ agreed yes yes 44 40
+  pub prevOfOwn : judged (rule (node Atom 0 0 ∷ node Prev 0 0 ∷ node Next 1 0 ∷ [])) R ≡ agreed no no 40 36
   -- since over them: the first operand fails between two places, the second holds before the first place only
   pub sinceHeld : judged (rule (node Atom 1 0 ∷ node Not 0 0 ∷ node Since 1 0 ∷ node Next 2 0 ∷ [])) R ≡ agreed yes yes 46 46
   pub sinceBefore : judged (ruleFor 1 (node True 0 0 ∷ node Atom 0 0 ∷ node Not 1 0 ∷ node Since 0 2 ∷ [])) R ≡ agreed no no 37 37

@@ -87,6 +87,10 @@ abbrev pub shortUntil : (weak : Bool) (a b : ℕ) → List Emit
 shortUntil true a b = two Or (# 9) (# b) ∷ two Until (# a) · ∷ []
 shortUntil false a b = one Not (# b) ∷ two Or (# 9) · ∷ one Not · ∷ two Until (# a) · ∷ []
 
+-- document 02: "Since of two tolerant operands becomes tolerant, with image since a b for each reading (2 nodes)"
+abbrev pub shortSince : (a b : ℕ) → List Emit
+shortSince a b = two Since (# a) (# b) ∷ []
+
 -- the images of a rule's node, "w" and "s", and whether it is tolerant
 pub record Image : Type 0 where
   pub weak : ℕ
@@ -110,7 +114,8 @@ image weak is a = imageOf weak (getD is a noImage)
 abbrev pub tolerantAt : (is : List Image) (a : ℕ) → Bool
 tolerantAt is a = (getD is a noImage) .tolerant
 
--- "Tolerant: true, own atom, every until; not and or of tolerant operands; nothing else"
+-- "Tolerant: true, own atom, every until; not and or of tolerant operands; nothing else", and by document 02: "Prev becomes tolerant, with its present
+-- image. Since of two tolerant operands becomes tolerant .. Other sinces stay as they were"
 abbrev pub tolerantOf : (mask : ℕ) (is : List Image) (k : Kind) (a b : ℕ) → Bool
 tolerantOf mask is True a b = true
 tolerantOf mask is Atom a b = bitOf mask a
@@ -118,8 +123,8 @@ tolerantOf mask is Not a b = tolerantAt is a
 tolerantOf mask is Or a b = tolerantAt is a && tolerantAt is b
 tolerantOf mask is Next a b = false
 tolerantOf mask is Until a b = true
-tolerantOf mask is Prev a b = false
-tolerantOf mask is Since a b = false
+tolerantOf mask is Prev a b = true
+tolerantOf mask is Since a b = tolerantAt is a && tolerantAt is b
 tolerantOf mask is Run a b = false
 tolerantOf mask is End a b = false
 tolerantOf mask is Unknown a b = false
@@ -135,7 +140,8 @@ part short mask is x g weak Next a b = pick (short && tolerantAt is a) (shortNex
 part short mask is x g weak Until a b =
     pick (short && (tolerantAt is a && tolerantAt is b)) (shortUntil weak (image weak is a) (image weak is b)) (plainUntil weak g (image weak is a) (image weak is b))
 part short mask is x g weak Prev a b = plainPrev (image weak is a)
-part short mask is x g weak Since a b = plainSince g (image weak is a) (image weak is b)
+part short mask is x g weak Since a b =
+    pick (short && (tolerantAt is a && tolerantAt is b)) (shortSince (image weak is a) (image weak is b)) (plainSince g (image weak is a) (image weak is b))
 part short mask is x g weak Run a b = []
 part short mask is x g weak End a b = []
 part short mask is x g weak Unknown a b = []

@@ -108,12 +108,12 @@ form-block f j k e s = rw e (is-block (formOf j) k s)
 six-up : (f : ℕ) → (f ≡ 0 → ⊥) → (f ≡ 1 → ⊥) → (f ≡ 2 → ⊥) → (f ≡ 3 → ⊥) → (f ≡ 4 → ⊥) → (f ≡ 5 → ⊥) → 6 ≤ f
 six-up f n0 n1 n2 n3 n4 n5 = omega arith
 
-ten-left : (f : ℕ) → 6 ≤ f → f < 11 → (f ≡ 6 → ⊥) → (f ≡ 7 → ⊥) → (f ≡ 8 → ⊥) → (f ≡ 9 → ⊥) → f ≡ 10
-ten-left f g h n6 n7 n8 n9 = omega arith
+one-left : (f : ℕ) → 6 ≤ f → f < 12 → (f ≡ 6 → ⊥) → (f ≡ 7 → ⊥) → (f ≡ 8 → ⊥) → (f ≡ 9 → ⊥) → (f ≡ 10 → ⊥) → f ≡ 11
+one-left f g h n6 n7 n8 n9 n10 = omega arith
 
-pub only-last : (f : ℕ) → f < 11 → (f ≡ 0 → ⊥) → (f ≡ 1 → ⊥) → (f ≡ 2 → ⊥) → (f ≡ 3 → ⊥) → (f ≡ 4 → ⊥) → (f ≡ 5 → ⊥) → (f ≡ 6 → ⊥) → (f ≡ 7 → ⊥) →
-    (f ≡ 8 → ⊥) → (f ≡ 9 → ⊥) → f ≡ 10
-only-last f h n0 n1 n2 n3 n4 n5 n6 n7 n8 n9 = ten-left f (six-up f n0 n1 n2 n3 n4 n5) h n6 n7 n8 n9
+pub only-last : (f : ℕ) → f < 12 → (f ≡ 0 → ⊥) → (f ≡ 1 → ⊥) → (f ≡ 2 → ⊥) → (f ≡ 3 → ⊥) → (f ≡ 4 → ⊥) → (f ≡ 5 → ⊥) → (f ≡ 6 → ⊥) → (f ≡ 7 → ⊥) →
+    (f ≡ 8 → ⊥) → (f ≡ 9 → ⊥) → (f ≡ 10 → ⊥) → f ≡ 11
+only-last f h n0 n1 n2 n3 n4 n5 n6 n7 n8 n9 n10 = one-left f (six-up f n0 n1 n2 n3 n4 n5) h n6 n7 n8 n9 n10
 
 pub row-kind : (w : ℕ) (t : Node) → OfWord w t → FineRow w → t .kind ≤ 9
 row-kind w t o m = omega (arith, o .kind, m .kind)

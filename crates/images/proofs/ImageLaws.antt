@@ -77,15 +77,24 @@ or-no true = refl
 or-no false = refl
 
 pub tolerance : (own p q : Bool) (k : ℕ) →
-    ((eqb k 0 || eqb k 5) || ((eqb k 1 && own) || ((eqb k 2 && p) || (eqb k 3 && (p && q))))) ≡ tolerantBy own p q (kindOf k)
+    ((eqb k 0 || (eqb k 5 || eqb k 6)) || ((eqb k 1 && own) || ((eqb k 2 && p) || ((eqb k 3 || eqb k 7) && (p && q))))) ≡ tolerantBy own p q (kindOf k)
 tolerance own p q =
-    kind-cases (λ k K. ((eqb k 0 || eqb k 5) || ((eqb k 1 && own) || ((eqb k 2 && p) || (eqb k 3 && (p && q))))) ≡ tolerantBy own p q K)
+    kind-cases (λ k K. ((eqb k 0 || (eqb k 5 || eqb k 6)) || ((eqb k 1 && own) || ((eqb k 2 && p) || ((eqb k 3 || eqb k 7) && (p && q))))) ≡ tolerantBy own p q K)
     refl (or-no own) (or-no p) refl refl refl refl refl refl refl
-    (λ k h. rw (ne-eqb k 0 (λ e. omega arith), ne-eqb k 5 (λ e. omega arith), ne-eqb k 1 (λ e. omega arith), ne-eqb k 2 (λ e. omega arith), ne-eqb k 3 (λ e. omega arith)))
+    (λ k h. rw (
+      ne-eqb k 0 (λ e. omega arith),
+      ne-eqb k 5 (λ e. omega arith),
+      ne-eqb k 6 (λ e. omega arith),
+      ne-eqb k 1 (λ e. omega arith),
+      ne-eqb k 2 (λ e. omega arith),
+      ne-eqb k 3 (λ e. omega arith),
+      ne-eqb k 7 (λ e. omega arith),
+    ))
 
 -- the form, test by test
 abbrev formed : Bool → Bool → Bool → Bool → ℕ → ℕ
-formed short own p q k = pick (eqb k 1 && own) 8 (pick (eqb k 4 && (short && p)) 9 (pick (eqb k 5 && (short && (p && q))) 10 k))
+formed short own p q k =
+    pick (eqb k 1 && own) 8 (pick (eqb k 4 && (short && p)) 9 (pick (eqb k 5 && (short && (p && q))) 10 (pick (eqb k 7 && (short && (p && q))) 11 k)))
 
 formed-is : (short own p q : Bool) (k : ℕ) → k ≤ 7 → formed short own p q k ≡ formBy short own p q (kindOf k)
 unfolding pick
@@ -93,9 +102,9 @@ formed-is short own p q = kind-cases (λ k K. k ≤ 7 → formed short own p q k
     (λ h. refl) (λ h. refl) (λ h. refl) (λ h. refl) (λ h. refl) (λ h. refl) (λ h. refl) (λ h. refl)
     (λ h. absurd (omega arith)) (λ h. absurd (omega arith)) (λ k l h. absurd (omega arith))
 
-pub form-is : (short own p q : Bool) (k r s t : ℕ) → k ≤ 7 → r ≡ pick (eqb k 1 && own) 8 s → s ≡ pick (eqb k 4 && (short && p)) 9 t →
-    t ≡ pick (eqb k 5 && (short && (p && q))) 10 k → r ≡ formBy short own p q (kindOf k)
-form-is short own p q k r s t h er es et = rw (er, es, et) (formed-is short own p q k h)
+pub form-is : (short own p q : Bool) (k r s t u : ℕ) → k ≤ 7 → r ≡ pick (eqb k 1 && own) 8 s → s ≡ pick (eqb k 4 && (short && p)) 9 t →
+    t ≡ pick (eqb k 5 && (short && (p && q))) 10 u → u ≡ pick (eqb k 7 && (short && (p && q))) 11 k → r ≡ formBy short own p q (kindOf k)
+form-is short own p q k r s t u h er es et eu = rw (er, es, et, eu) (formed-is short own p q k h)
 
 pub ruleset form-laws = (needs, form-is)
 
@@ -104,20 +113,20 @@ unfolding pick
 pick-low true a b m p q = p
 pick-low false a b m p q = q
 
-form-low : (short own p q : Bool) (K : Kind) → formBy short own p q K < 11
+form-low : (short own p q : Bool) (K : Kind) → formBy short own p q K < 12
 form-low short own p q words.True = omega arith
-form-low short own p q words.Atom = pick-low own 8 1 11 (omega arith) (omega arith)
+form-low short own p q words.Atom = pick-low own 8 1 12 (omega arith) (omega arith)
 form-low short own p q words.Not = omega arith
 form-low short own p q words.Or = omega arith
-form-low short own p q words.Next = pick-low (short && p) 9 4 11 (omega arith) (omega arith)
-form-low short own p q words.Until = pick-low (short && (p && q)) 10 5 11 (omega arith) (omega arith)
+form-low short own p q words.Next = pick-low (short && p) 9 4 12 (omega arith) (omega arith)
+form-low short own p q words.Until = pick-low (short && (p && q)) 10 5 12 (omega arith) (omega arith)
 form-low short own p q words.Prev = omega arith
-form-low short own p q words.Since = omega arith
+form-low short own p q words.Since = pick-low (short && (p && q)) 11 7 12 (omega arith) (omega arith)
 form-low short own p q words.Run = omega arith
 form-low short own p q words.End = omega arith
 form-low short own p q words.Unknown = omega arith
 
-pub form-there : (short own p q : Bool) (K : Kind) (f : ℕ) → f ≡ formBy short own p q K → f < 11
+pub form-there : (short own p q : Bool) (K : Kind) (f : ℕ) → f ≡ formBy short own p q K → f < 12
 form-there short own p q K f e = rw e (form-low short own p q K)
 
 -- the lists of a form, their names replaced, are the nodes that the definitions emit
@@ -146,12 +155,19 @@ module _ (P Q : table.Image) (n at g j : ℕ) where
   until-emits true = refl
   until-emits false = refl
 
+  since-emits : (c : Bool) → emitted j at (pick c (table.shortSince (P .weak) (Q .weak)) (table.plainSince at (P .weak) (Q .weak))
+      ++ pick c (table.shortSince (P .strong) (Q .strong)) (table.plainSince g (P .strong) (Q .strong)))
+      ≡ Laid (formOf (pick c 11 7))
+  unfolding pick forms
+  since-emits true = refl
+  since-emits false = refl
+
   form-emits : (short own : Bool) (k : ℕ) → k ≤ 7 → Emits short own (kindOf k) ≡ Laid (formOf (formBy short own (P .tolerant) (Q .tolerant) (kindOf k)))
   unfolding pick partOf forms
   form-emits short own =
       kind-cases (λ k K. k ≤ 7 → Emits short own K ≡ Laid (formOf (formBy short own (P .tolerant) (Q .tolerant) K)))
       (λ h. refl) (λ h. atom-emits short own) (λ h. refl) (λ h. refl) (λ h. next-emits (short && P .tolerant))
-      (λ h. until-emits (short && (P .tolerant && Q .tolerant))) (λ h. refl) (λ h. refl)
+      (λ h. until-emits (short && (P .tolerant && Q .tolerant))) (λ h. refl) (λ h. since-emits (short && (P .tolerant && Q .tolerant)))
       (λ h. absurd (omega arith)) (λ h. absurd (omega arith)) (λ k l h. absurd (omega arith))
 
 -- how many nodes one image is
@@ -172,13 +188,19 @@ module _ (short own : Bool) (P Q : table.Image) (n at : ℕ) where
   until-count true = refl
   until-count false = refl
 
+  since-count : (c : Bool) → length ((formOf (pick c 11 7)) .weak)
+      ≡ length (pick c (table.shortSince (P .weak) (Q .weak)) (table.plainSince at (P .weak) (Q .weak)))
+  unfolding pick forms
+  since-count true = refl
+  since-count false = refl
+
   weak-count : (k : ℕ) → k ≤ 7 →
       length ((formOf (formBy short own (P .tolerant) (Q .tolerant) (kindOf k))) .weak) ≡ length (partOf short own P Q at at true (kindOf k) n)
   unfolding pick partOf forms
   weak-count =
       kind-cases (λ k K. k ≤ 7 → length ((formOf (formBy short own (P .tolerant) (Q .tolerant) K)) .weak) ≡ length (partOf short own P Q at at true K n))
       (λ h. refl) (λ h. atom-count own) (λ h. refl) (λ h. refl) (λ h. next-count (short && P .tolerant))
-      (λ h. until-count (short && (P .tolerant && Q .tolerant))) (λ h. refl) (λ h. refl)
+      (λ h. until-count (short && (P .tolerant && Q .tolerant))) (λ h. refl) (λ h. since-count (short && (P .tolerant && Q .tolerant)))
       (λ h. absurd (omega arith)) (λ h. absurd (omega arith)) (λ k l h. absurd (omega arith))
 
 emitted-count : (j n : ℕ) (es : List Emit) → length (emitted j n es) ≡ length es

@@ -1,4 +1,4 @@
--- Document 01's lists a′ rows: a node's operands are numbers of the opening or names, and names get a meaning when a block is laid.
+-- The lists of documents 01 and 02 as rows: a node's operands are numbers of the opening or names, and names get a meaning when a block is laid.
 use mathlib.Core.Bool.{true, false}
 use mathlib.Core.List.{List, [], _∷_, _++_, map}
 use mathlib.Core.Path.{_≡_}
@@ -6,7 +6,7 @@ use Prim.Native.Nat.{ℕ, suc, _+_, _*_, _/_, _%_, _<_, _≤_}
 use lib.ListN.{length, take, set, getD}
 use Rattle.definitions.specs.Nodes as table
 use Rattle.definitions.specs.Nodes.{True, Atom, Not, Or, node, nodeOf, kindSpan, operandSpan}
-use Rattle.definitions.specs.Rewriting.{Operand, Emit, #, ·, one, two, itself, foreignAtom, plainNext, plainUntil, plainPrev, plainSince, shortNext, shortUntil, closing}
+use Rattle.definitions.specs.Rewriting.{Operand, Emit, #, ·, one, two, itself, foreignAtom, plainNext, plainUntil, plainPrev, plainSince, shortNext, shortUntil, shortSince, closing}
 use Rattle.formulas.specs.declared.node.Node.{Node}
 use Rattle.formulas.specs.Meaning.{meaning, Wordable}
 use Rattle.images.specs.declared.blocks.Block.{Block}
@@ -49,10 +49,10 @@ forms =
     ∷ record { weak = plainNext true a; strong = plainNext false a′ } ∷ record { weak = plainUntil true x a b; strong = plainUntil false g a′ b′ }
     ∷ record { weak = plainPrev a; strong = plainPrev a′ } ∷ record { weak = plainSince x a b; strong = plainSince g a′ b′ }
     ∷ record { weak = itself true Atom n; strong = itself false Atom n } ∷ record { weak = shortNext true a; strong = shortNext false a′ }
-    ∷ record { weak = shortUntil true a b; strong = shortUntil false a′ b′ } ∷ []
+    ∷ record { weak = shortUntil true a b; strong = shortUntil false a′ b′ } ∷ record { weak = shortSince a b; strong = shortSince a′ b′ } ∷ []
 
 abbrev pub formCount : ℕ
-formCount = 11
+formCount = 12
 
 abbrev noLists : Lists
 noLists = record { weak = []; strong = [] }

@@ -8,7 +8,7 @@ use Rattle.definitions.specs.Limits.{maxTableNodes}
 use Rattle.definitions.specs.Bounded.{pick}
 use Rattle.definitions.specs.Nodes.{Kind, True, Atom, Not, Or, Next, Until, Prev, Since, Run, End, Unknown, Node, operandSpan}
 use Rattle.definitions.specs.Rewriting as table
-use Rattle.definitions.specs.Rewriting.{Emit, #, one, two, itself, foreignAtom, plainNext, plainUntil, plainPrev, plainSince, shortNext, shortUntil, closing, imageOf}
+use Rattle.definitions.specs.Rewriting.{Emit, #, one, two, itself, foreignAtom, plainNext, plainUntil, plainPrev, plainSince, shortNext, shortUntil, shortSince, closing, imageOf}
 use Rattle.images.specs.declared.image.Image.{Image}
 use Rattle.images.specs.declared.image.Tops.{Tops}
 use Rattle.images.specs.Emission.{Emitted}
@@ -43,7 +43,8 @@ partOf short own P Q x g weak Next a = pick (short && P .tolerant) (shortNext we
 partOf short own P Q x g weak Until a =
     pick (short && (P .tolerant && Q .tolerant)) (shortUntil weak (imageOf weak P) (imageOf weak Q)) (plainUntil weak g (imageOf weak P) (imageOf weak Q))
 partOf short own P Q x g weak Prev a = plainPrev (imageOf weak P)
-partOf short own P Q x g weak Since a = plainSince g (imageOf weak P) (imageOf weak Q)
+partOf short own P Q x g weak Since a =
+    pick (short && (P .tolerant && Q .tolerant)) (shortSince (imageOf weak P) (imageOf weak Q)) (plainSince g (imageOf weak P) (imageOf weak Q))
 partOf short own P Q x g weak Run a = []
 partOf short own P Q x g weak End a = []
 partOf short own P Q x g weak Unknown a = []
@@ -57,7 +58,7 @@ formBy short own p q Or = 3
 formBy short own p q Next = pick (short && p) 9 4
 formBy short own p q Until = pick (short && (p && q)) 10 5
 formBy short own p q Prev = 6
-formBy short own p q Since = 7
+formBy short own p q Since = pick (short && (p && q)) 11 7
 formBy short own p q Run = 0
 formBy short own p q End = 0
 formBy short own p q Unknown = 0
@@ -70,8 +71,8 @@ tolerantBy own p q Not = p
 tolerantBy own p q Or = p && q
 tolerantBy own p q Next = false
 tolerantBy own p q Until = true
-tolerantBy own p q Prev = false
-tolerantBy own p q Since = false
+tolerantBy own p q Prev = true
+tolerantBy own p q Since = p && q
 tolerantBy own p q Run = false
 tolerantBy own p q End = false
 tolerantBy own p q Unknown = false

@@ -1,4 +1,4 @@
-// Document 01's lists of nodes as data: a row for each node, a block of rows for each list, and which block a node of a rule becomes.
+// The lists of nodes of documents 01 and 02 as data: a row for each node, a block of rows for each list, and which block a node of a rule becomes.
 ghost use Prim.Native.Nat.{_<_};
 ghost use Rattle.images.specs.Blocks.{formCount, formOf, IsBlock};
 use formulas::node::Node;
@@ -132,6 +132,10 @@ const SINCE_1_DOT: u32 = SINCE + 1 * FIRST + DOT * SECOND;
 const SINCE_X_DOT: u32 = SINCE + X * FIRST + DOT * SECOND;
 
 const SINCE_G_DOT: u32 = SINCE + G * FIRST + DOT * SECOND;
+
+const SINCE_AW_BW: u32 = SINCE + AW * FIRST + BW * SECOND;
+
+const SINCE_AS_BS: u32 = SINCE + AS * FIRST + BS * SECOND;
 
 // The most rows of a block.
 pub const MOST: usize = 11;
@@ -386,6 +390,25 @@ const SHORT_UNTIL: Block = Block {
     ],
 };
 
+// Document 02: "Since of two tolerant operands becomes tolerant, with image since a b for each reading (2 nodes)"
+const SHORT_SINCE: Block = Block {
+    weak: 1,
+    count: 2,
+    rows: [
+        SINCE_AW_BW,
+        SINCE_AS_BS,
+        NONE,
+        NONE,
+        NONE,
+        NONE,
+        NONE,
+        NONE,
+        NONE,
+        NONE,
+        NONE,
+    ],
+};
+
 // A form is a kind's number, or one of these.
 pub struct Form {}
 
@@ -395,6 +418,8 @@ impl Form {
     pub const SHORT_NEXT: u8 = 9;
 
     pub const SHORT_UNTIL: u8 = 10;
+
+    pub const SHORT_SINCE: u8 = 11;
 }
 
 // The list of a form.
@@ -413,6 +438,7 @@ pub fn block_of(form: u8) -> Block
         Node::SINCE => PLAIN_SINCE,
         Form::OWN_ATOM => OWN_ATOM,
         Form::SHORT_NEXT => SHORT_NEXT,
-        _ => SHORT_UNTIL,
+        Form::SHORT_UNTIL => SHORT_UNTIL,
+        _ => SHORT_SINCE,
     }
 }

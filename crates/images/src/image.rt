@@ -69,7 +69,8 @@ fn meanings(at: usize, weak: usize, n: u16, p: Image, q: Image) -> [u16; MEANING
     ]
 }
 
-// The form of a node: its kind, but for an own atom, a short "next of a tolerant operand" and a short "until of two tolerant operands".
+// The form of a node: its kind, but for an own atom, a short "next of a tolerant operand", a short "until of two tolerant operands" and a short "Since of
+// two tolerant operands".
 fn form_of(short: bool, own: bool, kind: u8, p: bool, q: bool) -> u8
     requires { ⌜ kind ≤ 7 ⌝ }
     ensures { λ r. ⌜ r ≡ formBy short own p q (kindOf kind) ⌝ }
@@ -77,17 +78,20 @@ fn form_of(short: bool, own: bool, kind: u8, p: bool, q: bool) -> u8
     let own_atom = (kind == Node::ATOM) & own;
     let short_next = (kind == Node::NEXT) & (short & p);
     let short_until = (kind == Node::UNTIL) & (short & (p & q));
-    let until = pick(short_until, Form::SHORT_UNTIL, kind);
+    let short_since = (kind == Node::SINCE) & (short & (p & q));
+    let since = pick(short_since, Form::SHORT_SINCE, kind);
+    let until = pick(short_until, Form::SHORT_UNTIL, since);
     let next = pick(short_next, Form::SHORT_NEXT, until);
     pick(own_atom, Form::OWN_ATOM, next)
 }
 
-// "Tolerant: true, own atom, every until; not and or of tolerant operands; nothing else"
+// "Tolerant: true, own atom, every until; not and or of tolerant operands; nothing else", and by document 02 every prev and "Since of two tolerant
+// operands".
 fn tolerant_of(own: bool, kind: u8, p: bool, q: bool) -> bool
     ensures { λ r. ⌜ r ≡ tolerantBy own p q (kindOf kind) ⌝ }
 {
-    let always = (kind == Node::TRUE) | (kind == Node::UNTIL);
-    let both = (kind == Node::OR) & (p & q);
+    let always = (kind == Node::TRUE) | ((kind == Node::UNTIL) | (kind == Node::PREV));
+    let both = ((kind == Node::OR) | (kind == Node::SINCE)) & (p & q);
     always | (((kind == Node::ATOM) & own) | (((kind == Node::NOT) & p) | both))
 }
 

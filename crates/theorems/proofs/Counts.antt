@@ -7,7 +7,7 @@ use mathlib.Core.List.{List, [], _∷_}
 use lib.ListN.{length, length-append}
 use Rattle.definitions.specs.Bounded.{pick, bitOf}
 use Rattle.definitions.specs.Nodes.{Kind, True, Atom, Not, Or, Next, Until, Prev, Since, Run, End, Unknown, Node}
-use Rattle.definitions.specs.Rewriting.{Emit, emitted, emit, opening, itself, foreignAtom, plainNext, plainUntil, shortNext, shortUntil, Image, image, tolerantAt, part, Draft, step, steps, closing, closed, lastImage, rewriting}
+use Rattle.definitions.specs.Rewriting.{Emit, emitted, emit, opening, itself, foreignAtom, plainNext, plainUntil, plainSince, shortNext, shortUntil, shortSince, Image, image, tolerantAt, part, Draft, step, steps, closing, closed, lastImage, rewriting}
 use Rattle.definitions.specs.Longest.{mostNodes}
 use Rattle.theorems.proofs.RuleNodes.{RuleNode, RuleNodes}
 
@@ -18,7 +18,7 @@ emitted-count just n (e ∷ es) = rw (emitted-count n (suc n) es)
 pub emit-count : (T : List Node) (es : List Emit) → length (emit T es) ≡ length T + length es
 emit-count T es = rw (length-append, emitted-count)
 
--- the bracketed numbers
+-- the bracketed numbers, of documents 01 and 02
 abbrev pub cost : Bool → ℕ → List Image → Kind → ℕ → ℕ → ℕ
 cost short mask is True a b = 1
 cost short mask is Atom a b = pick (bitOf mask a) 1 5
@@ -27,12 +27,13 @@ cost short mask is Or a b = 2
 cost short mask is Next a b = pick (short && tolerantAt is a) 6 10
 cost short mask is Until a b = pick (short && (tolerantAt is a && tolerantAt is b)) 6 11
 cost short mask is Prev a b = 10
-cost short mask is Since a b = 10
+cost short mask is Since a b = pick (short && (tolerantAt is a && tolerantAt is b)) 2 10
 cost short mask is Run a b = 0
 cost short mask is End a b = 0
 cost short mask is Unknown a b = 0
 
-part-count : (short : Bool) (mask : ℕ) (is : List Image) (x g h : ℕ) (k : Kind) (a b : ℕ) →
+-- both images of a node, by its bracketed number
+pub part-count : (short : Bool) (mask : ℕ) (is : List Image) (x g h : ℕ) (k : Kind) (a b : ℕ) →
     length (part short mask is x g true k a b) + length (part short mask is x h false k a b) ≡ cost short mask is k a b
 unfolding pick
 part-count short mask is x g h True a b = refl
@@ -56,7 +57,12 @@ part-count short mask is x g h Until a b = go (short && (tolerantAt is a && tole
     go true = refl
     go false = refl
 part-count short mask is x g h Prev a b = refl
-part-count short mask is x g h Since a b = refl
+part-count short mask is x g h Since a b = go (short && (tolerantAt is a && tolerantAt is b))
+  where
+    go : (c : Bool) → length (pick c (shortSince (image true is a) (image true is b)) (plainSince g (image true is a) (image true is b)))
+        + length (pick c (shortSince (image false is a) (image false is b)) (plainSince h (image false is a) (image false is b))) ≡ pick c 2 10
+    go true = refl
+    go false = refl
 part-count short mask is x g h Run a b = refl
 part-count short mask is x g h End a b = refl
 part-count short mask is x g h Unknown a b = refl
@@ -108,7 +114,7 @@ unfolding pick
 pick-most true a b h = h
 pick-most false a b h = omega arith
 
-cost-most : (short : Bool) (mask : ℕ) (is js : List Image) (k : Kind) (a b : ℕ) → cost short mask is k a b ≤ cost false mask js k a b
+pub cost-most : (short : Bool) (mask : ℕ) (is js : List Image) (k : Kind) (a b : ℕ) → cost short mask is k a b ≤ cost false mask js k a b
 unfolding pick
 cost-most short mask is js True a b = omega arith
 cost-most short mask is js Atom a b = omega arith
@@ -117,7 +123,7 @@ cost-most short mask is js Or a b = omega arith
 cost-most short mask is js Next a b = pick-most (short && tolerantAt is a) 6 10 (omega arith)
 cost-most short mask is js Until a b = pick-most (short && (tolerantAt is a && tolerantAt is b)) 6 11 (omega arith)
 cost-most short mask is js Prev a b = omega arith
-cost-most short mask is js Since a b = omega arith
+cost-most short mask is js Since a b = pick-most (short && (tolerantAt is a && tolerantAt is b)) 2 10 (omega arith)
 cost-most short mask is js Run a b = omega arith
 cost-most short mask is js End a b = omega arith
 cost-most short mask is js Unknown a b = omega arith

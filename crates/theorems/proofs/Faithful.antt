@@ -2,7 +2,7 @@
 use mathlib.Core.Path.{_≡_, refl, sym, ap, subst, _∙_}
 use Prim.Native.Nat.{ℕ, zero, suc, _-_, _≤_, _<_}
 use native.Mathlib.Omega.{arith}
-use mathlib.Core.Bool.{Bool, true, false, not, _&&_, _||_, or-false, or-true, true≢false, Bool·not-not}
+use mathlib.Core.Bool.{Bool, true, false, not, _&&_, _||_, and-false, or-false, or-true, true≢false, Bool·not-not}
 use mathlib.Core.List.{List, [], _∷_, _++_}
 use lib.ListN.{length, getD, length-append, List·getD-append}
 use lib.Seq.{getD-at}
@@ -13,15 +13,14 @@ use Rattle.definitions.specs.Bounded.{pick, bitOf}
 use Rattle.definitions.specs.Nodes.{Kind, True, Atom, Not, Or, Next, Until, Prev, Since, Run, End, Unknown, Node}
 use Rattle.definitions.specs.Readings.{Trace}
 use Rattle.definitions.specs.Rewriting.{opening, Image, noImage, imageOf, image, tolerantAt, tolerantOf, Draft, step, steps, Rewritten, closed, rewriting}
-use Rattle.theorems.proofs.Choice.{both-true}
 use Rattle.theorems.proofs.RuleNodes.{RuleNode, RuleNodes}
 use Rattle.theorems.proofs.Recursions.{sinceB, prevB}
 use Rattle.theorems.proofs.Counts.{opened}
 use Rattle.theorems.proofs.Walk.{count}
-use Rattle.theorems.proofs.Operators.{States, find-is, until-is, until-tol, seen-is, since-is, place-last, next-is, after-weak, after-strong, at-end}
+use Rattle.theorems.proofs.Operators.{States, find-is, until-is, until-tol, seen-is, since-is, since-tol, place-last, next-is, after-weak, after-strong, at-end}
 use Rattle.theorems.proofs.Semantics.{Row, noRow, nth, ev, evNode, rowsOn, rows, val}
 use Rattle.theorems.proofs.Terms.{Term, ref, yes₀, atom₀, one, two, next₁, or₂, comp, top, den, Below, length-rows, comp-length, comp-old, comp-size, top-lt, comp-den}
-use Rattle.theorems.proofs.Images.{findX, itselfX, foreignX, untilX, prevX, sinceX, shortNextX, shortUntilX, imageX, termOf, weak-some, step-terms, closedX, closed-terms}
+use Rattle.theorems.proofs.Images.{findX, itselfX, foreignX, untilX, prevX, sinceX, shortNextX, shortUntilX, shortSinceX, imageX, termOf, weak-some, step-terms, closedX, closed-terms}
 
 -- the top of one reading
 abbrev pub topOf : (weak : Bool) → (w : Rewritten) → ℕ
@@ -42,15 +41,17 @@ pub record Law (run ends : ℕ → Bool) (mask : ℕ) (bit lbit : ℕ → ℕ �
   pub ownAt : (a k : ℕ) → bitOf mask a ≡ true → k ≤ e → bit a k ≡ lbit a (count run k)
   pub anyAt : (a k : ℕ) → run k ≡ true → bit a k ≡ lbit a (count run k)
 
-orl : (a b c : Bool) → (a || (b && c)) ≡ true → (a || b) ≡ true
-orl true b c h = refl
-orl false true c h = refl
-orl false false c h = h
+orl : (a s b c : Bool) → (a || (s && (b && c))) ≡ true → (a || (s && b)) ≡ true
+orl true s b c h = refl
+orl false true true c h = refl
+orl false true false c h = h
+orl false false b c h = h
 
-orr : (a b c : Bool) → (a || (b && c)) ≡ true → (a || c) ≡ true
-orr true b c h = refl
-orr false true c h = h
-orr false false c h = absurd (true≢false (sym h))
+orr : (a s b c : Bool) → (a || (s && (b && c))) ≡ true → (a || (s && c)) ≡ true
+orr true s b c h = refl
+orr false true true c h = h
+orr false true false c h = absurd (true≢false (sym h))
+orr false false b c h = h
 
 below-pick : (c : Bool) (n : ℕ) (x y : Term) → Below n x → Below n y → Below n (pick c x y)
 unfolding pick
@@ -96,7 +97,7 @@ two-snoc P xs ys x y dx dy s all here i h = go (decLt i (length ys))
 or-of : (a b : Bool) → a ≡ true → (a || b) ≡ true
 or-of a b h = rw h
 
-module _ (run ends : ℕ → Bool) (mask : ℕ) (bit lbit : ℕ → ℕ → Bool) (e N : ℕ) (law : Law run ends mask bit lbit e N) where
+module _ (run ends : ℕ → Bool) (mask : ℕ) (bit lbit : ℕ → ℕ → Bool) (e N : ℕ) (law : Law run ends mask bit lbit e N) (short : Bool) where
   st : ℕ → Bool
   st k = stOf run ends k
 
@@ -157,7 +158,7 @@ module _ (run ends : ℕ → Bool) (mask : ℕ) (bit lbit : ℕ → ℕ → Bool
     end = λ k. false;
   }
 
-  -- the draft of a rewriting, and the local rows so far
+  -- the draft of a rewriting, and the local rows so far: an image is right at the states, and in the short rewriting a tolerant one up to the last place's
   record Sound (T : List Node) (is : List Image) (rs : List Row) : Type 0 where
     big : 11 ≤ length T
     r1 : val gt T 1 ≡ (λ d k. not (run k))
@@ -166,7 +167,7 @@ module _ (run ends : ℕ → Bool) (mask : ℕ) (bit lbit : ℕ → ℕ → Bool
     r9 : val gt T 9 ≡ (λ d k. prevB ends k)
     sizes : length is ≡ length rs
     low : (d : Bool) (i : ℕ) → i < length rs → image d is i < length T
-    good : (d : Bool) (i k : ℕ) → i < length rs → k ≤ e → (st k || tolerantAt is i) ≡ true →
+    good : (d : Bool) (i k : ℕ) → i < length rs → k ≤ e → (st k || (short && tolerantAt is i)) ≡ true →
         val gt T (image d is i) d k ≡ nth rs i d (count run k)
 
   sound-comp : (x : Term) (T : List Node) (is : List Image) (rs : List Row) → Sound T is rs → Sound (comp x T) is rs
@@ -216,9 +217,9 @@ module _ (run ends : ℕ → Bool) (mask : ℕ) (bit lbit : ℕ → ℕ → Bool
     F = val gt T
 
     at : (d : Bool) (a : ℕ) → a < length rs → (k : ℕ) → k ≤ e → st k ≡ true → F (image d is a) d k ≡ nth rs a d (count run k)
-    at d a h k b t = S .good d a k h b (or-of (st k) (tolerantAt is a) t)
+    at d a h k b t = S .good d a k h b (or-of (st k) (short && tolerantAt is a) t)
 
-    atTol : (d : Bool) (a : ℕ) → a < length rs → tolerantAt is a ≡ true → (k : ℕ) → k ≤ e → F (image d is a) d k ≡ nth rs a d (count run k)
+    atTol : (d : Bool) (a : ℕ) → a < length rs → (short && tolerantAt is a) ≡ true → (k : ℕ) → k ≤ e → F (image d is a) d k ≡ nth rs a d (count run k)
     atTol d a h t k b = S .good d a k h b (rw (t, or-true))
 
     -- the strong image of a leaf finds it at x
@@ -246,14 +247,14 @@ module _ (run ends : ℕ → Bool) (mask : ℕ) (bit lbit : ℕ → ℕ → Bool
         go true r = rw Bool·not-not (law .anyAt a k r)
         go false r = refl
 
-    atom-is : (a x : ℕ) (d : Bool) (k : ℕ) → LeafAt d x (gt .atom a) → k ≤ e → (st k || bitOf mask a) ≡ true →
+    atom-is : (a x : ℕ) (d : Bool) (k : ℕ) → LeafAt d x (gt .atom a) → k ≤ e → (st k || (short && bitOf mask a)) ≡ true →
         den gt (pick (bitOf mask a) (itselfX d (atom₀ a) x) (foreignX d x a)) F d k ≡ lt .atom a d (count run k)
     unfolding pick
     atom-is a x d k hx b t = go (bitOf mask a) refl
       where
         go : (c : Bool) → bitOf mask a ≡ c → den gt (pick (bitOf mask a) (itselfX d (atom₀ a) x) (foreignX d x a)) F d k ≡ lt .atom a d (count run k)
         go true o = rw o (own-is a x d k hx ∙ law .ownAt a k o b)
-        go false o = let q : st k ≡ true = rw (o, or-false) at t in
+        go false o = let q : st k ≡ true = rw (o, and-false, or-false) at t in
             rw (o, place-last run st e states (law .before) k b q) (foreign-is a x d k hx)
 
     next-plain : (d : Bool) (a : ℕ) → a < length rs → (k : ℕ) → k ≤ e → st k ≡ true →
@@ -261,7 +262,7 @@ module _ (run ends : ℕ → Bool) (mask : ℕ) (bit lbit : ℕ → ℕ → Bool
     next-plain d a h = next-is run st e states (law .before) N (law .inside) d (den gt (findX d (imageX d is a)) F d) (nth rs a d)
         (find-den (image d is a) (nth rs a d) d (at d a h)) (find-den-past (image d is a) d)
 
-    next-short : (d : Bool) (a : ℕ) → a < length rs → tolerantAt is a ≡ true → (k : ℕ) → k ≤ e → st k ≡ true →
+    next-short : (d : Bool) (a : ℕ) → a < length rs → (short && tolerantAt is a) ≡ true → (k : ℕ) → k ≤ e → st k ≡ true →
         den gt (shortNextX d (imageX d is a)) F d k ≡ ev lt (nth rs) Next a 0 d (count run k)
     unfolding pick
     next-short d a h o k b t = rw (place-last run st e states (law .before) k b t) (go d (run k) refl)
@@ -299,7 +300,7 @@ module _ (run ends : ℕ → Bool) (mask : ℕ) (bit lbit : ℕ → ℕ → Bool
         (λ k m. rw (st-past k m)) (N - suc e) (suc e) (omega arith))
         k l)
 
-    until-short : (d : Bool) (a b : ℕ) → a < length rs → b < length rs → tolerantAt is a ≡ true → tolerantAt is b ≡ true → (k : ℕ) → k ≤ e →
+    until-short : (d : Bool) (a b : ℕ) → a < length rs → b < length rs → (short && tolerantAt is a) ≡ true → (short && tolerantAt is b) ≡ true → (k : ℕ) → k ≤ e →
         den gt (shortUntilX d (imageX d is a) (imageX d is b)) F d k ≡ ev lt (nth rs) Until a b d (count run k)
     until-short true a b ha hb ta tb k l = rw (S .r9) (until-tol run e N (law .inside) true
         (F (image true is a) true) (λ i. prevB ends i || F (image true is b) true i)
@@ -317,88 +318,103 @@ module _ (run ends : ℕ → Bool) (mask : ℕ) (bit lbit : ℕ → ℕ → Bool
     prev-is true a h k b = rw (S .r1) (prev-core (F (image true is a) true) (nth rs a true) (at true a h) k b)
     prev-is false a h k b = rw (S .r1) (prev-core (F (image false is a) false) (nth rs a false) (at false a h) k b)
 
-    since-is′ : (d : Bool) (a b : ℕ) → a < length rs → b < length rs → (k : ℕ) → k ≤ e → st k ≡ true →
+    since-plain : (d : Bool) (a b : ℕ) → a < length rs → b < length rs → (k : ℕ) → k ≤ e → st k ≡ true →
         den gt (sinceX (imageX d is a) (imageX d is b)) F d k ≡ ev lt (nth rs) Since a b d (count run k)
-    since-is′ true a b ha hb k l t = rw (S .r8) (since-core (F (image true is a) true) (F (image true is b) true) (nth rs a true) (nth rs b true) (at true a ha) (at true b hb) k l t)
-    since-is′ false a b ha hb k l t = rw (S .r8) (since-core (F (image false is a) false) (F (image false is b) false) (nth rs a false) (nth rs b false) (at false a ha) (at false b hb) k l t)
+    since-plain true a b ha hb k l t = rw (S .r8) (since-core (F (image true is a) true) (F (image true is b) true) (nth rs a true) (nth rs b true) (at true a ha) (at true b hb) k l t)
+    since-plain false a b ha hb k l t = rw (S .r8) (since-core (F (image false is a) false) (F (image false is b) false) (nth rs a false) (nth rs b false) (at false a ha) (at false b hb) k l t)
 
-    module _ (short : Bool) where
-      next-is′ : (d : Bool) (a : ℕ) → a < length rs → (k : ℕ) → k ≤ e → st k ≡ true →
-          den gt (pick (short && tolerantAt is a) (shortNextX d (imageX d is a)) (one next₁ (findX d (imageX d is a)))) F d k ≡ ev lt (nth rs) Next a 0 d (count run k)
-      unfolding pick
-      next-is′ d a h k b t = go (short && tolerantAt is a) refl
-        where
-          go : (c : Bool) → (short && tolerantAt is a) ≡ c → den gt (pick c (shortNextX d (imageX d is a)) (one next₁ (findX d (imageX d is a)))) F d k ≡ ev lt (nth rs) Next a 0 d (count run k)
-          go true o = next-short d a h ((both-true short (tolerantAt is a) o) .1) k b t
-          go false o = next-plain d a h k b t
+    since-short : (d : Bool) (a b : ℕ) → a < length rs → b < length rs → (short && tolerantAt is a) ≡ true → (short && tolerantAt is b) ≡ true → (k : ℕ) → k ≤ e →
+        den gt (shortSinceX (imageX d is a) (imageX d is b)) F d k ≡ ev lt (nth rs) Since a b d (count run k)
+    since-short d a b ha hb ta tb = since-tol run e (F (image d is a) d) (F (image d is b) d) (nth rs a d) (nth rs b d) (atTol d a ha ta) (atTol d b hb tb)
 
-      until-is′ : (d : Bool) (a b : ℕ) → a < length rs → b < length rs → (k : ℕ) → k ≤ e →
-          den gt (pick (short && (tolerantAt is a && tolerantAt is b)) (shortUntilX d (imageX d is a) (imageX d is b)) (untilX d (imageX d is a) (imageX d is b))) F d k
-          ≡ ev lt (nth rs) Until a b d (count run k)
-      unfolding pick
-      until-is′ d a b ha hb k l = go (short && (tolerantAt is a && tolerantAt is b)) refl
-        where
-          go : (c : Bool) → (short && (tolerantAt is a && tolerantAt is b)) ≡ c →
-              den gt (pick c (shortUntilX d (imageX d is a) (imageX d is b)) (untilX d (imageX d is a) (imageX d is b))) F d k ≡ ev lt (nth rs) Until a b d (count run k)
-          go true o =
-              let both = both-true (tolerantAt is a) (tolerantAt is b) ((both-true short (tolerantAt is a && tolerantAt is b) o) .1) in
-              until-short d a b ha hb (both .0) (both .1) k l
-          go false o = until-plain d a b ha hb k l
+    next-is′ : (d : Bool) (a : ℕ) → a < length rs → (k : ℕ) → k ≤ e → st k ≡ true →
+        den gt (pick (short && tolerantAt is a) (shortNextX d (imageX d is a)) (one next₁ (findX d (imageX d is a)))) F d k ≡ ev lt (nth rs) Next a 0 d (count run k)
+    unfolding pick
+    next-is′ d a h k b t = go (short && tolerantAt is a) refl
+      where
+        go : (c : Bool) → (short && tolerantAt is a) ≡ c → den gt (pick c (shortNextX d (imageX d is a)) (one next₁ (findX d (imageX d is a)))) F d k ≡ ev lt (nth rs) Next a 0 d (count run k)
+        go true o = next-short d a h o k b t
+        go false o = next-plain d a h k b t
 
-      -- what the strong image of a leaf needs
-      abbrev LeafOf : Bool → ℕ → Kind → ℕ → Type 0
-      LeafOf d x True a = LeafAt d x (λ d k. true)
-      LeafOf d x Atom a = LeafAt d x (gt .atom a)
-      LeafOf d x Not a = Unit {0}
-      LeafOf d x Or a = Unit {0}
-      LeafOf d x Next a = Unit {0}
-      LeafOf d x Until a = Unit {0}
-      LeafOf d x Prev a = Unit {0}
-      LeafOf d x Since a = Unit {0}
-      LeafOf d x Run a = Unit {0}
-      LeafOf d x End a = Unit {0}
-      LeafOf d x Unknown a = Unit {0}
+    until-is′ : (d : Bool) (a b : ℕ) → a < length rs → b < length rs → (k : ℕ) → k ≤ e →
+        den gt (pick (short && (tolerantAt is a && tolerantAt is b)) (shortUntilX d (imageX d is a) (imageX d is b)) (untilX d (imageX d is a) (imageX d is b))) F d k
+        ≡ ev lt (nth rs) Until a b d (count run k)
+    unfolding pick
+    until-is′ d a b ha hb k l = go (short && (tolerantAt is a && tolerantAt is b)) refl
+      where
+        go : (c : Bool) → (short && (tolerantAt is a && tolerantAt is b)) ≡ c →
+            den gt (pick c (shortUntilX d (imageX d is a) (imageX d is b)) (untilX d (imageX d is a) (imageX d is b))) F d k ≡ ev lt (nth rs) Until a b d (count run k)
+        go true o = until-short d a b ha hb (orl false short (tolerantAt is a) (tolerantAt is b) o) (orr false short (tolerantAt is a) (tolerantAt is b) o) k l
+        go false o = until-plain d a b ha hb k l
 
-      image-is : (n : Kind) (a c : ℕ) → RuleNode (length rs) n a c → (x : ℕ) (d : Bool) → LeafOf d x n a → (k : ℕ) → k ≤ e →
-          (st k || tolerantOf mask is n a c) ≡ true → den gt (termOf short mask is x d n a c) F d k ≡ ev lt (nth rs) n a c d (count run k)
-      image-is True a c r x d hx k b t = true-is x d k hx
-      image-is Atom a c r x d hx k b t = atom-is a x d k hx b t
-      image-is Not a c r x d hx k b t = ap not (S .good (not d) a k r b t)
-      image-is Or a c r x d hx k b t =
-          rw (S .good d a k (r .0) b (orl (st k) (tolerantAt is a) (tolerantAt is c) t), S .good d c k (r .1) b (orr (st k) (tolerantAt is a) (tolerantAt is c) t))
-      image-is Next a c r x d hx k b t = next-is′ d a r k b (rw or-false at t)
-      image-is Until a c r x d hx k b t = until-is′ d a c (r .0) (r .1) k b
-      image-is Prev a c r x d hx k b t = prev-is d a r k b
-      image-is Since a c r x d hx k b t = since-is′ d a c (r .0) (r .1) k b (rw or-false at t)
-      image-is Run a c r x d hx k b t = absurd r
-      image-is End a c r x d hx k b t = absurd r
-      image-is Unknown a c r x d hx k b t = absurd r
+    since-is′ : (d : Bool) (a b : ℕ) → a < length rs → b < length rs → (k : ℕ) → k ≤ e → (st k || (short && (tolerantAt is a && tolerantAt is b))) ≡ true →
+        den gt (pick (short && (tolerantAt is a && tolerantAt is b)) (shortSinceX (imageX d is a) (imageX d is b)) (sinceX (imageX d is a) (imageX d is b))) F d k
+        ≡ ev lt (nth rs) Since a b d (count run k)
+    unfolding pick
+    since-is′ d a b ha hb k l = go (short && (tolerantAt is a && tolerantAt is b)) refl
+      where
+        go : (c : Bool) → (short && (tolerantAt is a && tolerantAt is b)) ≡ c → (st k || c) ≡ true →
+            den gt (pick c (shortSinceX (imageX d is a) (imageX d is b)) (sinceX (imageX d is a) (imageX d is b))) F d k ≡ ev lt (nth rs) Since a b d (count run k)
+        go true o t = since-short d a b ha hb (orl false short (tolerantAt is a) (tolerantAt is b) o) (orr false short (tolerantAt is a) (tolerantAt is b) o) k l
+        go false o t = since-plain d a b ha hb k l (rw or-false at t)
 
-      image-below : (n : Kind) (a b : ℕ) → RuleNode (length rs) n a b → (x : ℕ) (d : Bool) → (d ≡ false → x < length T) →
-          Below (length T) (termOf short mask is x d n a b)
-      image-below True a b r x d h = below-itself d (length T) yes₀ x tt h
-      image-below Atom a b r x d h =
-          below-pick (bitOf mask a) (length T) (itselfX d (atom₀ a) x) (foreignX d x a)
-          (below-itself d (length T) (atom₀ a) x tt h) (below-foreign d (length T) x a (S .big) h)
-      image-below Not a b r x d h = S .low (not d) a r
-      image-below Or a b r x d h = (S .low d a (r .0), S .low d b (r .1))
-      image-below Next a b r x d h =
-          below-pick (short && tolerantAt is a) (length T) (shortNextX d (imageX d is a)) (one next₁ (findX d (imageX d is a)))
-          (below-short-next d (length T) (image d is a) (S .big) (S .low d a r)) (below-find d (length T) (image d is a) (S .big) (S .low d a r))
-      image-below Until a b r x d h =
-          below-pick (short && (tolerantAt is a && tolerantAt is b)) (length T)
-          (shortUntilX d (imageX d is a) (imageX d is b)) (untilX d (imageX d is a) (imageX d is b))
-          (below-short-until d (length T) (image d is a) (image d is b) (S .big) (S .low d a (r .0)) (S .low d b (r .1)))
-          (below-until d (length T) (image d is a) (image d is b) (S .big) (S .low d a (r .0)) (S .low d b (r .1)))
-      image-below Prev a b r x d h = omega (arith, S .big, S .low d a r)
-      image-below Since a b r x d h = omega (arith, S .big, S .low d a (r .0), S .low d b (r .1))
-      image-below Run a b r x d h = absurd r
-      image-below End a b r x d h = absurd r
-      image-below Unknown a b r x d h = absurd r
+    -- what the strong image of a leaf needs
+    abbrev LeafOf : Bool → ℕ → Kind → ℕ → Type 0
+    LeafOf d x True a = LeafAt d x (λ d k. true)
+    LeafOf d x Atom a = LeafAt d x (gt .atom a)
+    LeafOf d x Not a = Unit {0}
+    LeafOf d x Or a = Unit {0}
+    LeafOf d x Next a = Unit {0}
+    LeafOf d x Until a = Unit {0}
+    LeafOf d x Prev a = Unit {0}
+    LeafOf d x Since a = Unit {0}
+    LeafOf d x Run a = Unit {0}
+    LeafOf d x End a = Unit {0}
+    LeafOf d x Unknown a = Unit {0}
+
+    image-is : (n : Kind) (a c : ℕ) → RuleNode (length rs) n a c → (x : ℕ) (d : Bool) → LeafOf d x n a → (k : ℕ) → k ≤ e →
+        (st k || (short && tolerantOf mask is n a c)) ≡ true → den gt (termOf short mask is x d n a c) F d k ≡ ev lt (nth rs) n a c d (count run k)
+    image-is True a c r x d hx k b t = true-is x d k hx
+    image-is Atom a c r x d hx k b t = atom-is a x d k hx b t
+    image-is Not a c r x d hx k b t = ap not (S .good (not d) a k r b t)
+    image-is Or a c r x d hx k b t =
+        rw (S .good d a k (r .0) b (orl (st k) short (tolerantAt is a) (tolerantAt is c) t), S .good d c k (r .1) b (orr (st k) short (tolerantAt is a) (tolerantAt is c) t))
+    image-is Next a c r x d hx k b t = next-is′ d a r k b (rw (and-false, or-false) at t)
+    image-is Until a c r x d hx k b t = until-is′ d a c (r .0) (r .1) k b
+    image-is Prev a c r x d hx k b t = prev-is d a r k b
+    image-is Since a c r x d hx k b t = since-is′ d a c (r .0) (r .1) k b t
+    image-is Run a c r x d hx k b t = absurd r
+    image-is End a c r x d hx k b t = absurd r
+    image-is Unknown a c r x d hx k b t = absurd r
+
+    image-below : (n : Kind) (a b : ℕ) → RuleNode (length rs) n a b → (x : ℕ) (d : Bool) → (d ≡ false → x < length T) →
+        Below (length T) (termOf short mask is x d n a b)
+    image-below True a b r x d h = below-itself d (length T) yes₀ x tt h
+    image-below Atom a b r x d h =
+        below-pick (bitOf mask a) (length T) (itselfX d (atom₀ a) x) (foreignX d x a)
+        (below-itself d (length T) (atom₀ a) x tt h) (below-foreign d (length T) x a (S .big) h)
+    image-below Not a b r x d h = S .low (not d) a r
+    image-below Or a b r x d h = (S .low d a (r .0), S .low d b (r .1))
+    image-below Next a b r x d h =
+        below-pick (short && tolerantAt is a) (length T) (shortNextX d (imageX d is a)) (one next₁ (findX d (imageX d is a)))
+        (below-short-next d (length T) (image d is a) (S .big) (S .low d a r)) (below-find d (length T) (image d is a) (S .big) (S .low d a r))
+    image-below Until a b r x d h =
+        below-pick (short && (tolerantAt is a && tolerantAt is b)) (length T)
+        (shortUntilX d (imageX d is a) (imageX d is b)) (untilX d (imageX d is a) (imageX d is b))
+        (below-short-until d (length T) (image d is a) (image d is b) (S .big) (S .low d a (r .0)) (S .low d b (r .1)))
+        (below-until d (length T) (image d is a) (image d is b) (S .big) (S .low d a (r .0)) (S .low d b (r .1)))
+    image-below Prev a b r x d h = omega (arith, S .big, S .low d a r)
+    image-below Since a b r x d h =
+        below-pick (short && (tolerantAt is a && tolerantAt is b)) (length T)
+        (shortSinceX (imageX d is a) (imageX d is b)) (sinceX (imageX d is a) (imageX d is b))
+        (S .low d a (r .0), S .low d b (r .1)) (omega (arith, S .big, S .low d a (r .0), S .low d b (r .1)))
+    image-below Run a b r x d h = absurd r
+    image-below End a b r x d h = absurd r
+    image-below Unknown a b r x d h = absurd r
 
   -- one more image and one more local row
   sound-snoc : (T : List Node) (is : List Image) (rs : List Row) → Sound T is rs → (j : Image) (r : Row) → ((d : Bool) → imageOf d j < length T) →
-      ((d : Bool) (k : ℕ) → k ≤ e → (st k || j .tolerant) ≡ true → val gt T (imageOf d j) d k ≡ r d (count run k)) → Sound T (is ++ (j ∷ [])) (rs ++ (r ∷ []))
+      ((d : Bool) (k : ℕ) → k ≤ e → (st k || (short && j .tolerant)) ≡ true → val gt T (imageOf d j) d k ≡ r d (count run k)) → Sound T (is ++ (j ∷ [])) (rs ++ (r ∷ []))
   sound-snoc T is rs S j r lj gj = record {
     big = S .big;
     r1 = S .r1;
@@ -407,121 +423,120 @@ module _ (run ends : ℕ → Bool) (mask : ℕ) (bit lbit : ℕ → ℕ → Bool
     r9 = S .r9;
     sizes = omega (arith, S .sizes, length-append is (j ∷ []), length-append rs (r ∷ []));
     low = λ d i h. two-snoc (λ (j : Image) (r : Row). imageOf d j < length T) is rs j r noImage noRow (S .sizes) (λ i h. S .low d i h) (lj d) i h;
-    good = λ d i k h b. two-snoc (λ (j : Image) (r : Row). (st k || j .tolerant) ≡ true → val gt T (imageOf d j) d k ≡ r d (count run k)) is rs j r noImage noRow (S .sizes)
+    good = λ d i k h b. two-snoc (λ (j : Image) (r : Row). (st k || (short && j .tolerant)) ≡ true → val gt T (imageOf d j) d k ≡ r d (count run k)) is rs j r noImage noRow (S .sizes)
         (λ i h. S .good d i k h b) (gj d k b) i h;
   }
 
-  module _ (short : Bool) where
-    -- the weak image of a leaf has the leaf at its first number
-    atom-at : (T : List Node) (a : ℕ) (c : Bool) →
-        val gt (comp (pick c (itselfX true (atom₀ a) (length T)) (foreignX true (length T) a)) T) (length T) ≡ gt .atom a
-    unfolding pick
-    atom-at T a true = comp-den gt (atom₀ a) T tt
-    atom-at T a false =
-        comp-old gt (two or₂ (ref 1) (ref (length T))) (comp (atom₀ a) T) (length T) (top-lt (atom₀ a) T tt) ∙ comp-den gt (atom₀ a) T tt
+  -- the weak image of a leaf has the leaf at its first number
+  atom-at : (T : List Node) (a : ℕ) (c : Bool) →
+      val gt (comp (pick c (itselfX true (atom₀ a) (length T)) (foreignX true (length T) a)) T) (length T) ≡ gt .atom a
+  unfolding pick
+  atom-at T a true = comp-den gt (atom₀ a) T tt
+  atom-at T a false =
+      comp-old gt (two or₂ (ref 1) (ref (length T))) (comp (atom₀ a) T) (length T) (top-lt (atom₀ a) T tt) ∙ comp-den gt (atom₀ a) T tt
 
-    -- the first node emitted is in the table
-    first-in : (T : List Node) (is : List Image) (rs : List Row) → Sound T is rs → (k : Kind) (a c : ℕ) → RuleNode (length rs) k a c →
-        length T < length (comp (termOf short mask is (length T) true k a c) T)
-    first-in T is rs S k a c r =
-        omega (arith, weak-some short mask is (length rs) (length T) k a c r, comp-size (termOf short mask is (length T) true k a c) T)
+  -- the first node emitted is in the table
+  first-in : (T : List Node) (is : List Image) (rs : List Row) → Sound T is rs → (k : Kind) (a c : ℕ) → RuleNode (length rs) k a c →
+      length T < length (comp (termOf short mask is (length T) true k a c) T)
+  first-in T is rs S k a c r =
+      omega (arith, weak-some short mask is (length rs) (length T) k a c r, comp-size (termOf short mask is (length T) true k a c) T)
 
-    no-leaf : (T : List Node) (is : List Image) (rs : List Row) (S : Sound T is rs) (k : Kind) (a : ℕ) → LeafOf T is rs S short true (length T) k a
-    no-leaf T is rs S True a = λ e. absurd (true≢false e)
-    no-leaf T is rs S Atom a = λ e. absurd (true≢false e)
-    no-leaf T is rs S Not a = tt
-    no-leaf T is rs S Or a = tt
-    no-leaf T is rs S Next a = tt
-    no-leaf T is rs S Until a = tt
-    no-leaf T is rs S Prev a = tt
-    no-leaf T is rs S Since a = tt
-    no-leaf T is rs S Run a = tt
-    no-leaf T is rs S End a = tt
-    no-leaf T is rs S Unknown a = tt
+  no-leaf : (T : List Node) (is : List Image) (rs : List Row) (S : Sound T is rs) (k : Kind) (a : ℕ) → LeafOf T is rs S true (length T) k a
+  no-leaf T is rs S True a = λ e. absurd (true≢false e)
+  no-leaf T is rs S Atom a = λ e. absurd (true≢false e)
+  no-leaf T is rs S Not a = tt
+  no-leaf T is rs S Or a = tt
+  no-leaf T is rs S Next a = tt
+  no-leaf T is rs S Until a = tt
+  no-leaf T is rs S Prev a = tt
+  no-leaf T is rs S Since a = tt
+  no-leaf T is rs S Run a = tt
+  no-leaf T is rs S End a = tt
+  no-leaf T is rs S Unknown a = tt
 
-    leaf-in : (T : List Node) (is : List Image) (rs : List Row) (S : Sound T is rs) (k : Kind) (a c : ℕ)
-        (S1 : Sound (comp (termOf short mask is (length T) true k a c) T) is rs) →
-        LeafOf (comp (termOf short mask is (length T) true k a c) T) is rs S1 short false (length T) k a
-    leaf-in T is rs S True a c S1 = λ e. comp-den gt yes₀ T tt
-    leaf-in T is rs S Atom a c S1 = λ e. atom-at T a (bitOf mask a)
-    leaf-in T is rs S Not a c S1 = tt
-    leaf-in T is rs S Or a c S1 = tt
-    leaf-in T is rs S Next a c S1 = tt
-    leaf-in T is rs S Until a c S1 = tt
-    leaf-in T is rs S Prev a c S1 = tt
-    leaf-in T is rs S Since a c S1 = tt
-    leaf-in T is rs S Run a c S1 = tt
-    leaf-in T is rs S End a c S1 = tt
-    leaf-in T is rs S Unknown a c S1 = tt
+  leaf-in : (T : List Node) (is : List Image) (rs : List Row) (S : Sound T is rs) (k : Kind) (a c : ℕ)
+      (S1 : Sound (comp (termOf short mask is (length T) true k a c) T) is rs) →
+      LeafOf (comp (termOf short mask is (length T) true k a c) T) is rs S1 false (length T) k a
+  leaf-in T is rs S True a c S1 = λ e. comp-den gt yes₀ T tt
+  leaf-in T is rs S Atom a c S1 = λ e. atom-at T a (bitOf mask a)
+  leaf-in T is rs S Not a c S1 = tt
+  leaf-in T is rs S Or a c S1 = tt
+  leaf-in T is rs S Next a c S1 = tt
+  leaf-in T is rs S Until a c S1 = tt
+  leaf-in T is rs S Prev a c S1 = tt
+  leaf-in T is rs S Since a c S1 = tt
+  leaf-in T is rs S Run a c S1 = tt
+  leaf-in T is rs S End a c S1 = tt
+  leaf-in T is rs S Unknown a c S1 = tt
 
-    sound-step : (D : Draft) (rs : List Row) (n : Node) → Sound (D .nodes) (D .images) rs → RuleNode (length rs) (n .kind) (n .first) (n .second) →
-        Sound ((step short mask D n) .nodes) ((step short mask D n) .images) (rs ++ (evNode lt rs n ∷ []))
-    sound-step D rs n S r =
-        let is : List Image = D .images in
-        let T : List Node = D .nodes in
-        let k : Kind = n .kind in
-        let a : ℕ = n .first in
-        let c : ℕ = n .second in
-        let x : ℕ = length T in
-        let iw : Term = termOf short mask is x true k a c in
-        let T1 : List Node = comp iw T in
-        let iS : Term = termOf short mask is x false k a c in
-        let T2 : List Node = comp iS T1 in
-        let S1 : Sound T1 is rs = sound-comp iw T is rs S in
-        let S2 : Sound T2 is rs = sound-comp iS T1 is rs S1 in
-        let bw : Below (length T) iw = image-below T is rs S short k a c r x true (λ e. absurd (true≢false e)) in
-        let hx : x < length T1 = first-in T is rs S k a c r in
-        let bs : Below (length T1) iS = image-below T1 is rs S1 short k a c r x false (λ e. hx) in
-        let lw : top iw T < length T1 = top-lt iw T bw in
-        let ew : val gt T2 (top iw T) ≡ den gt iw (val gt T) = comp-old gt iS T1 (top iw T) lw ∙ comp-den gt iw T bw in
-        let es : val gt T2 (top iS T1) ≡ den gt iS (val gt T1) = comp-den gt iS T1 bs in
-        subst (λ (E : Draft). Sound (E .nodes) (E .images) (rs ++ (evNode lt rs n ∷ []))) (sym (step-terms short mask (length rs) D n r))
-        (sound-snoc T2 is rs S2 (record { weak = top iw T; strong = top iS T1; tolerant = tolerantOf mask is k a c }) (evNode lt rs n)
-        (elim [ true ↦ omega (arith, lw, comp-length iS T1) | false ↦ top-lt iS T1 bs ])
-        (elim [
-          | true ↦ λ j b t. rw ew (image-is T is rs S short k a c r x true (no-leaf T is rs S k a) j b t)
-          | false ↦ λ j b t. rw es (image-is T1 is rs S1 short k a c r x false (leaf-in T is rs S k a c S1) j b t)
-        ]))
+  sound-step : (D : Draft) (rs : List Row) (n : Node) → Sound (D .nodes) (D .images) rs → RuleNode (length rs) (n .kind) (n .first) (n .second) →
+      Sound ((step short mask D n) .nodes) ((step short mask D n) .images) (rs ++ (evNode lt rs n ∷ []))
+  sound-step D rs n S r =
+      let is : List Image = D .images in
+      let T : List Node = D .nodes in
+      let k : Kind = n .kind in
+      let a : ℕ = n .first in
+      let c : ℕ = n .second in
+      let x : ℕ = length T in
+      let iw : Term = termOf short mask is x true k a c in
+      let T1 : List Node = comp iw T in
+      let iS : Term = termOf short mask is x false k a c in
+      let T2 : List Node = comp iS T1 in
+      let S1 : Sound T1 is rs = sound-comp iw T is rs S in
+      let S2 : Sound T2 is rs = sound-comp iS T1 is rs S1 in
+      let bw : Below (length T) iw = image-below T is rs S k a c r x true (λ e. absurd (true≢false e)) in
+      let hx : x < length T1 = first-in T is rs S k a c r in
+      let bs : Below (length T1) iS = image-below T1 is rs S1 k a c r x false (λ e. hx) in
+      let lw : top iw T < length T1 = top-lt iw T bw in
+      let ew : val gt T2 (top iw T) ≡ den gt iw (val gt T) = comp-old gt iS T1 (top iw T) lw ∙ comp-den gt iw T bw in
+      let es : val gt T2 (top iS T1) ≡ den gt iS (val gt T1) = comp-den gt iS T1 bs in
+      subst (λ (E : Draft). Sound (E .nodes) (E .images) (rs ++ (evNode lt rs n ∷ []))) (sym (step-terms short mask (length rs) D n r))
+      (sound-snoc T2 is rs S2 (record { weak = top iw T; strong = top iS T1; tolerant = tolerantOf mask is k a c }) (evNode lt rs n)
+      (elim [ true ↦ omega (arith, lw, comp-length iS T1) | false ↦ top-lt iS T1 bs ])
+      (elim [
+        | true ↦ λ j b t. rw ew (image-is T is rs S k a c r x true (no-leaf T is rs S k a) j b t)
+        | false ↦ λ j b t. rw es (image-is T1 is rs S1 k a c r x false (leaf-in T is rs S k a c S1) j b t)
+      ]))
 
-    sound-steps : (D : Draft) (rs : List Row) (ns : List Node) → Sound (D .nodes) (D .images) rs → RuleNodes (length rs) ns →
-        Sound ((steps short mask D ns) .nodes) ((steps short mask D ns) .images) (rowsOn lt rs ns)
-    sound-steps D rs [] S r = S
-    sound-steps D rs (n ∷ ns) S r =
-        sound-steps (step short mask D n) (rs ++ (evNode lt rs n ∷ [])) ns (sound-step D rs n S (r .0))
-        (let l : length (rs ++ (evNode lt rs n ∷ [])) ≡ suc (length rs) = omega (arith, length-append rs (evNode lt rs n ∷ [])) in rw l (r .1))
+  sound-steps : (D : Draft) (rs : List Row) (ns : List Node) → Sound (D .nodes) (D .images) rs → RuleNodes (length rs) ns →
+      Sound ((steps short mask D ns) .nodes) ((steps short mask D ns) .images) (rowsOn lt rs ns)
+  sound-steps D rs [] S r = S
+  sound-steps D rs (n ∷ ns) S r =
+      sound-steps (step short mask D n) (rs ++ (evNode lt rs n ∷ [])) ns (sound-step D rs n S (r .0))
+      (let l : length (rs ++ (evNode lt rs n ∷ [])) ≡ suc (length rs) = omega (arith, length-append rs (evNode lt rs n ∷ [])) in rw l (r .1))
 
-    -- the closing
-    closed-is : (T : List Node) (is : List Image) (rs : List Row) → Sound T is rs → (i : ℕ) → i < length rs → (c : Bool) → (c ≡ true → tolerantAt is i ≡ true) →
-        (d : Bool) → val gt ((closed c T (getD is i noImage)) .nodes) (topOf d (closed c T (getD is i noImage))) d 0 ≡ nth rs i d 0
-    closed-is T is rs S i h true t true = S .good true i 0 h (omega arith) (rw (t refl, or-true))
-    closed-is T is rs S i h true t false = S .good false i 0 h (omega arith) (rw (t refl, or-true))
-    closed-is T is rs S i h false t d =
-        subst (λ (w : Rewritten). val gt (w .nodes) (topOf d w) d 0 ≡ nth rs i d 0) (sym (closed-terms T (getD is i noImage))) (go d)
-      where
-        go : (d : Bool) → val gt ((closedX T (getD is i noImage)) .nodes) (topOf d (closedX T (getD is i noImage))) d 0 ≡ nth rs i d 0
-        go true =
-            let b : Below (length T) (findX true (ref (image true is i))) = below-find true (length T) (image true is i) (S .big) (S .low true i h) in
-            rw (
-              comp-old gt (findX false (ref (image false is i))) (comp (findX true (ref (image true is i))) T) (top (findX true (ref (image true is i))) T)
-                  (top-lt (findX true (ref (image true is i))) T b),
-              comp-den gt (findX true (ref (image true is i))) T b,
-            )
-            (find-den T is rs S (image true is i) (nth rs i true) true (at T is rs S true i h) 0 (omega arith))
-        go false =
-            let T1 : List Node = comp (findX true (ref (image true is i))) T in
-            let S1 : Sound T1 is rs = sound-comp (findX true (ref (image true is i))) T is rs S in
-            let b : Below (length T1) (findX false (ref (image false is i))) = below-find false (length T1) (image false is i) (S1 .big) (S1 .low false i h) in
-            rw (comp-den gt (findX false (ref (image false is i))) T1 b)
-            (find-den T1 is rs S1 (image false is i) (nth rs i false) false (at T1 is rs S1 false i h) 0 (omega arith))
+  -- the closing
+  closed-is : (T : List Node) (is : List Image) (rs : List Row) → Sound T is rs → (i : ℕ) → i < length rs → (c : Bool) → (c ≡ true → (short && tolerantAt is i) ≡ true) →
+      (d : Bool) → val gt ((closed c T (getD is i noImage)) .nodes) (topOf d (closed c T (getD is i noImage))) d 0 ≡ nth rs i d 0
+  closed-is T is rs S i h true t true = S .good true i 0 h (omega arith) (rw (t refl, or-true))
+  closed-is T is rs S i h true t false = S .good false i 0 h (omega arith) (rw (t refl, or-true))
+  closed-is T is rs S i h false t d =
+      subst (λ (w : Rewritten). val gt (w .nodes) (topOf d w) d 0 ≡ nth rs i d 0) (sym (closed-terms T (getD is i noImage))) (go d)
+    where
+      go : (d : Bool) → val gt ((closedX T (getD is i noImage)) .nodes) (topOf d (closedX T (getD is i noImage))) d 0 ≡ nth rs i d 0
+      go true =
+          let b : Below (length T) (findX true (ref (image true is i))) = below-find true (length T) (image true is i) (S .big) (S .low true i h) in
+          rw (
+            comp-old gt (findX false (ref (image false is i))) (comp (findX true (ref (image true is i))) T) (top (findX true (ref (image true is i))) T)
+                (top-lt (findX true (ref (image true is i))) T b),
+            comp-den gt (findX true (ref (image true is i))) T b,
+          )
+          (find-den T is rs S (image true is i) (nth rs i true) true (at T is rs S true i h) 0 (omega arith))
+      go false =
+          let T1 : List Node = comp (findX true (ref (image true is i))) T in
+          let S1 : Sound T1 is rs = sound-comp (findX true (ref (image true is i))) T is rs S in
+          let b : Below (length T1) (findX false (ref (image false is i))) = below-find false (length T1) (image false is i) (S1 .big) (S1 .low false i h) in
+          rw (comp-den gt (findX false (ref (image false is i))) T1 b)
+          (find-den T1 is rs S1 (image false is i) (nth rs i false) false (at T1 is rs S1 false i h) 0 (omega arith))
 
-    -- the rule's verdict on the local trace is the rewritten rule's over the whole recording
-    pub faithful : (ns : List Node) → 0 < length ns → RuleNodes 0 ns → (d : Bool) →
-        val gt ((rewriting short mask ns) .nodes) (topOf d (rewriting short mask ns)) d 0 ≡ val lt ns (length ns - 1) d 0
-    unfolding rewriting
-    faithful ns h r d =
-        let D : Draft = steps short mask opened ns in
-        let S : Sound (D .nodes) (D .images) (rows lt ns) = sound-steps opened [] ns sound-opening r in
-        let l : length (rows lt ns) ≡ length ns = length-rows lt ns in
-        let q : length (D .images) ≡ length ns = omega (arith, S .sizes) in
-        rw q (closed-is (D .nodes) (D .images) (rows lt ns) S (length ns - 1) (omega arith) (short && tolerantAt (D .images) (length ns - 1))
-        (λ e. (both-true short (tolerantAt (D .images) (length ns - 1)) e) .1) d)
+  -- the rule's verdict on the local trace is the rewritten rule's over the whole recording
+  pub faithful : (ns : List Node) → 0 < length ns → RuleNodes 0 ns → (d : Bool) →
+      val gt ((rewriting short mask ns) .nodes) (topOf d (rewriting short mask ns)) d 0 ≡ val lt ns (length ns - 1) d 0
+  unfolding rewriting
+  faithful ns h r d =
+      let D : Draft = steps short mask opened ns in
+      let S : Sound (D .nodes) (D .images) (rows lt ns) = sound-steps opened [] ns sound-opening r in
+      let l : length (rows lt ns) ≡ length ns = length-rows lt ns in
+      let q : length (D .images) ≡ length ns = omega (arith, S .sizes) in
+      rw q (closed-is (D .nodes) (D .images) (rows lt ns) S (length ns - 1) (omega arith) (short && tolerantAt (D .images) (length ns - 1))
+      (λ e. e) d)

@@ -7,7 +7,7 @@ use mathlib.Core.List.{List, [], _∷_, _++_}
 use lib.ListN.{length}
 use Rattle.definitions.specs.Bounded.{pick, bitOf}
 use Rattle.definitions.specs.Nodes.{Kind, True, Atom, Not, Or, Next, Until, Prev, Since, Run, End, Unknown, Node}
-use Rattle.definitions.specs.Rewriting.{emitted, emit, itself, foreignAtom, plainNext, plainUntil, shortNext, shortUntil, closing, Image, image, tolerantAt, tolerantOf, part, Draft, step, Rewritten, closed}
+use Rattle.definitions.specs.Rewriting.{emitted, emit, itself, foreignAtom, plainNext, plainUntil, plainSince, shortNext, shortUntil, shortSince, closing, Image, image, tolerantAt, tolerantOf, part, Draft, step, Rewritten, closed}
 use Rattle.theorems.proofs.RuleNodes.{RuleNode}
 use Rattle.theorems.proofs.Terms.{Term, ref, yes₀, atom₀, one, two, not₁, next₁, prev₁, or₂, until₂, since₂, comp, top, size, code, comp-size, top-last, comp-code}
 
@@ -46,6 +46,9 @@ abbrev pub shortUntilX : Bool → Term → Term → Term
 shortUntilX true a b = two until₂ a (two or₂ (ref 9) b)
 shortUntilX false a b = two until₂ a (one not₁ (two or₂ (ref 9) (one not₁ b)))
 
+abbrev pub shortSinceX : Term → Term → Term
+shortSinceX a b = two since₂ a b
+
 abbrev pub imageX : Bool → List Image → ℕ → Term
 imageX d is a = ref (image d is a)
 
@@ -59,7 +62,8 @@ termOf short mask is x d Next a b = pick (short && tolerantAt is a) (shortNextX 
 termOf short mask is x d Until a b =
     pick (short && (tolerantAt is a && tolerantAt is b)) (shortUntilX d (imageX d is a) (imageX d is b)) (untilX d (imageX d is a) (imageX d is b))
 termOf short mask is x d Prev a b = prevX (imageX d is a)
-termOf short mask is x d Since a b = sinceX (imageX d is a) (imageX d is b)
+termOf short mask is x d Since a b =
+    pick (short && (tolerantAt is a && tolerantAt is b)) (shortSinceX (imageX d is a) (imageX d is b)) (sinceX (imageX d is a) (imageX d is b))
 termOf short mask is x d Run a b = ref x
 termOf short mask is x d End a b = ref x
 termOf short mask is x d Unknown a b = ref x
@@ -94,6 +98,12 @@ module _ (j n : ℕ) where
   until-code false true a b = refl
   until-code false false a b = refl
 
+  since-code : (c : Bool) (a b : ℕ) →
+      emitted j n (pick c (shortSince a b) (plainSince n a b)) ≡ code (pick c (shortSinceX (ref a) (ref b)) (sinceX (ref a) (ref b))) n
+  unfolding pick
+  since-code true a b = refl
+  since-code false a b = refl
+
   pub closing-code : (d : Bool) (a : ℕ) → emitted j n (closing d a) ≡ code (findX d (ref a)) n
   closing-code true a = refl
   closing-code false a = refl
@@ -107,7 +117,7 @@ module _ (j n : ℕ) where
   part-code short mask is x d Next a b = next-code (short && tolerantAt is a) d (image d is a)
   part-code short mask is x d Until a b = until-code (short && (tolerantAt is a && tolerantAt is b)) d (image d is a) (image d is b)
   part-code short mask is x d Prev a b = refl
-  part-code short mask is x d Since a b = refl
+  part-code short mask is x d Since a b = since-code (short && (tolerantAt is a && tolerantAt is b)) (image d is a) (image d is b)
   part-code short mask is x d Run a b = refl
   part-code short mask is x d End a b = refl
   part-code short mask is x d Unknown a b = refl
@@ -141,6 +151,11 @@ until-some true false a b = omega arith
 until-some false true a b = omega arith
 until-some false false a b = omega arith
 
+since-some : (c : Bool) (a b : ℕ) → 0 < size (pick c (shortSinceX (ref a) (ref b)) (sinceX (ref a) (ref b)))
+unfolding pick
+since-some true a b = omega arith
+since-some false a b = omega arith
+
 -- a rule's node has a weak image of at least one node
 pub weak-some : (short : Bool) (mask : ℕ) (is : List Image) (n x : ℕ) (k : Kind) (a b : ℕ) → RuleNode n k a b →
     0 < size (termOf short mask is x true k a b)
@@ -151,7 +166,7 @@ weak-some short mask is n x Or a b r = omega arith
 weak-some short mask is n x Next a b r = next-some (short && tolerantAt is a) true (image true is a)
 weak-some short mask is n x Until a b r = until-some (short && (tolerantAt is a && tolerantAt is b)) true (image true is a) (image true is b)
 weak-some short mask is n x Prev a b r = omega arith
-weak-some short mask is n x Since a b r = omega arith
+weak-some short mask is n x Since a b r = since-some (short && (tolerantAt is a && tolerantAt is b)) (image true is a) (image true is b)
 weak-some short mask is n x Run a b r = absurd r
 weak-some short mask is n x End a b r = absurd r
 weak-some short mask is n x Unknown a b r = absurd r
@@ -183,7 +198,9 @@ module _ (short : Bool) (mask : ℕ) (is : List Image) (n : ℕ) (T : List Node)
       top-last (termOf short mask is (length T) false Until a b) (comp (termOf short mask is (length T) true Until a b) T)
       (until-some (short && (tolerantAt is a && tolerantAt is b)) false (image false is a) (image false is b))
   strong-top Prev a b r = top-last (termOf short mask is (length T) false Prev a b) (comp (termOf short mask is (length T) true Prev a b) T) (omega arith)
-  strong-top Since a b r = top-last (termOf short mask is (length T) false Since a b) (comp (termOf short mask is (length T) true Since a b) T) (omega arith)
+  strong-top Since a b r =
+      top-last (termOf short mask is (length T) false Since a b) (comp (termOf short mask is (length T) true Since a b) T)
+      (since-some (short && (tolerantAt is a && tolerantAt is b)) (image false is a) (image false is b))
   strong-top Run a b r = absurd r
   strong-top End a b r = absurd r
   strong-top Unknown a b r = absurd r

@@ -7,6 +7,7 @@ pub mod NodeLaws
 pub mod RuleNodes
 pub mod TableNodes
 pub mod Counts
+pub mod ShorterPast
 pub mod RefusalBounds
 pub mod LentSpace
 pub mod RewrittenAccepted

@@ -180,7 +180,7 @@ module _ (run : ℕ → Bool) (e N : ℕ) (l : e < N) (d : Bool) (g h p q : ℕ 
   unfolding tglo tloc
   until-tol k b = tol-down (e - k) k (omega arith)
 
--- since of two operands that keep their value up to the next state: not used by the base document's short rewriting
+-- since of two operands that keep their value up to the next state
 pub since-tol : (run : ℕ → Bool) (e : ℕ) (g h p q : ℕ → Bool) → ((k : ℕ) → k ≤ e → g k ≡ p (count run k)) → ((k : ℕ) → k ≤ e → h k ≡ q (count run k)) →
     (k : ℕ) → k ≤ e → sinceB g h (suc k) ≡ sinceB p q (suc (count run k))
 unfolding pick

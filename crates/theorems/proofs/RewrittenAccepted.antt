@@ -13,7 +13,7 @@ use Rattle.definitions.specs.Limits.{atomCount, maxTableNodes}
 use Rattle.definitions.specs.Bounded.{pick, orElse, bitOf}
 use Rattle.definitions.specs.Nodes.{Kind, True, Atom, Not, Or, Next, Until, Prev, Since, Run, End, Unknown, Node, nodeWord}
 use Rattle.definitions.specs.Tables.{Rule, ruleRefusal, topsRefusal, tableRefusal, nodesIn}
-use Rattle.definitions.specs.Rewriting.{Emit, emitted, emit, itself, foreignAtom, plainNext, plainUntil, shortNext, shortUntil, Image, noImage, imageOf, image, tolerantAt, tolerantOf, part, Draft, step, steps, Rewritten, closing, closed, lastImage, rewriting}
+use Rattle.definitions.specs.Rewriting.{Emit, emitted, emit, itself, foreignAtom, plainNext, plainUntil, plainSince, shortNext, shortUntil, shortSince, Image, noImage, imageOf, image, tolerantAt, tolerantOf, part, Draft, step, steps, Rewritten, closing, closed, lastImage, rewriting}
 use Rattle.definitions.specs.Operations.{rewrittenOf}
 use Rattle.definitions.specs.Longest.{mostNodes}
 use Rattle.theorems.proofs.NodeWords.{AllHeld, nodes-words}
@@ -45,6 +45,11 @@ module _ (j m : ℕ) (big : 11 ≤ m) (just : j < m) where
   until-nodes false true a b p q = search arith depth 20
   until-nodes false false a b p q = search arith depth 20
 
+  since-nodes : (c : Bool) (a b : ℕ) → a < m → b < m → TableNodes m (emitted j m (pick c (shortSince a b) (plainSince m a b)))
+  unfolding pick
+  since-nodes true a b p q = search arith depth 20
+  since-nodes false a b p q = search arith depth 20
+
   closing-nodes : (weak : Bool) (a : ℕ) → a < m → TableNodes m (emitted j m (closing weak a))
   closing-nodes true a p = search arith depth 20
   closing-nodes false a p = search arith depth 20
@@ -61,7 +66,8 @@ module _ (j m : ℕ) (big : 11 ≤ m) (just : j < m) where
     part-nodes short mask x weak f Until a b r =
         until-nodes (short && (tolerantAt is a && tolerantAt is b)) weak (image weak is a) (image weak is b) (low weak a (r .0)) (low weak b (r .1))
     part-nodes short mask x weak f Prev a b r = search (arith, low weak a r) depth 20
-    part-nodes short mask x weak f Since a b r = search (arith, low weak a (r .0), low weak b (r .1)) depth 20
+    part-nodes short mask x weak f Since a b r =
+        since-nodes (short && (tolerantAt is a && tolerantAt is b)) (image weak is a) (image weak is b) (low weak a (r .0)) (low weak b (r .1))
     part-nodes short mask x weak f Run a b r = absurd r
     part-nodes short mask x weak f End a b r = absurd r
     part-nodes short mask x weak f Unknown a b r = absurd r
@@ -98,7 +104,9 @@ weak-some short mask is k x g Until a b r =
     some-pick (short && (tolerantAt is a && tolerantAt is b)) (shortUntil true (image true is a) (image true is b))
     (plainUntil true g (image true is a) (image true is b)) (omega arith) (omega arith)
 weak-some short mask is k x g Prev a b r = omega arith
-weak-some short mask is k x g Since a b r = omega arith
+weak-some short mask is k x g Since a b r =
+    some-pick (short && (tolerantAt is a && tolerantAt is b)) (shortSince (image true is a) (image true is b))
+    (plainSince g (image true is a) (image true is b)) (omega arith) (omega arith)
 weak-some short mask is k x g Run a b r = absurd r
 weak-some short mask is k x g End a b r = absurd r
 weak-some short mask is k x g Unknown a b r = absurd r

@@ -150,6 +150,30 @@ impl TableInput {
         TableInput { table, c: input.controller(), recording: input.recording }
     }
 
+    /// The rewriting of an interlock over the longest recording: p becomes an
+    /// own atom of the controller, q another one or a foreign one.
+    pub fn interlock(random: &mut Random, rule: &str, own: bool, short: bool) -> TableInput {
+        let (recording, c, [p, q]) = loop {
+            let recording = recording(random, limits::STATES);
+            let c = busiest(&recording);
+            let mask = recording.masks[c];
+            let (p, rest) = (mask.trailing_zeros(), mask & mask.wrapping_sub(1));
+            let q = if own { rest } else { !mask }.trailing_zeros();
+            if p < 32 && q < 32 {
+                break (recording, c, [p, q]);
+            }
+        };
+        let line = rule.replace('p', &format!("a{p}")).replace('q', &format!("a{q}"));
+        let mut nodes = [0; limits::RULE_NODES];
+        let (number, [controller, count]) = ragyvosin::read_line(c, line.as_bytes(), &mut nodes);
+        assert_eq!(number, 0, "{line}");
+        let mut table = vec![0; limits::TABLE_NODES];
+        let rule = Rule { controller, count, nodes: &nodes };
+        let (_, [count, weak_top, strong_top]) =
+            ragyvosin::rewrite(short, rule, recording.masks[c], &mut table);
+        TableInput { table: JudgeTable { count, nodes: table, weak_top, strong_top }, c, recording }
+    }
+
     /// Any input, accepted or refused.
     pub fn any(random: &mut Random) -> TableInput {
         let table = formulas::any_table(random, limits::TABLE_NODES);

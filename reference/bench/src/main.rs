@@ -4,11 +4,13 @@
 //! that `count.sh` writes it reports instructions too. `bench --compare` only
 //! compares. `bench --count OPERATION SIZE SIDE PASSES` only calls one side,
 //! for a profiler that counts instructions; `bench --list` lists what it takes.
+//! `bench --interlocks` times judging by rewritten interlocks, for `turns.sh`.
 
 mod case;
 mod cases;
 mod hand;
 mod inputs;
+mod interlocks;
 mod report;
 mod timing;
 
@@ -56,6 +58,7 @@ fn main() {
     match words[..] {
         ["--compare"] => compare(),
         ["--list"] => list(),
+        ["--interlocks"] => interlocks::time(),
         ["--count", operation, size, side, passes] => {
             count(operation, size, side, passes.parse().expect("a number of passes"));
         }
@@ -64,7 +67,8 @@ fn main() {
             time(words.first().map_or(Counts::none(), |path| Counts::of_file(path)));
         }
         _ => panic!(
-            "usage: bench [COUNTS | --compare | --list | --count OPERATION SIZE SIDE PASSES]"
+            "usage: bench [COUNTS | --compare | --list | --interlocks | \
+             --count OPERATION SIZE SIDE PASSES]"
         ),
     }
 }

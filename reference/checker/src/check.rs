@@ -10,6 +10,7 @@ use crate::input::{Input, GUARD};
 use crate::last_state::LastState;
 use crate::library;
 use crate::misread;
+use crate::misrewrite;
 use crate::misstep;
 use crate::of_eight;
 use crate::outcome::Outcome;
@@ -52,6 +53,7 @@ impl<'a> Check<'a> {
         if self.wrong.pending() {
             self.alter(input, &mut expected);
             self.misread(input, &mut expected);
+            self.misrewritten(input, &mut expected);
             self.misstepped(input, &mut expected);
             self.of_eight(input, &mut expected);
         }
@@ -99,6 +101,18 @@ impl<'a> Check<'a> {
         if let Some(misread) = misread.filter(|_| self.wrong(operation, Place::Misread(misreading)))
         {
             *expected = misread;
+        }
+    }
+
+    /// Expects the table of a wrong rewriter, if it belongs here and is another
+    /// one.
+    fn misrewritten(&self, input: &Input, expected: &mut Outcome) {
+        let operation = input.operation();
+        let Some(Place::Misrewrite(misrewriting)) = self.place(operation) else { return };
+        let wrong = misrewrite::outcome(misrewriting, input, expected);
+        let place = Place::Misrewrite(misrewriting);
+        if let Some(wrong) = wrong.filter(|_| self.wrong(operation, place)) {
+            *expected = wrong;
         }
     }
 

@@ -20,6 +20,7 @@ mod lent;
 mod library;
 mod lines;
 mod misread;
+mod misrewrite;
 mod misstep;
 mod of_eight;
 mod options;

@@ -44,6 +44,8 @@ pub struct SmallPlan {
     pub larger_views: usize,
     /// Rules of one node more are judged on every view of so many states.
     pub larger_states: usize,
+    /// On how many views each of them that is about the past is judged.
+    pub past_views: usize,
     /// Other schedules of each local trace, of up to 128 states.
     pub schedules: usize,
     /// Rules of one node more are walked on every local trace of so many places.
@@ -72,6 +74,7 @@ impl Plan {
                 every_recording_states: 3,
                 larger_views: 16,
                 larger_states: 0,
+                past_views: 200,
                 schedules: 2,
                 larger_places: 2,
                 larger_walks: 8,
@@ -93,6 +96,7 @@ impl Plan {
                 every_recording_nodes: 3,
                 every_recording_states: 4,
                 larger_views: 64,
+                past_views: 800,
                 larger_states: 3,
                 schedules: 8,
                 larger_places: 3,
@@ -122,6 +126,7 @@ impl Plan {
                 every_recording_states: 2,
                 larger_views: 1,
                 larger_states: 0,
+                past_views: 1,
                 schedules: 1,
                 larger_places: 1,
                 larger_walks: 1,

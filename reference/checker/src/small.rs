@@ -10,6 +10,7 @@ use std::sync::atomic::{AtomicU8, Ordering};
 use reference::generate::exhaustive;
 use reference::generate::formulas::{JudgeTable, RuleTable};
 use reference::generate::traces;
+use reference::model::formula::{Node, ATOM, NEXT, PREV, SINCE, TRUE};
 use reference::model::{self, limits};
 
 use crate::beginnings;
@@ -158,8 +159,12 @@ impl<'a> Small<'a> {
     /// Does a rule of one node more meet this view?
     fn meets(&self, number: usize, view: usize) -> bool {
         let (all, plan) = (self.views.views.len(), &self.plan.small);
-        let turn = (view * 1009 + number * plan.larger_views) % all;
-        self.views.views[view].length <= plan.larger_states || turn < plan.larger_views
+        let views = match is_past(&self.larger[number]) {
+            true => plan.past_views,
+            false => plan.larger_views,
+        };
+        let turn = (view * 1009 + number * views) % all;
+        self.views.views[view].length <= plan.larger_states || turn < views
     }
 
     /// Rules of one node more, from a number on: each on some views.
@@ -214,6 +219,14 @@ impl<'a> Small<'a> {
         }
         Ok(())
     }
+}
+
+/// Is a rule about the past: a prev or a since, and besides it true, atoms and
+/// next only?
+fn is_past(nodes: &[u32]) -> bool {
+    let kinds = || nodes.iter().map(|word| Node::of_word(*word).kind);
+    kinds().any(|kind| matches!(kind, PREV | SINCE))
+        && kinds().all(|kind| matches!(kind, TRUE | ATOM | NEXT | PREV | SINCE))
 }
 
 /// Recordings of a job of projections.

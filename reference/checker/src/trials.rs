@@ -500,6 +500,36 @@ fn each_beginning(check: &mut Check) -> Result<(), Difference> {
     Ok(())
 }
 
+/// Document 02, shorter rules about the past: counts with atom 0 own and atom 1
+/// foreign, and the verdicts on R and Z.
+fn past(check: &mut Check) -> Result<(), Difference> {
+    let [own, foreign] = [(ATOM, 0, 0), (ATOM, 1, 0)];
+    let trials: [(&[Listed], [usize; 2], [usize; 2], [usize; 2]); 12] = [
+        (&[foreign, (PREV, 0, 0)], [34, 26], [0, 0], [0, 0]),
+        (&[(TRUE, 0, 0), (PREV, 0, 0)], [30, 22], [0, 0], [0, 0]),
+        (&[(TRUE, 0, 0), (PREV, 0, 0), (NEXT, 1, 0)], [40, 36], [1, 1], [1, 0]),
+        (&[foreign, (PREV, 0, 0), (NEXT, 1, 0)], [44, 40], [1, 1], [1, 0]),
+        (&[own, (PREV, 0, 0), (NEXT, 1, 0)], [40, 36], [0, 0], [1, 0]),
+        (&[own, (SINCE, 0, 0)], [30, 14], [0, 0], [0, 0]),
+        (&[own, foreign, (SINCE, 1, 0)], [35, 35], [0, 0], [0, 0]),
+        (&[own, foreign, (SINCE, 0, 1)], [35, 35], [1, 1], [1, 0]),
+        (&[foreign, (SINCE, 0, 0), (NEXT, 1, 0)], [44, 44], [0, 0], [1, 0]),
+        (&[own, foreign, (SINCE, 0, 1), (NEXT, 2, 0)], [45, 45], [1, 1], [1, 0]),
+        (&[foreign, (PREV, 0, 0), own, (OR, 1, 2)], [37, 29], [0, 0], [0, 0]),
+        (&[own, (PREV, 0, 0), (NOT, 1, 0), (SINCE, 0, 2), (NEXT, 3, 0)], [52, 40], [1, 1], [1, 0]),
+    ];
+    for (nodes, counts, on_r, on_z) in trials {
+        let rule = rule(nodes);
+        node_counts(check, &rule, 1, counts)?;
+        verdict(check, &rule, &recording_r(), on_r)?;
+        verdict(check, &rule, &never_runs(&[0]), on_z)?;
+    }
+    // In state 0, before the first step of its controller, a since of what holds.
+    let rule = RuleTable { controller: 1, ..rule(&[foreign, (SINCE, 0, 0)]) };
+    node_counts(check, &rule, 2, [30, 14])?;
+    verdict(check, &rule, &recording_r(), [1, 1])
+}
+
 /// An input with as many pairs as we know of: at each of 128 places each of 31
 /// own atoms, since strong it is never so that one of them holds.
 pub fn widest() -> Input {
@@ -581,6 +611,7 @@ pub fn jobs<'a>() -> Vec<Job<'a>> {
         Box::new(traps),
         Box::new(mid_step),
         Box::new(each_beginning),
+        Box::new(past),
         Box::new(walked),
         Box::new(eleven_in_texts),
         Box::new(eleven_in_tables),

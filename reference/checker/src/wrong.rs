@@ -4,6 +4,7 @@
 use std::sync::atomic::{AtomicBool, Ordering};
 
 use crate::misread::Misreading;
+use crate::misrewrite::Misrewriting;
 use crate::misstep::Misstep;
 use crate::of_eight::OfEight;
 use crate::program::misprint::Misprint;
@@ -34,6 +35,8 @@ pub enum Place {
     Named,
     /// All of it, by a wrong reader of line endings.
     Misread(Misreading),
+    /// A rewritten table, by a wrong rewriter of rules about the past.
+    Misrewrite(Misrewriting),
     /// The pairs, by a wrong walk.
     Misstep(Misstep),
     /// What the program `why` or `longest` writes, by a wrong printer.
@@ -63,6 +66,7 @@ impl Place {
             Place::Length => "length",
             Place::Named => "named",
             Place::Misread(misreading) => misreading.name(),
+            Place::Misrewrite(misrewriting) => misrewriting.name(),
             Place::Misstep(misstep) => misstep.name(),
             Place::Misprint(misprint) => misprint.name(),
             Place::OfEight(of_eight) => of_eight.name(),
@@ -115,8 +119,19 @@ impl Wrong {
             let wrong = |place| Wrong { section: Section::Trials, operation, place };
             all.extend(libraries.map(place).map(wrong));
         }
+        all.extend(misrewriters());
         all
     }
+}
+
+/// The wrong rewriters of rules about the past: the trials have a rule for each.
+fn misrewriters() -> Vec<Wrong> {
+    let section = Section::Trials;
+    let wrong =
+        |operation| move |(wrong, _)| Wrong { section, operation, place: Place::Misrewrite(wrong) };
+    let short = Misrewriting::SHORT.map(wrong(Operation::RewriteShort));
+    let plain = Misrewriting::PLAIN.map(wrong(Operation::RewritePlain));
+    short.into_iter().chain(plain).collect()
 }
 
 /// The wrong printers of the program `why`.

@@ -2,7 +2,7 @@
 
 use super::random::Random;
 use crate::model::formula::{
-    operand_count, Node, ATOM, END, NEXT, NOT, OR, PREV, RUN, SINCE, TRUE, UNTIL,
+    operand_count, Node, ATOM, END, KIND_WORDS, NEXT, NOT, OR, PREV, RUN, SINCE, TRUE, UNTIL,
 };
 use crate::model::limits;
 
@@ -15,6 +15,18 @@ pub struct RuleTable {
     pub count: usize,
     /// The nodes; there may be fewer or more than the count.
     pub nodes: Vec<u32>,
+}
+
+/// The words of a node list such as "or 8 12; not 17".
+pub fn listed(list: &str) -> Vec<u32> {
+    let word = |node: &str| {
+        let fields: Vec<&str> = node.split_whitespace().collect();
+        let kind = KIND_WORDS.iter().position(|word| *word == fields[0].as_bytes());
+        let operand = |at| fields.get(at).map_or(0, |field: &&str| field.parse().unwrap());
+        let kind = kind.expect("one of the ten kinds") as u32;
+        Node { kind, first: operand(1), second: operand(2) }.word()
+    };
+    list.split(';').map(word).collect()
 }
 
 /// A table as the whole judge takes it.

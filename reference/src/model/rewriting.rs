@@ -46,18 +46,53 @@ struct Emitter {
     nodes: Vec<Node>,
 }
 
-/// "Tolerant: true, own atom, every until; not and or of tolerant operands;
-/// nothing else."
-pub fn stutter_tolerant(nodes: &[Node], own: u32) -> Vec<bool> {
+/// What a rewriting decides by tolerance; `p` and `q` say whether the operands
+/// of a node are tolerant. What stands here is as the documents have it: a
+/// wrong rewriter decides one thing otherwise.
+pub trait Decisions {
+    /// "Tolerant: true, own atom, every until; not and or of tolerant operands;
+    /// nothing else"; and by document 02 "Prev becomes tolerant", "Since of two
+    /// tolerant operands becomes tolerant".
+    fn tolerant(&self, kind: u32, own: bool, p: bool, q: bool) -> bool {
+        match kind {
+            TRUE | UNTIL | PREV => true,
+            ATOM => own,
+            NOT => p,
+            OR | SINCE => p && q,
+            _ => false,
+        }
+    }
+
+    /// "Since of two tolerant operands .. with image since a b for each reading
+    /// (2 nodes)", in the short rewriting.
+    fn short_since(&self, short: bool, p: bool, q: bool) -> bool {
+        short && p && q
+    }
+
+    /// "with its present image": no prev is shorter.
+    fn short_prev(&self, _short: bool, _p: bool) -> bool {
+        false
+    }
+
+    /// "a tolerant rule has no closing", in the short rewriting.
+    fn unclosed(&self, short: bool, _kind: u32, tolerant: bool) -> bool {
+        short && tolerant
+    }
+}
+
+/// As the documents have it.
+pub struct AsWorded;
+
+impl Decisions for AsWorded {}
+
+/// Which nodes of a rule are tolerant.
+fn stutter_tolerant(decisions: &dyn Decisions, nodes: &[Node], own: u32) -> Vec<bool> {
     let mut tolerant: Vec<bool> = Vec::new();
     for node in nodes {
-        tolerant.push(match node.kind {
-            TRUE | UNTIL => true,
-            ATOM => bit(own, node.first),
-            NOT => tolerant[node.first],
-            OR => tolerant[node.first] && tolerant[node.second],
-            _ => false,
-        });
+        let of = |operand: usize| tolerant.get(operand).copied().unwrap_or(false);
+        let (p, q) = (of(node.first), of(node.second));
+        let own = node.kind == ATOM && bit(own, node.first);
+        tolerant.push(decisions.tolerant(node.kind, own, p, q));
     }
     tolerant
 }
@@ -177,6 +212,16 @@ impl Emitter {
         Images { weak, strong }
     }
 
+    /// "since a b", of one reading.
+    fn short_since(&mut self, a: usize, b: usize) -> usize {
+        self.emit(&[(SINCE, a, b)])
+    }
+
+    /// Prev as the neighbouring recorded state, which no right rewriter emits.
+    fn neighbour(&mut self, a: usize) -> usize {
+        self.emit(&[(PREV, a, 0)])
+    }
+
     /// "Closing, from the rule's w: or 8 w; not ·; until 8 ·; not · (top
     /// weak); from its s: not s; or 8 ·; not ·; until 8 · (top strong) (8)."
     fn closing(&mut self, rule: Images) -> Images {
@@ -188,15 +233,28 @@ impl Emitter {
     }
 }
 
-/// The images of one rule node. `tolerant` says of each rule node whether the
-/// short rewriting takes it as tolerant; it is all no for the plain one.
-fn rewrite_node(
-    emitter: &mut Emitter,
-    node: Node,
+/// A rewriting: plain or short, for an own mask, with its decisions.
+struct Rewriter<'a> {
+    decisions: &'a dyn Decisions,
+    short: bool,
     own: u32,
-    images: &[Images],
-    tolerant: &[bool],
+    tolerant: Vec<bool>,
+}
+
+/// One image of a node of two operands, one after the other for both readings.
+fn both(
+    emitter: &mut Emitter,
+    a: Images,
+    b: Images,
+    image: fn(&mut Emitter, usize, usize) -> usize,
 ) -> Images {
+    let weak = image(emitter, a.weak, b.weak);
+    Images { weak, strong: image(emitter, a.strong, b.strong) }
+}
+
+/// The images of one rule node.
+fn rewrite_node(by: &Rewriter, emitter: &mut Emitter, node: Node, images: &[Images]) -> Images {
+    let Rewriter { decisions, short, own, ref tolerant } = *by;
     let (p, q) = (node.first, node.second);
     match node.kind {
         TRUE => emitter.itself(node),
@@ -204,36 +262,45 @@ fn rewrite_node(
         ATOM => emitter.input_atom(p),
         NOT => emitter.not(images[p]),
         OR => emitter.or(images[p], images[q]),
-        NEXT if tolerant[p] => emitter.short_next(images[p]),
+        NEXT if short && tolerant[p] => emitter.short_next(images[p]),
         NEXT => emitter.next(images[p]),
-        UNTIL if tolerant[p] && tolerant[q] => emitter.short_until(images[p], images[q]),
+        UNTIL if short && tolerant[p] && tolerant[q] => emitter.short_until(images[p], images[q]),
         UNTIL => emitter.until(images[p], images[q]),
-        PREV => {
-            Images { weak: emitter.prev(images[p].weak), strong: emitter.prev(images[p].strong) }
+        PREV if decisions.short_prev(short, tolerant[p]) => {
+            both(emitter, images[p], images[p], |emitter, a, _| emitter.neighbour(a))
         }
-        SINCE => Images {
-            weak: emitter.since(images[p].weak, images[q].weak),
-            strong: emitter.since(images[p].strong, images[q].strong),
-        },
+        PREV => both(emitter, images[p], images[p], |emitter, a, _| emitter.prev(a)),
+        SINCE if decisions.short_since(short, tolerant[p], tolerant[q]) => {
+            both(emitter, images[p], images[q], Emitter::short_since)
+        }
+        SINCE => both(emitter, images[p], images[q], Emitter::since),
         _ => unreachable!("an accepted rule has the first eight kinds only"),
     }
 }
 
 /// The plain or the short rewriting of an accepted rule.
 pub fn rewrite(short: bool, formula: &Formula, own: u32) -> Rewritten {
-    let tolerant = if short {
-        stutter_tolerant(&formula.nodes, own)
-    } else {
-        vec![false; formula.nodes.len()]
-    };
+    rewrite_by(&AsWorded, short, formula, own)
+}
+
+/// The rewriting of an accepted rule with these decisions.
+pub fn rewrite_by(
+    decisions: &dyn Decisions,
+    short: bool,
+    formula: &Formula,
+    own: u32,
+) -> Rewritten {
+    let tolerant = stutter_tolerant(decisions, &formula.nodes, own);
+    let by = Rewriter { decisions, short, own, tolerant };
     let mut emitter = Emitter { nodes: Vec::new() };
     emitter.emit(OPENING);
     let mut images: Vec<Images> = Vec::new();
     for node in &formula.nodes {
-        let image = rewrite_node(&mut emitter, *node, own, &images, &tolerant);
+        let image = rewrite_node(&by, &mut emitter, *node, &images);
         images.push(image);
     }
     let rule = formula.nodes.len() - 1;
-    let tops = if tolerant[rule] { images[rule] } else { emitter.closing(images[rule]) };
+    let unclosed = decisions.unclosed(short, formula.nodes[rule].kind, by.tolerant[rule]);
+    let tops = if unclosed { images[rule] } else { emitter.closing(images[rule]) };
     Rewritten { nodes: emitter.nodes, weak_top: tops.weak, strong_top: tops.strong }
 }

@@ -125,6 +125,10 @@ impl Emitter<'_> {
         self.emit(SINCE, reach, node)
     }
 
+    fn short_since(&mut self, p: Image, q: Image) -> (usize, usize) {
+        (self.emit(SINCE, p.weak, q.weak), self.emit(SINCE, p.strong, q.strong))
+    }
+
     fn images(&mut self, word: u32, images: &[Image], own: u32, short: bool) -> Image {
         let (first, second) = (node::first(word), node::second(word));
         let (p, q) = (images[first], images[second]);
@@ -147,8 +151,12 @@ impl Emitter<'_> {
             NEXT => (self.plain_next(p), false),
             UNTIL if short && p.tolerant && q.tolerant => (self.short_until(p, q), true),
             UNTIL => (self.plain_until(p, q), true),
-            PREV => ((self.prev(p.weak), self.prev(p.strong)), false),
-            _ => ((self.since(p.weak, q.weak), self.since(p.strong, q.strong)), false),
+            PREV => ((self.prev(p.weak), self.prev(p.strong)), true),
+            _ if short && p.tolerant && q.tolerant => (self.short_since(p, q), true),
+            _ => {
+                let images = (self.since(p.weak, q.weak), self.since(p.strong, q.strong));
+                (images, p.tolerant && q.tolerant)
+            }
         };
         Image { weak, strong, tolerant }
     }

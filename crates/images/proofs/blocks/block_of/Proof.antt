@@ -50,7 +50,11 @@ returns-10 c = form-block (c .before .args .form) 9 _ (search needs) refl
 
 returns-11 : tie.Need-returns-11
 unfolding forms kindOf pick
-returns-11 c = form-block (c .before .args .form) 10 _ (only-last (c .before .args .form) (c .before .pre) (search needs) (search needs) (search needs) (search needs) (search needs) (search needs) (search needs) (search needs) (search needs) (search needs)) refl
+returns-11 c = form-block (c .before .args .form) 10 _ (search needs) refl
+
+returns-12 : tie.Need-returns-12
+unfolding forms kindOf pick
+returns-12 c = form-block (c .before .args .form) 11 _ (only-last (c .before .args .form) (c .before .pre) (search needs) (search needs) (search needs) (search needs) (search needs) (search needs) (search needs) (search needs) (search needs) (search needs) (search needs)) refl
 
 pub block-of-spec : {M : Type 1} → statement M
 block-of-spec =
@@ -66,4 +70,5 @@ block-of-spec =
     returns-8
     returns-9
     returns-10
-    returns-11)
+    returns-11
+    returns-12)
