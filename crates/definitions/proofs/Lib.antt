@@ -5,5 +5,6 @@ pub mod RefusalTrials
 pub mod MidStepTrials
 pub mod EndingTrials
 pub mod EvidenceTrials
+pub mod EarlyTrials
 pub mod OneLineTrials
 pub mod LongestTrials
