@@ -66,7 +66,7 @@ module _ (S R : Recording) (B : Beginning S R) (good : recordingRefusal R ≡ 0)
       (none-or-else (masksRefusal [] (masksOf S)) _ (ap (masksRefusal []) (B .masks) ∙ K .eachMask)
       (none-or-else (statesRefusal (S .controllers) (masksOf S) 0 0 (statesOf S)) (recordingLinesRefusal S) states-fine lines-fine))
 
-first-beginning : (R : Recording) (n : ℕ) → 0 < n → n ≤ R .count → Beginning (firstStates n R) R
+pub first-beginning : (R : Recording) (n : ℕ) → 0 < n → n ≤ R .count → Beginning (firstStates n R) R
 first-beginning R n some few = record { some = some; few = few; controllers = refl; masks = refl; states = sym (take-take n (R .count) (R .states) few) }
 
 -- "with N lowered"

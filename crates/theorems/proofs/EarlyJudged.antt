@@ -6,7 +6,7 @@ use mathlib.Core.Bool.{Bool, true, false, not, _&&_, _||_, true≢false}
 use mathlib.Core.List.{List, [], _∷_}
 use lib.ListN.{length, getD}
 use lib.Dec.{ltb}
-use borrow.Author.Tests.{ltb-true}
+use borrow.Author.Tests.{ltb-true, not-true}
 use Rattle.definitions.specs.Limits.{accepted}
 use Rattle.definitions.specs.Bounded.{pick, bit, bitOf}
 use Rattle.definitions.specs.Nodes.{Node}
@@ -17,16 +17,16 @@ use Rattle.definitions.specs.Readings.{local, readFrom, verdict, Verdicts, loca
 use Rattle.definitions.specs.Evidence.{nodeAt, wantedRows, decides, evidence}
 use Rattle.definitions.specs.Early.{firstStates, begins, beginsFor, announced}
 use Rattle.definitions.specs.Operations.{Answer, answer, judgeLocalAnswer, evidenceOf}
-use Rattle.theorems.proofs.Choice.{by-test, both-true}
+use Rattle.theorems.proofs.Choice.{by-test, both-true, bit-injective}
 use Rattle.theorems.proofs.RuleNodes.{rule-nodes}
 use Rattle.theorems.proofs.RecordingLaws.{checked}
-use Rattle.theorems.proofs.Beginnings.{first-states-accepted}
+use Rattle.theorems.proofs.Beginnings.{first-beginning, first-states-accepted}
 use Rattle.theorems.proofs.ScheduleIndependence.{Accepted, local-judging, Lent, rewrittenAnswer, rewritten-judging}
 use Rattle.theorems.proofs.EvidencePairs.{all-from}
 use Rattle.theorems.proofs.EvidencePromise.{SameBit, SameBits, promise-longer}
 use Rattle.theorems.proofs.EvidenceJudged.{chosen, nodes-some, places-some}
 use Rattle.theorems.proofs.Early.{Kept, GoesOn, own-bit, verdict-stays, strong-verdict-is-weak}
-use Rattle.theorems.proofs.EarlyRecordings.{begins-for, begins-each, first-states-begin, local-trace-goes-on}
+use Rattle.theorems.proofs.EarlyRecordings.{begins-for, begins-each, beginning-begins, local-trace-goes-on}
 
 -- the verdict of a rule on the local trace of its controller, weak or strong
 abbrev pub own : Rule → Recording → Bool → Bool
@@ -38,12 +38,6 @@ pub record Stays (r : Rule) (B : Recording) (l₁ l₂ : Lent) (value : ℕ) : T
   pub locally : judgeLocalAnswer r B ≡ answer accepted (value ∷ value ∷ [])
   pub plain : rewrittenAnswer false r B l₁ ≡ answer accepted (value ∷ value ∷ [])
   pub short : rewrittenAnswer true r B l₂ ≡ answer accepted (value ∷ value ∷ [])
-
-bit-is : (x y : Bool) → bit x ≡ bit y → x ≡ y
-bit-is true true e = refl
-bit-is true false e = absurd (omega arith)
-bit-is false true e = absurd (omega arith)
-bit-is false false e = refl
 
 chosen-is : (weak : Bool) (f : Bool → Bool) → chosen weak (answer accepted (bit (f true) ∷ bit (f false) ∷ [])) ≡ bit (f weak)
 unfolding answer pick
@@ -92,16 +86,9 @@ module _ (r : Rule) (A B : Recording) (goodA : Accepted r A) (goodB : Accepted r
       ∙ verdict-stays (maskOf A (r .controller)) (localTrace A (r .controller)) (localTrace B (r .controller)) goes-on
       (nodesIn (r .count) (r .nodes)) (length (nodesIn (r .count) (r .nodes)) - 1) weak (places-some r A goodA true) e
 
-  settled-stays : (weak : Bool) → chosen weak (judgeLocalAnswer r A) ≡ bit (not weak) → (l₁ l₂ : Lent) → Stays r B l₁ l₂ (bit (not weak))
-  settled-stays weak e = settled-each r B goodB weak (own-stays weak (bit-is (own r A weak) (not weak) (sym (chosen-own r A goodA weak) ∙ e)))
-
-  -- "a strong yes on the first K states stays a strong yes on every accepted longer recording": on each such recording both verdicts are yes
-  pub strong-yes-stays : chosen false (judgeLocalAnswer r A) ≡ 1 → (l₁ l₂ : Lent) → Stays r B l₁ l₂ 1
-  strong-yes-stays = settled-stays false
-
-  -- "a weak no stays a weak no alike": both verdicts are no
-  pub weak-no-stays : chosen true (judgeLocalAnswer r A) ≡ 0 → (l₁ l₂ : Lent) → Stays r B l₁ l₂ 0
-  weak-no-stays = settled-stays true
+  -- for either reading: a strong yes or a weak no
+  pub settled-stays : (weak : Bool) → chosen weak (judgeLocalAnswer r A) ≡ bit (not weak) → (l₁ l₂ : Lent) → Stays r B l₁ l₂ (bit (not weak))
+  settled-stays weak e = settled-each r B goodB weak (own-stays weak (bit-injective (own r A weak) (not weak) (sym (chosen-own r A goodA weak) ∙ e)))
 
   -- verdicts that may be announced are those of every such recording
   pub announced-stays : announced (localVerdicts (nodesIn (r .count) (r .nodes)) (maskOf A (r .controller)) (localTrace A (r .controller))) ≡ true →
@@ -110,19 +97,19 @@ module _ (r : Rule) (A B : Recording) (goodA : Accepted r A) (goodB : Accepted r
       let same : (weak : Bool) → own r A weak ≡ not weak → judgeLocalAnswer r B ≡ judgeLocalAnswer r A
       = λ weak h. settled-answer r B goodB weak (own-stays weak h) ∙ sym (settled-answer r A goodA weak h) in
       by-test (own r A false) (same false) (λ z. same true (not-true (own r A true) (rw z at e)))
-    where
-      not-true : (x : Bool) → not x ≡ true → x ≡ false
-      not-true true h = absurd (true≢false (sym h))
-      not-true false h = refl
 
--- what document 02 asks of the longer recording is enough for every controller of A
-pub begins-strong-yes : (r : Rule) (A B : Recording) → Accepted r A → Accepted r B → begins A B ≡ true → chosen false (judgeLocalAnswer r A) ≡ 1 → (l₁ l₂ : Lent) → Stays r B l₁ l₂ 1
-begins-strong-yes r A B goodA goodB b =
-    strong-yes-stays r A B goodA goodB (begins-each (r .controller) A B b ((checked A (goodA .recording)) .someState) (goodA .controller))
+-- ---- what document 02 asks of the longer recording is enough for each controller
+module _ (r : Rule) (A B : Recording) (goodA : Accepted r A) (goodB : Accepted r B) (b : begins A B ≡ true) where
+  begins-controller : beginsFor (r .controller) A B ≡ true
+  begins-controller = begins-each (r .controller) A B b ((checked A (goodA .recording)) .someState) (goodA .controller)
 
-pub begins-weak-no : (r : Rule) (A B : Recording) → Accepted r A → Accepted r B → begins A B ≡ true → chosen true (judgeLocalAnswer r A) ≡ 0 → (l₁ l₂ : Lent) → Stays r B l₁ l₂ 0
-begins-weak-no r A B goodA goodB b =
-    weak-no-stays r A B goodA goodB (begins-each (r .controller) A B b ((checked A (goodA .recording)) .someState) (goodA .controller))
+  -- "a strong yes on the first K states stays a strong yes on every accepted longer recording": both verdicts are yes there, however it is judged
+  pub strong-yes-stays : chosen false (judgeLocalAnswer r A) ≡ 1 → (l₁ l₂ : Lent) → Stays r B l₁ l₂ 1
+  strong-yes-stays = settled-stays r A B goodA goodB begins-controller false
+
+  -- "a weak no stays a weak no alike": both verdicts are no
+  pub weak-no-stays : chosen true (judgeLocalAnswer r A) ≡ 0 → (l₁ l₂ : Lent) → Stays r B l₁ l₂ 0
+  weak-no-stays = settled-stays r A B goodA goodB begins-controller true
 
 -- ---- one recording, and its first K states
 module _ (r : Rule) (R : Recording) (K : ℕ) (good : Accepted r R) (some : 0 < K) (few : K ≤ R .count) where
@@ -132,7 +119,7 @@ module _ (r : Rule) (R : Recording) (K : ℕ) (good : Accepted r R) (some : 0 < 
   -- what may be announced after K states is what the whole recording gets
   pub first-states-settle : announced (localVerdicts (nodesIn (r .count) (r .nodes)) (maskOf R (r .controller)) (localTrace (firstStates K R) (r .controller))) ≡ true →
       judgeLocalAnswer r R ≡ judgeLocalAnswer r (firstStates K R)
-  first-states-settle = announced-stays r (firstStates K R) R first-accepted good (first-states-begin R K some few (r .controller))
+  first-states-settle = announced-stays r (firstStates K R) R first-accepted good (beginning-begins (firstStates K R) R (first-beginning R K some few) (r .controller))
 
 -- ---- what it has to do with the readings behind a verdict
 -- B has the own mask of A, no fewer steps, and "those bits": in the readings that decide the weak or the strong verdict on A
@@ -149,7 +136,7 @@ module _ (weak : Bool) (r : Rule) (A B : Recording) (goodA : Accepted r A) (good
       (ap (λ (m : ℕ). verdict (local m (localTrace B (r .controller))) (nodesIn (r .count) (r .nodes)) (length (nodesIn (r .count) (r .nodes)) - 1) weak) (E .mask)
       ∙ promise-longer (maskOf A (r .controller)) (localTrace A (r .controller)) (localTrace B (r .controller)) (nodesIn (r .count) (r .nodes)) weak
       (rule-nodes r (goodA .rule)) (nodes-some r A goodA weak) (places-some r A goodA weak) (E .long) (E .bits)
-      (bit-is (own r A weak) (not weak) (sym (chosen-own r A goodA weak) ∙ e)))
+      (bit-injective (own r A weak) (not weak) (sym (chosen-own r A goodA weak) ∙ e)))
 
   -- and every recording that begins like A is such a one
   pub begins-has-evidence : beginsFor (r .controller) A B ≡ true → HasEvidence weak r A B

@@ -10,12 +10,13 @@ use lib.Dec.{eqb, ltb, leb}
 use lib.Bits.{bitAnd}
 use borrow.Author.Tests.{lt-ltb, leb-true, leb-false, le-leb, eqb-true, eq-eqb}
 use Rattle.definitions.specs.Bounded.{pick, bit, bitOf, every}
-use Rattle.definitions.specs.Recordings.{Recording, recordingRefusal, atomsOf, marksOf, marked, maskOf, stateAt, wordAt, runsAt}
+use Rattle.definitions.specs.Recordings.{Recording, recordingRefusal, atomsOf, marksOf, marked, statesOf, maskOf, stateAt, wordAt, runsAt}
 use Rattle.definitions.specs.Projection.{runStates, afterLast, placesOf, localTrace}
-use Rattle.definitions.specs.Early.{firstStates, begins, sameMask, sameMarks, sameWords, sameOwnLast, beginsFor}
-use Rattle.theorems.proofs.Choice.{by-test, both-true, every-at, every-yes}
+use Rattle.definitions.specs.Early.{begins, sameMask, sameMarks, sameWords, sameOwnLast, beginsFor}
+use Rattle.theorems.proofs.Choice.{by-test, both-true, bit-injective, every-at, every-yes}
 use Rattle.theorems.proofs.Walk.{count}
 use Rattle.theorems.proofs.RecordingLaws.{Recorded, recorded}
+use Rattle.theorems.proofs.Beginnings.{Beginning}
 use Rattle.theorems.proofs.ProjectionLaws.{lastState, law, run-count, bit-and}
 use Rattle.theorems.proofs.Early.{GoesOn}
 
@@ -152,12 +153,6 @@ pub record BeginsFor (c : ℕ) (A B : Recording) : Type 0 where
   pub words : (k : ℕ) → suc k < A .count → marked c (stateAt A k) ≡ true → wordAt A k ≡ wordAt B k
   pub ownLast : bitAnd (wordAt A (A .count - 1)) (maskOf A c) ≡ bitAnd (wordAt B (A .count - 1)) (maskOf A c)
 
-bit-same : (x y : Bool) → eqb (bit x) (bit y) ≡ true → x ≡ y
-bit-same true true e = refl
-bit-same true false e = let z : _≡_ {A = ℕ} 1 0 = eqb-true 1 0 e in absurd (omega arith)
-bit-same false true e = let z : _≡_ {A = ℕ} 0 1 = eqb-true 0 1 e in absurd (omega arith)
-bit-same false false e = refl
-
 if-true : (x y : Bool) → (not x || y) ≡ true → x ≡ true → y ≡ true
 if-true true y h e = h
 if-true false y h e = absurd (true≢false (sym e))
@@ -179,8 +174,8 @@ module _ (c : ℕ) (A B : Recording) where
       record {
         longer = leb-true (A .count) (B .count) l;
         mask = eqb-true (maskOf A c) (maskOf B c) mask;
-        marks = λ k h. bit-same (marked c (stateAt A k)) (marked c (stateAt B k))
-            (every-at (λ k. eqb (bit (marked c (stateAt A k))) (bit (marked c (stateAt B k)))) (A .count - 1 - 0) 0 k marks (omega arith) (omega arith));
+        marks = λ k h. bit-injective (marked c (stateAt A k)) (marked c (stateAt B k)) (eqb-true (bit (marked c (stateAt A k))) (bit (marked c (stateAt B k)))
+            (every-at (λ k. eqb (bit (marked c (stateAt A k))) (bit (marked c (stateAt B k)))) (A .count - 1 - 0) 0 k marks (omega arith) (omega arith)));
         words = λ k h r. eqb-true (wordAt A k) (wordAt B k) (if-true (marked c (stateAt A k)) (eqb (wordAt A k) (wordAt B k))
             (every-at (λ k. not (marked c (stateAt A k)) || eqb (wordAt A k) (wordAt B k)) (A .count - 1 - 0) 0 k words (omega arith) (omega arith)) r);
         ownLast = eqb-true (bitAnd (wordAt A (A .count - 1)) (maskOf A c)) (bitAnd (wordAt B (A .count - 1)) (maskOf A c)) own;
@@ -192,9 +187,9 @@ module _ (c : ℕ) (A B : Recording) where
         le-leb (A .count) (B .count) (b .longer),
         eq-eqb (maskOf A c) (maskOf B c) (b .mask),
         every-yes (λ k. eqb (bit (marked c (stateAt A k))) (bit (marked c (stateAt B k)))) (A .count - 1 - 0) 0
-        (λ k x y. eq-eqb (bit (marked c (stateAt A k))) (bit (marked c (stateAt B k))) (ap bit (b .marks k (omega arith)))),
+            (λ k x y. eq-eqb (bit (marked c (stateAt A k))) (bit (marked c (stateAt B k))) (ap bit (b .marks k (omega arith)))),
         every-yes (λ k. not (marked c (stateAt A k)) || eqb (wordAt A k) (wordAt B k)) (A .count - 1 - 0) 0
-        (λ k x y. if-intro (marked c (stateAt A k)) (eqb (wordAt A k) (wordAt B k)) (λ r. eq-eqb (wordAt A k) (wordAt B k) (b .words k (omega arith) r))),
+            (λ k x y. if-intro (marked c (stateAt A k)) (eqb (wordAt A k) (wordAt B k)) (λ r. eq-eqb (wordAt A k) (wordAt B k) (b .words k (omega arith) r))),
         eq-eqb (bitAnd (wordAt A (A .count - 1)) (maskOf A c)) (bitAnd (wordAt B (A .count - 1)) (maskOf A c)) (b .ownLast),
       )
 
@@ -224,14 +219,14 @@ module _ (c : ℕ) (A B : Recording) where
       (every-at (λ k. eqb (marksOf (stateAt A k)) (marksOf (stateAt B k))) (A .count - 1 - 0) 0 k marks (omega arith) (omega arith))))
       (λ k l. eqb-true (wordAt A k) (wordAt B k) (every-at (λ k. eqb (wordAt A k) (wordAt B k)) (A .count - 0) 0 k words (omega arith) (omega arith)))
 
--- ---- "the first K states" of a recording begin it
-module _ (R : Recording) (K : ℕ) (some : 0 < K) (few : K ≤ R .count) where
-  state-first : (k : ℕ) → k < K → stateAt (firstStates K R) k ≡ stateAt R k
-  state-first k l = getD-take K (R .states) k 0 l ∙ sym (getD-take (R .count) (R .states) k 0 (omega arith))
+-- ---- a beginning of a recording, and so "the first K states" of it, begin it
+module _ (S R : Recording) (B : Beginning S R) where
+  state-first : (k : ℕ) → k < S .count → stateAt S k ≡ stateAt R k
+  state-first k l = ap (λ (ss : List ℕ). getD ss k 0) (B .states) ∙ getD-take (S .count) (statesOf R) k 0 l
 
-  pub first-states-begin : (c : ℕ) → beginsFor c (firstStates K R) R ≡ true
-  first-states-begin c =
-      same-words-begin c (firstStates K R) R some few refl
+  pub beginning-begins : (c : ℕ) → beginsFor c S R ≡ true
+  beginning-begins c =
+      same-words-begin c S R (B .some) (B .few) (ap (λ (ms : List ℕ). getD ms c 0) (B .masks))
       (λ k l. ap (marked c) (state-first k (omega arith))) (λ k l. ap (λ (s : ℕ). atomsOf s) (state-first k l))
 
 -- ---- the local trace of a controller goes on
