@@ -1,5 +1,5 @@
 -- Demand 3 for a caller of the face, from the contracts in src/lib.rt alone: whatever answers and leaves what they say, gives the same verdicts.
-use mathlib.Core.Path.{_≡_, refl, sym, ap, ap₂, _∙_}
+use mathlib.Core.Path.{_≡_, sym, ap, ap₂, _∙_}
 use mathlib.Core.Bool.{Bool, true, false}
 use mathlib.Core.List.{List, [], _∷_}
 use Prim.Native.Nat.{ℕ, _-_, _≤_}
@@ -59,7 +59,7 @@ ownVerdicts r mask places = record {
 }
 
 -- ---- an answer of two verdicts is the case of them
-judged-is : (v : Judgement) (u : Verdicts) → judged v ≡ answer accepted (bit (u .weak) ∷ bit (u .strong) ∷ []) → v ≡ Judged u
+pub judged-is : (v : Judgement) (u : Verdicts) → judged v ≡ answer accepted (bit (u .weak) ∷ bit (u .strong) ∷ []) → v ≡ Judged u
 unfolding judged answer pick
 judged-is (Judged v) u e =
     ap Judged (ap₂ (λ (weak strong : Bool). record { weak = weak; strong = strong })

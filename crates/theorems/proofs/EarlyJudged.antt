@@ -4,7 +4,7 @@ use Prim.Native.Nat.{ℕ, suc, _-_, _≤_, _<_}
 use native.Mathlib.Omega.{arith}
 use mathlib.Core.Bool.{Bool, true, false, not, _&&_, _||_, true≢false}
 use mathlib.Core.List.{List, [], _∷_}
-use lib.ListN.{length, getD}
+use lib.ListN.{length}
 use lib.Dec.{ltb}
 use borrow.Author.Tests.{ltb-true, not-true}
 use Rattle.definitions.specs.Limits.{accepted}
@@ -16,7 +16,7 @@ use Rattle.definitions.specs.Projection.{localTrace}
 use Rattle.definitions.specs.Readings.{local, readFrom, verdict, Verdicts, localVerdicts}
 use Rattle.definitions.specs.Evidence.{nodeAt, wantedRows, decides, evidence}
 use Rattle.definitions.specs.Early.{firstStates, begins, beginsFor, announced}
-use Rattle.definitions.specs.Operations.{Answer, answer, judgeLocalAnswer, evidenceOf}
+use Rattle.definitions.specs.Operations.{answer, verdictValues, judgeLocalAnswer, evidenceOf}
 use Rattle.theorems.proofs.Choice.{by-test, both-true, bit-injective}
 use Rattle.theorems.proofs.RuleNodes.{rule-nodes}
 use Rattle.theorems.proofs.RecordingLaws.{checked}
@@ -32,6 +32,10 @@ use Rattle.theorems.proofs.EarlyRecordings.{begins-for, begins-each, be
 abbrev pub own : Rule → Recording → Bool → Bool
 own r R weak =
     verdict (local (maskOf R (r .controller)) (localTrace R (r .controller))) (nodesIn (r .count) (r .nodes)) (length (nodesIn (r .count) (r .nodes)) - 1) weak
+
+-- both
+abbrev pub verdictsOn : Rule → Recording → Verdicts
+verdictsOn r R = localVerdicts (nodesIn (r .count) (r .nodes)) (maskOf R (r .controller)) (localTrace R (r .controller))
 
 -- every way of judging r over B answers `value` for both verdicts
 pub record Stays (r : Rule) (B : Recording) (l₁ l₂ : Lent) (value : ℕ) : Type 0 where
@@ -61,17 +65,17 @@ module _ (r : Rule) (R : Recording) (good : Accepted r R) where
   chosen-own : (weak : Bool) → chosen weak (judgeLocalAnswer r R) ≡ bit (own r R weak)
   chosen-own weak = ap (chosen weak) (local-judging r R good) ∙ chosen-is weak (own r R)
 
-  settled-answer : (weak : Bool) → own r R weak ≡ not weak → judgeLocalAnswer r R ≡ answer accepted (bit (not weak) ∷ bit (not weak) ∷ [])
-  settled-answer weak e =
-      let both = both-settled (own r R) own-strong-is-weak weak e in
-      local-judging r R good ∙ rw (both true, both false)
+  settled-both : (weak : Bool) → own r R weak ≡ not weak → (d : Bool) → own r R d ≡ not weak
+  settled-both = both-settled (own r R) own-strong-is-weak
 
   settled-each : (weak : Bool) → own r R weak ≡ not weak → (l₁ l₂ : Lent) → Stays r R l₁ l₂ (bit (not weak))
-  settled-each weak e l₁ l₂ = let a = settled-answer weak e in record {
-    locally = a;
-    plain = rewritten-judging false r R (l₁ .table) (l₁ .rows) good (l₁ .fullTable) (l₁ .fullRows) ∙ a;
-    short = rewritten-judging true r R (l₂ .table) (l₂ .rows) good (l₂ .fullTable) (l₂ .fullRows) ∙ a;
-  }
+  settled-each weak e l₁ l₂ =
+      let a : judgeLocalAnswer r R ≡ answer accepted (bit (not weak) ∷ bit (not weak) ∷ []) = local-judging r R good ∙ rw (settled-both weak e true, settled-both weak e false) in
+      record {
+        locally = a;
+        plain = rewritten-judging false r R (l₁ .table) (l₁ .rows) good (l₁ .fullTable) (l₁ .fullRows) ∙ a;
+        short = rewritten-judging true r R (l₂ .table) (l₂ .rows) good (l₂ .fullTable) (l₂ .fullRows) ∙ a;
+      }
 
 -- ---- recordings that begin alike
 module _ (r : Rule) (A B : Recording) (goodA : Accepted r A) (goodB : Accepted r B) (b : beginsFor (r .controller) A B ≡ true) where
@@ -91,12 +95,16 @@ module _ (r : Rule) (A B : Recording) (goodA : Accepted r A) (goodB : Accepted r
   settled-stays weak e = settled-each r B goodB weak (own-stays weak (bit-injective (own r A weak) (not weak) (sym (chosen-own r A goodA weak) ∙ e)))
 
   -- verdicts that may be announced are those of every such recording
-  pub announced-stays : announced (localVerdicts (nodesIn (r .count) (r .nodes)) (maskOf A (r .controller)) (localTrace A (r .controller))) ≡ true →
-      judgeLocalAnswer r B ≡ judgeLocalAnswer r A
-  announced-stays e =
-      let same : (weak : Bool) → own r A weak ≡ not weak → judgeLocalAnswer r B ≡ judgeLocalAnswer r A
-      = λ weak h. settled-answer r B goodB weak (own-stays weak h) ∙ sym (settled-answer r A goodA weak h) in
+  pub announced-same : announced (verdictsOn r A) ≡ true → verdictsOn r B ≡ verdictsOn r A
+  announced-same e =
+      let same : (weak : Bool) → own r A weak ≡ not weak → verdictsOn r B ≡ verdictsOn r A
+      = λ weak h. let h′ = own-stays weak h in
+      rw (settled-both r A goodA weak h true, settled-both r A goodA weak h false, settled-both r B goodB weak h′ true, settled-both r B goodB weak h′ false) in
       by-test (own r A false) (same false) (λ z. same true (not-true (own r A true) (rw z at e)))
+
+  pub announced-stays : announced (verdictsOn r A) ≡ true → judgeLocalAnswer r B ≡ judgeLocalAnswer r A
+  announced-stays e =
+      local-judging r B goodB ∙ (ap (λ (v : Verdicts). answer accepted (verdictValues v)) (announced-same e) ∙ sym (local-judging r A goodA))
 
 -- ---- what document 02 asks of the longer recording is enough for each controller
 module _ (r : Rule) (A B : Recording) (goodA : Accepted r A) (goodB : Accepted r B) (b : begins A B ≡ true) where
@@ -117,8 +125,7 @@ module _ (r : Rule) (R : Recording) (K : ℕ) (good : Accepted r R) (some : 0 < 
   first-accepted = record { rule = good .rule; recording = first-states-accepted R K (good .recording) some few; controller = good .controller }
 
   -- what may be announced after K states is what the whole recording gets
-  pub first-states-settle : announced (localVerdicts (nodesIn (r .count) (r .nodes)) (maskOf R (r .controller)) (localTrace (firstStates K R) (r .controller))) ≡ true →
-      judgeLocalAnswer r R ≡ judgeLocalAnswer r (firstStates K R)
+  pub first-states-settle : announced (verdictsOn r (firstStates K R)) ≡ true → judgeLocalAnswer r R ≡ judgeLocalAnswer r (firstStates K R)
   first-states-settle = announced-stays r (firstStates K R) R first-accepted good (beginning-begins (firstStates K R) R (first-beginning R K some few) (r .controller))
 
 -- ---- what it has to do with the readings behind a verdict

@@ -4,7 +4,7 @@
 //! bits gets the same verdict: for all small local traces, and for random
 //! recordings with the other bits turned over.
 
-mod promise;
+pub mod promise;
 mod walks;
 
 use reference::generate::exhaustive;
@@ -160,7 +160,7 @@ impl<'a> Evidence<'a> {
 }
 
 /// A rule and a recording that has its controller, both accepted.
-fn accepted(random: &mut Random) -> (RuleTable, RecordingTable) {
+pub fn accepted(random: &mut Random) -> (RuleTable, RecordingTable) {
     let recording = traces::recording(random, CONTROLLERS, STATES);
     let controller = random.below(recording.controllers);
     (formulas::rule_for(random, controller, RULE_NODES), recording)

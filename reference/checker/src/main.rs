@@ -9,6 +9,7 @@
 mod caught;
 mod check;
 mod difference;
+mod early;
 mod endings;
 mod evidence;
 mod expected;

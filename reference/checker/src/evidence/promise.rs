@@ -21,7 +21,7 @@ use crate::wrong::Place;
 const OTHERS: usize = 4;
 
 /// The bits that pairs name, at each of so many places.
-fn named_bits(nodes: &[u32], pairs: &[u32], places: usize) -> Vec<u32> {
+pub fn named_bits(nodes: &[u32], pairs: &[u32], places: usize) -> Vec<u32> {
     let mut bits = vec![0; places];
     for pair in pairs {
         let (place, node) = (*pair as usize / RULE_NODES, *pair as usize % RULE_NODES);
@@ -31,12 +31,12 @@ fn named_bits(nodes: &[u32], pairs: &[u32], places: usize) -> Vec<u32> {
 }
 
 /// The three verdicts of a reading, the first value of a pair or the second.
-fn chosen(verdicts: [[usize; 2]; 3], weak: bool) -> [usize; 3] {
+pub fn chosen(verdicts: [[usize; 2]; 3], weak: bool) -> [usize; 3] {
     verdicts.map(|verdict| verdict[usize::from(!weak)])
 }
 
 /// The library's verdicts, accepted as the model accepts them.
-fn verdicts(
+pub fn verdicts(
     whole: &mut Whole,
     rule: &RuleTable,
     recording: &RecordingTable,
