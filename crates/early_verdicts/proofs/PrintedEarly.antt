@@ -14,7 +14,7 @@ use Rattle.definitions.specs.Bounded.{pick}
 use Rattle.definitions.specs.Tables.{Rule, ruleOf, nodesIn}
 use Rattle.definitions.specs.Recordings.{Recording, maskOf, controllerRefusal}
 use Rattle.definitions.specs.Projection.{localTrace}
-use Rattle.definitions.specs.Readings.{Verdicts}
+use Rattle.definitions.specs.Readings.{whole, Verdicts}
 use Rattle.definitions.specs.Rewriting.{rewriting}
 use Rattle.definitions.specs.Early.{announced}
 use Rattle.definitions.specs.Lines.{tab, newline, restOf, digits}
@@ -70,7 +70,8 @@ places-without n =
 after-first : (n : ℕ) (more : List ℕ) → restOf (localText n ++ more) ≡ more
 unfolding localText
 after-first n more =
-    let e : localText n ++ more ≡ (localWord ++ (tab ∷ digits n)) ++ (newline ∷ more) = rw (append-assoc) in
+    let e : localText n ++ more ≡ (localWord ++ (tab ∷ digits n)) ++ (newline ∷ more)
+    = ap (λ (l : List ℕ). localWord ++ (tab ∷ l)) (append-assoc (digits n) (newline ∷ []) more) in
     ap restOf e ∙ split-rest newline more (localWord ++ (tab ∷ digits n)) (places-without n)
 
 -- ---- what is printed of two accepted texts
@@ -98,14 +99,15 @@ module _ (rule t : List ℕ) (e : jointNumber rule t ≡ 0) where
   abbrev places : ℕ
   places = length (localTrace (recordingOfText t) ((scanRule rule) .controller))
 
+  line-is : (short : Bool) (word : List ℕ) →
+      rewrittenText word (whole (recordingOfText t) ((scanRule rule) .controller)) (rewriting short mask (nodesIn ((scanRule rule) .count) ((scanRule rule) .words)))
+      ≡ countedLine word (countOf short rule mask) (verdictsOn (ruleOfText rule) (recordingOfText t))
+  unfolding rewrittenText
+  line-is short word = ap (countedLine word (countOf short rule mask)) (verdicts-agree short (ruleOfText rule) (recordingOfText t) tables-accepted)
+
   prints : textsOutput rule t ≡ answerLines places (countOf false rule mask) (countOf true rule mask) (verdictsOn (ruleOfText rule) (recordingOfText t))
-  unfolding textsOutput judgedText ownText rewrittenText pick
-  prints =
-      rw (
-        eq-eqb (jointNumber rule t) 0 e,
-        verdicts-agree false (ruleOfText rule) (recordingOfText t) tables-accepted,
-        verdicts-agree true (ruleOfText rule) (recordingOfText t) tables-accepted,
-      )
+  unfolding textsOutput judgedText ownText pick
+  prints = rw (eq-eqb (jointNumber rule t) 0 e, line-is false plainWord, line-is true shortWord)
 
 -- ---- the text that is cut after state K
 module _ (rule s t : List ℕ) (K : ℕ) (e : jointNumber rule t ≡ 0) (b : TextBeginning s t K) where
