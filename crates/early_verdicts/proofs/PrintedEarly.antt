@@ -1,7 +1,7 @@
 -- Verdicts that may be announced early, for those who read what the program prints: of a recording text that is cut after state K, with N lowered, and
 -- of the whole text.
 use mathlib.Core.Path.{_≡_, refl, sym, ap, _∙_}
-use Prim.Native.Nat.{ℕ, _≤_, _<_}
+use Prim.Native.Nat.{ℕ, _≤_}
 use native.Mathlib.Omega.{arith}
 use mathlib.Core.Bool.{Bool, true, false}
 use mathlib.Core.List.{List, _∷_, _++_, [], append-assoc}
@@ -21,17 +21,17 @@ use Rattle.definitions.specs.Lines.{tab, newline, restOf, digits}
 use Rattle.definitions.specs.RuleText.{scanRule}
 use Rattle.definitions.specs.RecordingText.{scanRecording, jointNumber}
 use Rattle.definitions.specs.Program.{ruleIn, recordingIn, localWord, ownWord, plainWord, shortWord, verdictsText, localText, ownText, rewrittenText, judgedText, scanned, textsOutput, programOutput}
-use Rattle.theorems.proofs.SplitLaws.{Without, without-none, without-cons, without-append, split-rest}
+use Rattle.theorems.proofs.SplitLaws.{Without, without-cons, split-rest}
 use Rattle.theorems.proofs.DecimalLaws.{digits-without}
 use Rattle.theorems.proofs.RoundTrips.{read-accepted}
 use Rattle.theorems.proofs.ScheduleIndependence.{Accepted}
 use Rattle.theorems.proofs.Beginnings.{Beginning}
 use Rattle.theorems.proofs.TextBeginnings.{TextBeginning, text-beginning-accepted, text-beginning}
-use Rattle.theorems.proofs.EarlyRecordings.{BeginsFor, begins-for, beginning-begins}
+use Rattle.theorems.proofs.EarlyRecordings.{begins-for, beginning-begins}
 use Rattle.theorems.proofs.EarlyJudged.{verdictsOn, announced-same}
 use Rattle.judging.proofs.RewrittenLaws.{verdicts-agree}
 use Rattle.program.specs.Output.{OutputIs}
-use Rattle.program.proofs.RecordingAccepted.{TextsAccepted, texts-accepted, recording-fine}
+use Rattle.program.proofs.RecordingAccepted.{texts-accepted, recording-fine}
 
 -- a line of a rewriting: its word, its node count, the verdicts
 abbrev pub countedLine : (word : List ℕ) (count : ℕ) (v : Verdicts) → List ℕ

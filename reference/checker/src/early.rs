@@ -106,10 +106,12 @@ impl<'a> Early<'a> {
         let rules = &self.rules[first..self.rules.len().min(first + RULES)];
         for (number, nodes) in (first..).zip(rules) {
             let found = self.verdicts(number, nodes)?;
+            let settled = found.iter().filter(|verdicts| is_announced(**verdicts)).count();
+            check.count(Operation::Early, settled as u64, 0);
             for pair in &self.pairs {
                 let [mut before, after] = [pair.first, pair.second].map(|view| found[view]);
                 if is_announced(before) && pair.lacks.is_none() {
-                    check.count(Operation::Early, 1, 0);
+                    check.count(Operation::Early, 0, 1);
                     if check.wrong(Operation::Early, Place::Value) {
                         before[0] ^= 1;
                     }
@@ -214,7 +216,7 @@ fn stays(
     if !is_announced(before) {
         return Ok(());
     }
-    check.count(Operation::Early, 1, 0);
+    check.count(Operation::Early, 1, 1);
     if check.wrong(Operation::Early, Place::Value) {
         before[0] ^= 1;
     }
