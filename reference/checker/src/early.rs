@@ -9,13 +9,12 @@ use reference::generate::formulas::RuleTable;
 use reference::generate::random::Random;
 use reference::generate::traces::{self, RecordingTable};
 use reference::model::early::{announced, missing, Asked};
-use reference::model::limits::PAIRS;
 use reference::model::trace::{State, Trace};
 use reference::model::Verdict;
 
 use crate::check::Check;
 use crate::difference::Difference;
-use crate::evidence::promise::{chosen, named_bits, verdicts};
+use crate::evidence::promise::{keeps, verdicts, Promised};
 use crate::evidence::{accepted, far_reaching};
 use crate::input::Input;
 use crate::library::{self, Whole};
@@ -138,7 +137,7 @@ impl<'a> Early<'a> {
             let (rule, whole) = if far { far_reaching(&mut random) } else { accepted(&mut random) };
             beginnings(check, &mut random, &rule, &whole)?;
             for weak in [true, false] {
-                evidence_stays(check, &mut random, &rule, &whole, weak)?;
+                keeps(check, &mut random, &rule, &whole, weak, Promised::NoShorter)?;
             }
         }
         Ok(())
@@ -224,43 +223,4 @@ fn stays(
         return Ok(());
     }
     Err(Difference::new(format!("verdicts {before:?}, and later {after:?}"), input()))
-}
-
-/// A strong yes or a weak no, and other recordings with no fewer steps that
-/// agree in the readings behind it: it stays.
-fn evidence_stays(
-    check: &mut Check,
-    random: &mut Random,
-    rule: &RuleTable,
-    recording: &RecordingTable,
-    weak: bool,
-) -> Result<(), Difference> {
-    let mut whole = Whole::new();
-    let settled = usize::from(!weak);
-    if chosen(verdicts(&mut whole, rule, recording)?, weak)[0] != settled {
-        return Ok(());
-    }
-    let mut pairs = vec![0; PAIRS];
-    let (formula, trace) = (library::rule(rule), library::recording(recording));
-    let (_, [count]) = ragyvosin::evidence(formula, trace, weak, &mut pairs);
-    let places = traces::places(recording, rule.controller).len();
-    let mut kept = named_bits(&rule.nodes, &pairs[..count], places);
-    let mut expected = settled;
-    if check.wrong(Operation::Promise, Place::Value) {
-        expected ^= 1;
-    }
-    if kept.iter().any(|bits| *bits != 0) && check.place(Operation::Promise) == Some(Place::Content)
-    {
-        kept.fill(0);
-    }
-    for _ in 0..4 {
-        let other = traces::lengthened(random, recording, rule.controller, &kept);
-        let found = chosen(verdicts(&mut whole, rule, &other)?, weak);
-        check.count(Operation::Promise, 1, 0);
-        if found != [expected; 3] {
-            let place = format!("the verdict, weak {weak}, with those bits: {found:?}");
-            return Err(Difference::new(place, format!("{rule:?}, {recording:?}, {other:?}")));
-        }
-    }
-    Ok(())
 }

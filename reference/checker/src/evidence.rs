@@ -16,7 +16,7 @@ use reference::model::limits::{CONTROLLERS, PAIRS, RULE_NODES, STATES};
 
 use crate::check::Check;
 use crate::difference::Difference;
-use crate::evidence::promise::{keeps, Small};
+use crate::evidence::promise::{keeps, Promised, Small};
 use crate::evidence::walks::{telling_recordings, telling_rules, Walker};
 use crate::input::Input;
 use crate::library;
@@ -133,7 +133,7 @@ impl<'a> Evidence<'a> {
             let (rule, recording) =
                 if far { far_reaching(&mut random) } else { accepted(&mut random) };
             for weak in [true, false] {
-                keeps(check, &mut random, &rule, &recording, weak)?;
+                keeps(check, &mut random, &rule, &recording, weak, Promised::AsLong)?;
             }
         }
         Ok(())
