@@ -6,6 +6,7 @@
 //! zero after another refusal, and the content followed by zeros when
 //! accepted. What is lent past the full size is never touched.
 
+pub mod early;
 pub mod evidence;
 pub mod formula;
 pub mod limits;

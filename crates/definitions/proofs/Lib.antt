@@ -6,6 +6,7 @@ pub mod MidStepTrials
 pub mod BeginningTrials
 pub mod EndingTrials
 pub mod EvidenceTrials
+pub mod EarlyTrials
 pub mod OneLineTrials
 pub mod LongestTrials
 pub mod ElevenTrials

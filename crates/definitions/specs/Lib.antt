@@ -6,6 +6,7 @@ pub mod Recordings
 pub mod Projection
 pub mod Readings
 pub mod Evidence
+pub mod Early
 pub mod Rewriting
 pub mod Lines
 pub mod RuleText

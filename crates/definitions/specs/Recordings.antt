@@ -19,6 +19,10 @@ pub record Recording : Type 0 where
 abbrev pub recordingOf : (controllers count : ℕ) (masks states : List ℕ) → Recording
 recordingOf controllers count masks states = record { controllers = controllers; count = count; masks = masks; states = states }
 
+-- document 02: "the first K states", a "beginning of an accepted recording, of one state or more and with N lowered"
+abbrev pub firstStates : (K : ℕ) (R : Recording) → Recording
+firstStates K R = recordingOf (R .controllers) K (R .masks) (R .states)
+
 -- a state in lent space is one word: the word of 32 atoms in its low half, the run marks above, bit c for controller c
 abbrev pub stateOf : (marks word : ℕ) → ℕ
 stateOf marks word = marks * 2 ^ atomCount + word

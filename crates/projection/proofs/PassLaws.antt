@@ -12,12 +12,11 @@ use lib.Seq.{length-take-le, getD-take, take-at, set-split, take-suc-set, take-s
 use borrow.Author.Needs.{needs}
 use Rattle.definitions.specs.Limits.{maxStates, atomCount}
 use Rattle.definitions.specs.Bounded.{pick, bit, bitOf, tabulate}
-use Rattle.definitions.specs.Recordings.{Recording, recordingOf, atomsOf, marked, maskOf, stateAt, runsAt}
+use Rattle.definitions.specs.Recordings.{Recording, recordingOf, firstStates, atomsOf, marked, maskOf, stateAt, runsAt}
 use Rattle.definitions.specs.Projection.{localTrace}
 use Rattle.theorems.proofs.Choice.{by-test, pick-true, pick-false}
-use Rattle.theorems.proofs.Beginnings.{lowered}
 use Rattle.theorems.proofs.LastMarks.{last-adds-none}
-use Rattle.theorems.proofs.OneStateMore.{OneMore, one-lowered, longer-idle, longer-ran, longer-runs}
+use Rattle.theorems.proofs.OneStateMore.{OneMore, first-states-more, longer-idle, longer-ran, longer-runs}
 use Rattle.lent.specs.Space.{laid}
 use Rattle.mark_words.specs.Marks.{yesMarks}
 use Rattle.mark_words.proofs.WordLaws.{bit-shr}
@@ -151,7 +150,7 @@ pub record Passing (N mask c : ℕ) (states entry places : List ℕ) (held : Pas
   pub low : 1 ≤ k
   pub high : k ≤ N
   pub kept : length places ≡ length entry
-  pub holds : (R : Recording) → R .states ≡ states → maskOf R c ≡ mask → Holds (lowered R k) c entry held places
+  pub holds : (R : Recording) → R .states ≡ states → maskOf R c ≡ mask → Holds (firstStates k R) c entry held places
 
 -- there is one
 abbrev pub sole : (mask c : ℕ) (states : List ℕ) → Recording
@@ -166,14 +165,14 @@ module _ (N mask c : ℕ) (states entry : List ℕ) (P : Projectable N c states 
     low = omega arith;
     high = P .someState;
     kept = refl;
-    holds = λ R e m. f (lowered R 1) c entry refl (getD-take 1 (R .states) 0 0 (omega arith) ∙ ap (λ (l : List ℕ). getD l 0 0) e) m;
+    holds = λ R e m. f (firstStates 1 R) c entry refl (getD-take 1 (R .states) 0 0 (omega arith) ∙ ap (λ (l : List ℕ). getD l 0 0) e) m;
   }
 
   module _ (places : List ℕ) (held : Pass) (k : ℕ) (G : Passing N mask c states entry places held k) where
     pub passing-kept : length places ≡ length entry
     passing-kept = G .kept
 
-    held-sole : Holds (lowered (sole mask c states) k) c entry held places
+    held-sole : Holds (firstStates k (sole mask c states)) c entry held places
     held-sole = G .holds (sole mask c states) refl (sole-mask mask c states)
 
     pub passing-ready : k < N → Ready c held places
@@ -181,7 +180,7 @@ module _ (N mask c : ℕ) (states entry : List ℕ) (P : Projectable N c states 
       controller = P .controller;
       whole = held-sole .row .whole;
       more = omega (arith, held-sole .row .count, P .fewStates);
-      few = held-few (lowered (sole mask c states) k) c entry held places held-sole;
+      few = held-few (firstStates k (sole mask c states)) c entry held places held-sole;
       room = omega (arith, G .kept, P .room);
     }
 
@@ -192,8 +191,8 @@ module _ (N mask c : ℕ) (states entry : List ℕ) (P : Projectable N c states 
       high = omega arith;
       kept = l ∙ G .kept;
       holds = λ R e m.
-          let o : OneMore (lowered R k) (lowered R (k + 1)) (getD states k 0) = rw (← e) (one-lowered R k (omega (arith, G .low))) in
-          t (lowered R k) (lowered R (k + 1)) entry o m (G .holds R e m);
+          let o : OneMore (firstStates k R) (firstStates (k + 1) R) (getD states k 0) = rw (← e) (first-states-more R k (omega (arith, G .low))) in
+          t (firstStates k R) (firstStates (k + 1) R) entry o m (G .holds R e m);
     }
 
     pub passing-end : N ≤ k → Passed N mask c states entry held places
@@ -201,7 +200,7 @@ module _ (N mask c : ℕ) (states entry : List ℕ) (P : Projectable N c states 
         let n : N ≡ k = omega (arith, G .high) in
         record {
           whole = held-sole .row .whole;
-          below = omega (arith, held-below (lowered (sole mask c states) k) c entry held places held-sole, G .kept, P .fewStates, P .room);
+          below = omega (arith, held-below (firstStates k (sole mask c states)) c entry held places held-sole, G .kept, P .fewStates, P .room);
           holds = λ R e m. rw n (G .holds R e m);
         }
 

@@ -5,10 +5,9 @@ use native.Mathlib.Omega.{arith}
 use mathlib.Core.List.{List}
 use lib.ListN.{length, length-take}
 use Rattle.definitions.specs.Limits.{maxStates}
-use Rattle.definitions.specs.Recordings.{Recording, maskOf, runsAt, recordingRefusal}
+use Rattle.definitions.specs.Recordings.{Recording, firstStates, maskOf, runsAt, recordingRefusal}
 use Rattle.definitions.specs.Projection.{localTrace}
 use Rattle.theorems.proofs.RecordingLaws.{Checked, checked}
-use Rattle.theorems.proofs.Beginnings.{lowered}
 use Rattle.theorems.proofs.LastMarks.{last-adds-none}
 use Rattle.theorems.proofs.RunStates.{few-runs}
 use Rattle.lent.specs.Space.{laid}
@@ -20,7 +19,7 @@ use Rattle.projection.proofs.PassLaws.{sole, sole-mask, held-length}
 
 module _ (N mask c : ℕ) (states entry : List ℕ) (held : Pass) (places : List ℕ) (H : Passed N mask c states entry held places) where
   abbrev R : Recording
-  R = lowered (sole mask c states) N
+  R = firstStates N (sole mask c states)
 
   whole : Holds R c entry held places
   whole = H .holds (sole mask c states) refl (sole-mask mask c states)

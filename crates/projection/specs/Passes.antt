@@ -5,9 +5,8 @@ use mathlib.Core.List.{List, [], _∷_, _++_}
 use lib.ListN.{length, take, drop}
 use Rattle.definitions.specs.Limits.{maxStates, atomCount}
 use Rattle.definitions.specs.Bounded.{tabulate}
-use Rattle.definitions.specs.Recordings.{Recording, stateAt, runsAt, maskOf}
+use Rattle.definitions.specs.Recordings.{Recording, firstStates, stateAt, runsAt, maskOf}
 use Rattle.definitions.specs.Projection.{localTrace}
-use Rattle.theorems.proofs.Beginnings.{lowered}
 use Rattle.lent.specs.Space.{laid}
 use Rattle.mark_words.specs.Marks.{yesMarks}
 use Rattle.rows.specs.Marks.{marks, Whole, Made}
@@ -35,7 +34,7 @@ pub record Ready (c : ℕ) (p : Pass) (places : List ℕ) : Type 0 where
 pub record Passed (N mask c : ℕ) (states entry : List ℕ) (p : Pass) (places : List ℕ) : Type 0 where
   pub whole : Whole (p .run)
   pub below : p .placed < length places
-  pub holds : (R : Recording) → R .states ≡ states → maskOf R c ≡ mask → Holds (lowered R N) c entry p places
+  pub holds : (R : Recording) → R .states ≡ states → maskOf R c ≡ mask → Holds (firstStates N R) c entry p places
 
 -- all places of the local trace are laid
 pub record Closed (p : Pass) (before after : List ℕ) : Type 0 where

@@ -1,2 +1,3 @@
 pub mod SameVerdicts
 pub mod SameEvidence
+pub mod EarlyVerdicts

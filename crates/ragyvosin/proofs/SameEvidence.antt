@@ -38,13 +38,17 @@ pub record Explained (weak : Bool) (r : Rule) (R : Recording) (e : Explanation) 
 abbrev pub countBy : Explanation → ℕ
 countBy e = getD ((explained e) .values) 0 0
 
--- S has the own mask and the local length of R, and "those bits": at the place and the node of each of the pairs, of which a word is the place times
--- 64 and the node, its local trace has the bit that R's has
+-- "those bits": at the place and the node of each of the pairs, of which a word is the place times 64 and the node, the local trace of S has the bit
+-- that R's has
+abbrev pub BitsAt : (r : Rule) (R S : Recording) (count : ℕ) (pairs : List ℕ) → Type 0
+BitsAt r R S count pairs = (i : ℕ) → i < count →
+    SameBit (nodesIn (r .count) (r .nodes)) (localTrace R (r .controller)) (localTrace S (r .controller)) (getD pairs i 0 / maxRuleNodes) (getD pairs i 0 % maxRuleNodes)
+
+-- S has the own mask and the local length of R, and "those bits"
 pub record SameAt (r : Rule) (R S : Recording) (count : ℕ) (pairs : List ℕ) : Type 0 where
   pub mask : maskOf S (r .controller) ≡ maskOf R (r .controller)
   pub long : length (localTrace R (r .controller)) ≡ length (localTrace S (r .controller))
-  pub bits : (i : ℕ) → i < count →
-      SameBit (nodesIn (r .count) (r .nodes)) (localTrace R (r .controller)) (localTrace S (r .controller)) (getD pairs i 0 / maxRuleNodes) (getD pairs i 0 % maxRuleNodes)
+  pub bits : BitsAt r R S count pairs
 
 -- the verdict that was chosen
 abbrev pub chosenOf : Bool → Verdicts → Bool
@@ -91,18 +95,18 @@ module _ (weak : Bool) (r : Rule) (R : Recording) (e : Explanation) (pairs : Lis
       ∙ List·getD-append (map pairWord fs) (replicate (maxPairs - length (map pairWord fs)) 0 ++ drop maxPairs (x .lent)) 0 i (omega (arith, length-map fs pairWord))
 
   -- the bits at those words are the bits of the definition's pairs
-  bits-of : (S : Recording) → SameAt r R S (countBy e) pairs →
+  pub bits-of : (S : Recording) → BitsAt r R S (countBy e) pairs →
       SameBits (nodesIn (r .count) (r .nodes)) (localTrace R (r .controller)) (localTrace S (r .controller)) fs
-  bits-of S s =
+  bits-of S bits =
       each-word (SameBit (nodesIn (r .count) (r .nodes)) (localTrace R (r .controller)) (localTrace S (r .controller))) fs (pairs-low r R A weak)
-      (λ i h. rw (word-at i h) at (s .bits i (omega (arith, count-is))))
+      (λ i h. rw (word-at i h) at (bits i (omega (arith, count-is))))
 
 -- ---- a judgement with the verdicts of the rule itself has its chosen verdict
 own-chosen : (weak : Bool) (r : Rule) (mask : ℕ) (places : List ℕ) → chosenOf weak (ownVerdicts r mask places) ≡ ownVerdict weak r mask places
 own-chosen true r mask places = refl
 own-chosen false r mask places = refl
 
-gets : (weak : Bool) (r : Rule) (R : Recording) (v : Judgement) (value : Bool) → Accepted r R → JudgedLocally r R v →
+pub gets : (weak : Bool) (r : Rule) (R : Recording) (v : Judgement) (value : Bool) → Accepted r R → JudgedLocally r R v →
     ownVerdict weak r (maskOf R (r .controller)) (localTrace R (r .controller)) ≡ value → Gets weak value v
 gets weak r R v value A j e = record {
   verdicts = ownVerdicts r (maskOf R (r .controller)) (localTrace R (r .controller));
@@ -120,7 +124,7 @@ pub same-bits-same-verdict : (weak : Bool) (r : Rule) (R S : Recording) → Acce
 same-bits-same-verdict weak r R S A B e pairs x s localR localS plainS shortS l m p t =
     let same : ownVerdict weak r (maskOf S (r .controller)) (localTrace S (r .controller)) ≡ ownVerdict weak r (maskOf R (r .controller)) (localTrace R (r .controller))
     = ap (λ (mask : ℕ). ownVerdict weak r mask (localTrace S (r .controller))) (s .mask)
-    ∙ trace-promise r R A weak (localTrace S (r .controller)) (s .long) (bits-of weak r R e pairs A x S s) in
+    ∙ trace-promise r R A weak (localTrace S (r .controller)) (s .long) (bits-of weak r R e pairs A x S (s .bits)) in
     let value : Bool = ownVerdict weak r (maskOf R (r .controller)) (localTrace R (r .controller)) in
     record {
       localOfFirst = gets weak r R localR value A l refl;

@@ -1,5 +1,5 @@
 -- Demand 3 for a caller of the face, from the contracts in src/lib.rt alone: whatever answers and leaves what they say, gives the same verdicts.
-use mathlib.Core.Path.{_≡_, refl, sym, ap, ap₂, _∙_}
+use mathlib.Core.Path.{_≡_, sym, ap, ap₂, _∙_}
 use mathlib.Core.Bool.{Bool, true, false}
 use mathlib.Core.List.{List, [], _∷_}
 use Prim.Native.Nat.{ℕ, _-_, _≤_}
@@ -12,6 +12,7 @@ use Rattle.definitions.specs.Recordings.{Recording, maskOf}
 use Rattle.definitions.specs.Projection.{localTrace}
 use Rattle.definitions.specs.Readings.{local, verdict}
 use Rattle.definitions.specs.Operations.{Answer, answer, rewriteAnswer, rewriteTable, judgeRecordingAnswer, judgeLocalAnswer}
+use Rattle.theorems.proofs.Choice.{bit-injective}
 use Rattle.theorems.proofs.ScheduleIndependence.{Accepted, rewritten-judging, local-judging, local-judging-same}
 use Rattle.judges.specs.Verdicts.{answerOf as judged}
 use Rattle.judges.specs.declared.verdicts.Verdicts.{Verdicts}
@@ -58,13 +59,7 @@ ownVerdicts r mask places = record {
 }
 
 -- ---- an answer of two verdicts is the case of them
-bit-injective : (y z : Bool) → bit y ≡ bit z → y ≡ z
-bit-injective true true e = refl
-bit-injective true false e = absurd (omega (arith, e))
-bit-injective false true e = absurd (omega (arith, e))
-bit-injective false false e = refl
-
-judged-is : (v : Judgement) (u : Verdicts) → judged v ≡ answer accepted (bit (u .weak) ∷ bit (u .strong) ∷ []) → v ≡ Judged u
+pub judged-is : (v : Judgement) (u : Verdicts) → judged v ≡ answer accepted (bit (u .weak) ∷ bit (u .strong) ∷ []) → v ≡ Judged u
 unfolding judged answer pick
 judged-is (Judged v) u e =
     ap Judged (ap₂ (λ (weak strong : Bool). record { weak = weak; strong = strong })

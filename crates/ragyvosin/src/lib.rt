@@ -1,7 +1,8 @@
 // The operations of document 01, reading a rule in one line, and the readings behind a verdict: each answer and each lent slice is what the definition
 // of its operation says, on every input. `ruleRead` to `rewritten` list document 01's number and values for each case of an answer.
 // What these contracts give together: `same-verdicts-all-four-times` (proofs/SameVerdicts), schedule independence, and `same-bits-same-verdict`
-// (proofs/SameEvidence), what the readings behind a verdict promise.
+// (proofs/SameEvidence), what the readings behind a verdict promise; `announced-verdicts-stay` (proofs/EarlyVerdicts), which verdicts stay when the
+// recording goes on.
 ghost use mathlib.Core.Path.{_≡_};
 ghost use mathlib.Core.Bool.{true, false};
 ghost use Rattle.definitions.specs.Tables.{ruleOf, tableOf};

@@ -8,7 +8,7 @@ use lib.Seq.{take-take}
 use borrow.Author.Tests.{le-ltb, le-leb}
 use Rattle.definitions.specs.Limits.{maxControllers, maxStates}
 use Rattle.definitions.specs.Bounded.{pick}
-use Rattle.definitions.specs.Recordings.{Recording, recordingOf, masksOf, statesOf, stateRefusal, recordingHeadingRefusal, masksRefusal, statesRefusal, recordingLinesRefusal, recordingRefusal}
+use Rattle.definitions.specs.Recordings.{Recording, firstStates, masksOf, statesOf, stateRefusal, recordingHeadingRefusal, masksRefusal, statesRefusal, recordingLinesRefusal, recordingRefusal}
 use Rattle.theorems.proofs.Choice.{or-else-none, none-or-else}
 use Rattle.theorems.proofs.RecordingLaws.{Checked, checked}
 
@@ -65,12 +65,9 @@ module _ (S R : Recording) (B : Beginning S R) (good : recordingRefusal R ≡ 0)
       (none-or-else (masksRefusal [] (masksOf S)) _ (ap (masksRefusal []) (B .masks) ∙ K .eachMask)
       (none-or-else (statesRefusal (S .controllers) (masksOf S) 0 0 (statesOf S)) (recordingLinesRefusal S) states-fine lines-fine))
 
+pub first-beginning : (R : Recording) (n : ℕ) → 0 < n → n ≤ R .count → Beginning (firstStates n R) R
+first-beginning R n some few = record { some = some; few = few; controllers = refl; masks = refl; states = sym (take-take n (R .count) (R .states) few) }
+
 -- "with N lowered"
-abbrev pub lowered : Recording → ℕ → Recording
-lowered R n = recordingOf (R .controllers) n (R .masks) (R .states)
-
-lowered-beginning : (R : Recording) (n : ℕ) → 0 < n → n ≤ R .count → Beginning (lowered R n) R
-lowered-beginning R n some few = record { some = some; few = few; controllers = refl; masks = refl; states = sym (take-take n (R .count) (R .states) few) }
-
-pub lowered-accepted : (R : Recording) (n : ℕ) → recordingRefusal R ≡ 0 → 0 < n → n ≤ R .count → recordingRefusal (lowered R n) ≡ 0
-lowered-accepted R n good some few = beginnings-accepted (lowered R n) R (lowered-beginning R n some few) good
+pub first-states-accepted : (R : Recording) (n : ℕ) → recordingRefusal R ≡ 0 → 0 < n → n ≤ R .count → recordingRefusal (firstStates n R) ≡ 0
+first-states-accepted R n good some few = beginnings-accepted (firstStates n R) R (first-beginning R n some few) good

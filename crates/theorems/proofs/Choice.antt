@@ -6,7 +6,7 @@ use native.Mathlib.Decide.{ℕ-discrete}
 use mathlib.Core.Bool.{Bool, true, false, _&&_, _||_, true≢false}
 use lib.Dec.{eqb}
 use borrow.Author.Tests.{eqb-true, eqb-false, eq-eqb}
-use Rattle.definitions.specs.Bounded.{pick, orElse, someOf, everyOf}
+use Rattle.definitions.specs.Bounded.{pick, bit, orElse, someOf, everyOf}
 
 -- by cases of a test, with what it answered
 pub by-test : {P : Type 0} (z : Bool) → (z ≡ true → P) → (z ≡ false → P) → P
@@ -24,6 +24,13 @@ both-false false b e = (refl, e)
 pub other-false : (a b : Bool) → (a && b) ≡ false → a ≡ true → b ≡ false
 other-false true b e t = e
 other-false false b e t = absurd (true≢false (sym t))
+
+-- yes and no are told apart by their bits
+pub bit-injective : (y z : Bool) → bit y ≡ bit z → y ≡ z
+bit-injective true true e = refl
+bit-injective true false e = absurd (omega arith)
+bit-injective false true e = absurd (omega arith)
+bit-injective false false e = refl
 
 module _ {A : Type 0} where
   pub pick-true : (z : Bool) (a b : A) → z ≡ true → pick z a b ≡ a

@@ -60,10 +60,10 @@ chosen-answered true f g e = ap bit e
 chosen-answered false f g e = ap bit e
 
 module _ (r : Rule) (R : Recording) (good : Accepted r R) (weak : Bool) where
-  nodes-some : 0 < length (ruleNodes r)
+  pub nodes-some : 0 < length (ruleNodes r)
   nodes-some = omega (arith, rule-length r (good .rule), rule-some r (good .rule))
 
-  places-some : 0 < length (places r R)
+  pub places-some : 0 < length (places r R)
   places-some =
       omega (arith, trace-length (runsAt R (r .controller)) (wordAt R) (maskOf R (r .controller)) (R .count) (recorded R (r .controller) (good .recording) (good .controller)))
 

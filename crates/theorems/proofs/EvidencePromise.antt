@@ -42,7 +42,7 @@ not-settled false true e = absurd (true≢false (sym e))
 not-settled false false e = refl
 
 -- past the end a reading is not settled
-unsettled : {P : Type 0} (d : Bool) → d ≡ not d → P
+pub unsettled : {P : Type 0} (d : Bool) → d ≡ not d → P
 unsettled true e = absurd (true≢false e)
 unsettled false e = absurd (true≢false (sym e))
 

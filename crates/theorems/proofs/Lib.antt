@@ -33,6 +33,9 @@ pub mod EvidenceTurns
 pub mod EvidencePairs
 pub mod EvidencePromise
 pub mod EvidenceJudged
+pub mod Early
+pub mod EarlyRecordings
+pub mod EarlyJudged
 pub mod SplitLaws
 pub mod EndingLaws
 pub mod DecimalLaws

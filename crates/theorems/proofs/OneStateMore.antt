@@ -11,10 +11,10 @@ use lib.ListN.{length, take, getD, length-append, length-map}
 use lib.Seq.{take-take, take-at, getD-take}
 use borrow.Author.Tests.{lt-ltb}
 use Rattle.definitions.specs.Bounded.{tabulate}
-use Rattle.definitions.specs.Recordings.{Recording, atomsOf, marked, maskOf, stateAt, wordAt, runsAt}
+use Rattle.definitions.specs.Recordings.{Recording, firstStates, atomsOf, marked, maskOf, stateAt, wordAt, runsAt}
 use Rattle.definitions.specs.Projection.{runStates, afterLast, placesOf, localTrace}
 use Rattle.theorems.proofs.Tabulations.{tabulate-same, tabulate-snoc}
-use Rattle.theorems.proofs.Beginnings.{Beginning, lowered}
+use Rattle.theorems.proofs.Beginnings.{Beginning}
 use Rattle.theorems.proofs.LastMarks.{last-adds-none}
 use Rattle.theorems.proofs.RunStates.{after-snoc, after-near, runs-on, runs-off, runs-same, words-same}
 
@@ -24,9 +24,9 @@ pub record OneMore (S R : Recording) (s : ℕ) : Type 0 where
   pub count : R .count ≡ S .count + 1
   pub state : stateAt R (S .count) ≡ s
 
--- "with N lowered", and lowered by one less
-pub one-lowered : (R : Recording) (k : ℕ) → 0 < k → OneMore (lowered R k) (lowered R (k + 1)) (getD (R .states) k 0)
-one-lowered R k some = record {
+-- the first states, and one more of them
+pub first-states-more : (R : Recording) (k : ℕ) → 0 < k → OneMore (firstStates k R) (firstStates (k + 1) R) (getD (R .states) k 0)
+first-states-more R k some = record {
   beginning = record { some = some; few = omega arith; controllers = refl; masks = refl; states = sym (take-take k (k + 1) (R .states) (omega arith)) };
   count = refl;
   state = getD-take (k + 1) (R .states) k 0 (omega arith);
@@ -68,7 +68,7 @@ module _ (S R : Recording) (s : ℕ) (O : OneMore S R s) (c : ℕ) where
   runs = runStates (markOf S c) j
 
   words : map (wordAt R) runs ≡ map (wordAt S) runs
-  words = words-same (markOf S c) (wordAt R) (wordAt S) j (λ k h. word-before k (omega arith))
+  words = words-same (markOf S c) (wordAt R) (wordAt S) j (λ k h r. word-before k (omega arith))
 
   longer : localTrace R c ≡ placesOf (wordAt R) (maskOf R c) (runStates (markOf S c) (j + 1))
   longer =

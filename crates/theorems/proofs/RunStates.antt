@@ -41,11 +41,17 @@ module _ (run : ℕ → Bool) where
   after-near zero = omega arith
   after-near (suc k) = runs-next (λ rs. afterLast rs ≤ suc k) k (rw (after-snoc (runStates run k) k) (omega arith)) (omega (arith, after-near k))
 
-  pub words-same : (f g : ℕ → ℕ) (n : ℕ) → ((k : ℕ) → k < n → f k ≡ g k) → map f (runStates run n) ≡ map g (runStates run n)
+  -- the words of the runs below n
+  pub words-same : (f g : ℕ → ℕ) (n : ℕ) → ((k : ℕ) → k < n → run k ≡ true → f k ≡ g k) → map f (runStates run n) ≡ map g (runStates run n)
+  unfolding pick
   words-same f g zero h = refl
   words-same f g (suc n) h =
-      let e : map f (runStates run n) ≡ map g (runStates run n) = words-same f g n (λ k l. h k (omega arith)) in
-      runs-next (λ rs. map f rs ≡ map g rs) n (rw (map-append, map-append, e, h n (omega arith))) e
+      map-append f (runStates run n) (pick (run n) (n ∷ []) [])
+      ∙ (rw (words-same f g n (λ k l. h k (omega arith)), one (run n) refl) (sym (map-append g (runStates run n) (pick (run n) (n ∷ []) []))))
+    where
+      one : (c : Bool) → run n ≡ c → map f (pick c (n ∷ []) []) ≡ map g (pick c (n ∷ []) [])
+      one true e = rw (h n (omega arith) e)
+      one false e = refl
 
 pub runs-same : (f g : ℕ → Bool) (n : ℕ) → ((k : ℕ) → k < n → f k ≡ g k) → runStates f n ≡ runStates g n
 runs-same f g zero h = refl

@@ -169,7 +169,12 @@ same-rows : (t : Trace) (rs : List Rows) (fs : List Row) (T : List Node) → Sam
 same-rows t rs fs [] S = S
 same-rows t rs fs (n ∷ T) S = same-rows t (rs ++ (nodeRows t rs n ∷ [])) (fs ++ (evNode t fs n ∷ [])) T (same-more t rs fs n S)
 
+-- each row of the definitions, at each place
+pub rows-are : (t : Trace) (T : List Node) (a : ℕ) (d : Bool) (i : ℕ) → i < t .places → readFrom (rowsOf t T) a d i ≡ val t T a d i
+unfolding rowsOf
+rows-are t T = (same-rows t [] [] T (same-none t)) .agree
+
 -- the verdict of the definitions
 pub verdict-is : (t : Trace) (T : List Node) (top : ℕ) (d : Bool) → 0 < t .places → verdict t T top d ≡ val t T top d 0
-unfolding verdict rowsOf
-verdict-is t T top d h = (same-rows t [] [] T (same-none t)) .agree top d 0 h
+unfolding verdict
+verdict-is t T top d h = rows-are t T top d 0 h

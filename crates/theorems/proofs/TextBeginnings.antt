@@ -1,5 +1,5 @@
 -- "Every beginning of an accepted recording, of one state or more and with N lowered, is then accepted itself" (document 02), as a text: a first line
--- with N lowered, then the `owns` lines and the first `at` lines as they stand.
+-- with N lowered, then the `owns` lines and the first `at` lines as they stand. It reads as the beginning of what the whole text reads as.
 use mathlib.Core.Path.{_≡_, refl, sym, ap, _∙_, subst}
 use Prim.Native.Nat.{ℕ, zero, suc, _+_, _≤_, _<_}
 use native.Mathlib.Omega.{arith}
@@ -7,13 +7,16 @@ use mathlib.Core.Bool.{true, false, _&&_}
 use mathlib.Core.List.{List, [], _∷_, _++_}
 use lib.Dec.{eqb, leb}
 use lib.ListN.{length, take, drop}
+use lib.Seq.{take-take}
 use borrow.Author.Tests.{eq-eqb, ltb-true, leb-true, le-leb}
 use Rattle.definitions.specs.Limits.{maxControllers, maxStates, recordingForm, recordingLines, recordingLimits}
 use Rattle.definitions.specs.Bounded.{pick, within}
 use Rattle.definitions.specs.Recordings.{maskRefusal, stateRefusal, recordingHeadingRefusal}
 use Rattle.definitions.specs.Lines.{newline, before, newlineNext, isReturn, lineLength, lineOf, isClosed, restOf, Parsed, formed, heading, read, refused, onNext, nextLine, Scan, more}
 use Rattle.definitions.specs.RecordingText.{recordingHeading, maskForm, stateForm, recordingHeadingLine, maskLine, stateLine, scanMasks, scanStates, RecordingScan, recordingStop, recordingStates, recordingMasks, scanRecording}
+use Rattle.definitions.specs.Program.{scanned}
 use Rattle.theorems.proofs.Choice.{by-test, both-true, accept-yes}
+use Rattle.theorems.proofs.Beginnings.{Beginning}
 use Rattle.theorems.proofs.Inversions.{must-pass, passes}
 use Rattle.theorems.proofs.SplitLaws.{before-here, before-later}
 use Rattle.theorems.proofs.EndingLaws.{length-here, length-return, length-later, length-within}
@@ -107,22 +110,30 @@ masks-alike (suc C) earlier u v (suc n) K e w z =
     let step : scanMasks (suc C) earlier u ≡ more m (scanMasks C (m ∷ earlier) (restOf u)) = rw (f .is) in
     rw (step, same) (record { number = a .number; words = ap (λ (l : List ℕ). m ∷ l) (a .words); rest = a .rest; lines = a .lines })) z
 
--- the first `at` lines of those that are accepted are accepted
+-- the first `at` lines of those that are accepted are accepted, and read as the first states
+record Front (a s : Scan) (m : ℕ) : Type 0 where
+  number : a .number ≡ 0
+  words : a .words ≡ take m (s .words)
+
 states-front : (C : ℕ) (masks : List ℕ) (m n k prior : ℕ) (u v : List ℕ) → m ≤ n → WholeLines m u → (scanStates C masks n k prior (u ++ v)) .number ≡ 0
-    → (scanStates C masks m k prior u) .number ≡ 0
+    → Front (scanStates C masks m k prior u) (scanStates C masks n k prior (u ++ v)) m
 unfolding scanStates onNext pick
-states-front C masks zero n k prior u v h w z = rw (eq-eqb (length u) 0 w)
+states-front C masks zero n k prior u v h w z = record { number = rw (eq-eqb (length u) 0 w); words = refl }
 states-front C masks (suc m) zero k prior u v h w z = absurd (omega arith)
 states-front C masks (suc m) (suc n) k prior u v h w z =
-    on-next (λ (s : Scan). s .number ≡ 0 → (scanStates C masks (suc m) k prior u) .number ≡ 0) (stateLine C masks k prior (u ++ v)) _ _
+    on-next (λ (s : Scan). s .number ≡ 0 → Front (scanStates C masks (suc m) k prior u) s (suc m)) (stateLine C masks k prior (u ++ v)) _ _
     (λ j r y. absurd (next-some recordingLines recordingForm (stateForm C) (stateRefusal C masks k prior) (u ++ v) (omega arith) (omega arith) j r y))
     (λ s rest r y.
     let f = reads-front (stateForm C) (stateRefusal C masks k prior) u v s rest (w .0) r in
     let same : scanStates C masks n (k + 1) s rest ≡ scanStates C masks n (k + 1) s (restOf u ++ v) = ap (scanStates C masks n (k + 1) s) (f .left) in
-    rw (f .is) (states-front C masks m n (k + 1) s (restOf u) v (omega arith) (w .1) (sym (ap (λ (q : Scan). q .number) same) ∙ y))) z
+    let a = states-front C masks m n (k + 1) s (restOf u) v (omega arith) (w .1) (sym (ap (λ (q : Scan). q .number) same) ∙ y) in
+    let step : scanStates C masks (suc m) k prior u ≡ more s (scanStates C masks m (k + 1) s (restOf u)) = rw (f .is) in
+    rw (step, same) (record { number = a .number; words = ap (λ (l : List ℕ). s ∷ l) (a .words) })) z
 
 -- ---- what an accepted text was read as, by its parts
 record Parts (t : List ℕ) (s : RecordingScan) : Type 0 where
+  masked : s .masks ≡ (scanMasks (s .controllers) [] (restOf t)) .words
+  stated : s .states ≡ (scanStates (s .controllers) ((scanMasks (s .controllers) [] (restOf t)) .words) (s .count) 0 0 ((scanMasks (s .controllers) [] (restOf t)) .rest)) .words
   first : recordingHeadingRefusal (s .controllers) (s .count) ≡ 0
   masks : (scanMasks (s .controllers) [] (restOf t)) .number ≡ 0
   states : (scanStates (s .controllers) ((scanMasks (s .controllers) [] (restOf t)) .words) (s .count) 0 0 ((scanMasks (s .controllers) [] (restOf t)) .rest)) .number ≡ 0
@@ -135,7 +146,7 @@ masked-parts C N t rest h l e =
     let z : m .number ≡ 0 = must-pass {A = RecordingScan} (λ s. s .number) (m .number) all (recordingStop (m .number) (m .rest)) refl e in
     let q : recordingMasks C N m ≡ all = passes {A = RecordingScan} (m .number) all (recordingStop (m .number) (m .rest)) z in
     let y : all .number ≡ 0 = sym (ap (λ (s : RecordingScan). s .number) q) ∙ e in
-    subst (Parts t) (sym q) (record { first = h; masks = rw (← l) z; states = rw (← l) y })
+    subst (Parts t) (sym q) (record { masked = rw (← l); stated = rw (← l); first = h; masks = rw (← l) z; states = rw (← l) y })
 
 parts : (t : List ℕ) → (scanRecording t) .number ≡ 0 → Parts t (scanRecording t)
 unfolding scanRecording
@@ -184,24 +195,55 @@ module _ (s t : List ℕ) (K : ℕ) (b : TextBeginning s t K) (e : (scanRecordin
       masks-alike C [] (restOf s) (b .dropped) (C + K) K refl (b .lines)
       (sym (ap (λ (u : List ℕ). (scanMasks C [] u) .number) (b .whole)) ∙ p .masks)
 
-  states-long : (scanStates C (short .words) N 0 0 (short .rest ++ b .dropped)) .number ≡ 0
+  -- what `at` lines give, after the masks of the longer text
+  abbrev statesOn : Scan → ℕ → List ℕ → Scan
+  statesOn m n u = scanStates C (m .words) n 0 0 u
+
+  states-long : (statesOn short N (short .rest ++ b .dropped)) .number ≡ 0
   states-long =
-      let q : (scanStates C (long .words) N 0 0 (long .rest)) .number ≡ 0 =
-      sym (ap (λ (u : List ℕ). (scanStates C ((scanMasks C [] u) .words) N 0 0 ((scanMasks C [] u) .rest)) .number) (b .whole)) ∙ p .states in
+      let q : (statesOn long N (long .rest)) .number ≡ 0 =
+      sym (ap (λ (u : List ℕ). (statesOn (scanMasks C [] u) N ((scanMasks C [] u) .rest)) .number) (b .whole)) ∙ p .states in
       rw (owned .words, ← owned .rest) q
+
+  stated : Front (statesOn short K (short .rest)) (statesOn short N (short .rest ++ b .dropped)) K
+  stated = states-front C (short .words) K N 0 0 (short .rest) (b .dropped) (b .few) (owned .lines) states-long
 
   headed : recordingHeadingLine s ≡ read (heading C K) (restOf s)
   headed =
       next-read recordingLines recordingForm recordingHeading (λ h. recordingHeadingRefusal (h .first) (h .second)) s (b .closed) (heading C K) (b .first)
       (lowered-heading C N K (p .first) (b .some) (b .few))
 
-  scan-is : scanRecording s ≡ recordingMasks C K short
+  scan-is : scanRecording s ≡ recordingStates C K (short .words) (statesOn short K (short .rest))
   unfolding scanRecording onNext
-  scan-is = rw headed
+  scan-is =
+      rw headed (passes {A = RecordingScan} (short .number) (recordingStates C K (short .words) (statesOn short K (short .rest)))
+      (recordingStop (short .number) (short .rest)) (owned .number))
 
   pub text-beginning-accepted : (scanRecording s) .number ≡ 0
-  text-beginning-accepted =
-      let all : RecordingScan = recordingStates C K (short .words) (scanStates C (short .words) K 0 0 (short .rest)) in
-      let q : recordingMasks C K short ≡ all = passes {A = RecordingScan} (short .number) all (recordingStop (short .number) (short .rest)) (owned .number) in
-      ap (λ (r : RecordingScan). r .number) (scan-is ∙ q)
-      ∙ states-front C (short .words) K N 0 0 (short .rest) (b .dropped) (b .few) (owned .lines) states-long
+  text-beginning-accepted = ap (λ (r : RecordingScan). r .number) scan-is ∙ stated .number
+
+  masks-read : (scanRecording s) .masks ≡ (scanRecording t) .masks
+  masks-read =
+      ap (λ (r : RecordingScan). r .masks) scan-is
+      ∙ (owned .words ∙ (sym (ap (λ (u : List ℕ). (scanMasks C [] u) .words) (b .whole)) ∙ sym (p .masked)))
+
+  states-read : (scanRecording s) .states ≡ take K ((scanRecording t) .states)
+  states-read =
+      let q : statesOn short N (short .rest ++ b .dropped) ≡ statesOn long N (long .rest) = rw (owned .words, ← owned .rest) in
+      let l : statesOn long N (long .rest) ≡ statesOn (scanMasks C [] (restOf t)) N ((scanMasks C [] (restOf t)) .rest) =
+      sym (ap (λ (u : List ℕ). statesOn (scanMasks C [] u) N ((scanMasks C [] u) .rest)) (b .whole)) in
+      ap (λ (r : RecordingScan). r .states) scan-is
+      ∙ (stated .words ∙ ap (take K) (ap (λ (a : Scan). a .words) (q ∙ l) ∙ sym (p .stated)))
+
+  -- and what is read of it is the beginning of what is read of the whole text
+  pub text-beginning : Beginning (scanned (scanRecording s)) (scanned (scanRecording t))
+  text-beginning =
+      let n : (scanRecording s) .count ≡ K = ap (λ (r : RecordingScan). r .count) scan-is in
+      let c : (scanRecording s) .controllers ≡ C = ap (λ (r : RecordingScan). r .controllers) scan-is in
+      record {
+        some = omega (arith, n, b .some);
+        few = omega (arith, n, b .few);
+        controllers = c;
+        masks = rw (c, masks-read);
+        states = rw (n, states-read, take-take K N ((scanRecording t) .states) (b .few), take-take K K ((scanRecording t) .states) (omega arith));
+      }

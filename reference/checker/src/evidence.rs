@@ -4,7 +4,7 @@
 //! bits gets the same verdict: for all small local traces, and for random
 //! recordings with the other bits turned over.
 
-mod promise;
+pub mod promise;
 mod walks;
 
 use reference::generate::exhaustive;
@@ -16,7 +16,7 @@ use reference::model::limits::{CONTROLLERS, PAIRS, RULE_NODES, STATES};
 
 use crate::check::Check;
 use crate::difference::Difference;
-use crate::evidence::promise::{keeps, Small};
+use crate::evidence::promise::{keeps, Promised, Small};
 use crate::evidence::walks::{telling_recordings, telling_rules, Walker};
 use crate::input::Input;
 use crate::library;
@@ -133,7 +133,7 @@ impl<'a> Evidence<'a> {
             let (rule, recording) =
                 if far { far_reaching(&mut random) } else { accepted(&mut random) };
             for weak in [true, false] {
-                keeps(check, &mut random, &rule, &recording, weak)?;
+                keeps(check, &mut random, &rule, &recording, weak, Promised::AsLong)?;
             }
         }
         Ok(())
@@ -160,7 +160,7 @@ impl<'a> Evidence<'a> {
 }
 
 /// A rule and a recording that has its controller, both accepted.
-fn accepted(random: &mut Random) -> (RuleTable, RecordingTable) {
+pub fn accepted(random: &mut Random) -> (RuleTable, RecordingTable) {
     let recording = traces::recording(random, CONTROLLERS, STATES);
     let controller = random.below(recording.controllers);
     (formulas::rule_for(random, controller, RULE_NODES), recording)

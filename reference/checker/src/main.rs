@@ -10,6 +10,7 @@ mod beginnings;
 mod caught;
 mod check;
 mod difference;
+mod early;
 mod endings;
 mod evidence;
 mod expected;

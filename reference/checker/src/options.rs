@@ -8,8 +8,8 @@ pub const USAGE: &str = "\
 usage: checker [--seed N] [--long] [--only SECTION]... [--wrong NAME | --show-caught]
   --seed N        what random inputs depend on (default 1)
   --long          the longer run
-  --only SECTION  trials, texts, endings, lines, lent, random, program, small or
-                  evidence; may come again
+  --only SECTION  trials, texts, endings, lines, lent, random, program, small,
+                  evidence or early; may come again
   --wrong NAME    expect one wrong answer: the run must report a difference
   --show-caught   only show that each wrong answer is caught";
 

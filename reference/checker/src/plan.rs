@@ -25,6 +25,8 @@ pub struct Plan {
     pub program_runs: usize,
     /// Batches of the readings behind a verdict and what they promise.
     pub evidence_batches: usize,
+    /// Batches of verdicts that may be announced early.
+    pub early_batches: usize,
     /// All small rules on all small recordings.
     pub small: SmallPlan,
 }
@@ -67,6 +69,7 @@ impl Plan {
             lent_step: 1,
             program_runs: 3000,
             evidence_batches: 200,
+            early_batches: 100,
             small: SmallPlan {
                 nodes: 3,
                 states: 4,
@@ -92,6 +95,7 @@ impl Plan {
             line_batches: 4000,
             program_runs: 30_000,
             evidence_batches: 2000,
+            early_batches: 1000,
             small: SmallPlan {
                 every_recording_nodes: 3,
                 every_recording_states: 4,
@@ -119,6 +123,7 @@ impl Plan {
             lent_step: 61,
             program_runs: 2,
             evidence_batches: 2,
+            early_batches: 2,
             small: SmallPlan {
                 nodes: 1,
                 states: 2,

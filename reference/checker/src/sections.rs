@@ -1,6 +1,7 @@
 //! The sections of a run.
 
 use crate::difference::Difference;
+use crate::early::Early;
 use crate::evidence::Evidence;
 use crate::plan::Plan;
 use crate::small::Small;
@@ -20,5 +21,6 @@ pub fn run(section: Section, plan: &Plan, wrong: &WrongAnswer) -> Result<Tally, 
         Section::Program => work::run(section, wrong, &program::jobs(plan, wrong)),
         Section::Small => work::run(section, wrong, &Small::new(plan).jobs()),
         Section::Evidence => work::run(section, wrong, &Evidence::new(plan).jobs()),
+        Section::Early => work::run(section, wrong, &Early::new(plan).jobs()),
     }
 }

@@ -24,11 +24,13 @@ pub enum Section {
     Small,
     /// The readings behind a verdict, and what they promise.
     Evidence,
+    /// Verdicts that may be announced early.
+    Early,
 }
 
 impl Section {
     /// Every section, in order.
-    pub const ALL: [Section; 9] = [
+    pub const ALL: [Section; 10] = [
         Section::Trials,
         Section::Texts,
         Section::Endings,
@@ -38,6 +40,7 @@ impl Section {
         Section::Program,
         Section::Small,
         Section::Evidence,
+        Section::Early,
     ];
 
     /// The name that is printed and that `--only` takes.
@@ -52,11 +55,12 @@ impl Section {
             Section::Program => "program",
             Section::Small => "small",
             Section::Evidence => "evidence",
+            Section::Early => "early",
         }
     }
 }
 
-/// What is compared: the operations, six laws and the programs.
+/// What is compared: the operations, seven laws and the programs.
 #[derive(Clone, Copy, PartialEq, Eq, PartialOrd, Ord, Debug)]
 pub enum Operation {
     /// Reading a rule text.
@@ -93,6 +97,8 @@ pub enum Operation {
     Beginnings,
     /// Local traces that agree in the readings behind a verdict have it.
     Promise,
+    /// Announced verdicts stay on a recording that goes on.
+    Early,
     /// No rule's rewritings exceed those of the rule that grows most.
     Growth,
     /// The program.
@@ -140,6 +146,7 @@ impl Operation {
             Operation::Schedules => "schedules",
             Operation::Beginnings => "beginnings",
             Operation::Promise => "promise",
+            Operation::Early => "early",
             Operation::Growth => "growth",
             Operation::Program => "judge",
             Operation::RuleProgram => "rule",

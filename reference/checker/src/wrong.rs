@@ -3,6 +3,8 @@
 
 use std::sync::atomic::{AtomicBool, Ordering};
 
+use reference::model::early::Asked;
+
 use crate::misread::Misreading;
 use crate::misrewrite::Misrewriting;
 use crate::misstep::Misstep;
@@ -49,6 +51,10 @@ pub enum Place {
     Cleared,
     /// An accepted recording with marks in its last state, refused with 9.
     Nine,
+    /// A recording that goes on, with this left out of what is asked of it.
+    LeftOut(Asked),
+    /// A weak yes or a strong no, announced.
+    Open,
 }
 
 impl Place {
@@ -73,6 +79,12 @@ impl Place {
             Place::LastRun => "last_run",
             Place::Cleared => "cleared",
             Place::Nine => "nine",
+            Place::LeftOut(Asked::Longer) => "shorter",
+            Place::LeftOut(Asked::Mask) => "another_mask",
+            Place::LeftOut(Asked::Marks) => "another_mark",
+            Place::LeftOut(Asked::Words) => "another_word",
+            Place::LeftOut(Asked::OwnAtoms) => "another_own_atom",
+            Place::Open => "open",
         }
     }
 }
@@ -152,10 +164,19 @@ const LONGEST_PRINTERS: &[Place] = &[
     Place::Misprint(Misprint::Wrapped),
 ];
 
+/// What of a recording that goes on isn't asked.
+const LEFT_OUT: &[Place] = &[
+    Place::LeftOut(Asked::Longer),
+    Place::LeftOut(Asked::Mask),
+    Place::LeftOut(Asked::Marks),
+    Place::LeftOut(Asked::Words),
+    Place::LeftOut(Asked::OwnAtoms),
+];
+
 /// The wrong answers by section and operation.
 fn lists() -> Vec<(Section, Operation, &'static [Place])> {
     use Place::{Beyond, Content, Length, Line, Named, Number, Untouched, Unused, Value, Zero};
-    use Place::{Cleared, LastRun, Nine};
+    use Place::{Cleared, LastRun, Nine, Open};
     let mut lists: Vec<(Section, Operation, &[Place])> = Vec::new();
     for operation in Operation::ALL {
         lists.push((Section::Trials, operation, &[Named]));
@@ -202,6 +223,9 @@ fn lists() -> Vec<(Section, Operation, &'static [Place])> {
         (Section::Small, Operation::Growth, &[Value, Length, Named]),
         (Section::Evidence, Operation::Evidence, &[Value, Content, Unused, Beyond]),
         (Section::Evidence, Operation::Promise, &[Value, Content]),
+        (Section::Early, Operation::Early, &[Value, Open]),
+        (Section::Early, Operation::Early, LEFT_OUT),
+        (Section::Early, Operation::Promise, &[Value, Content]),
     ]);
     lists
 }

@@ -1,5 +1,5 @@
-//! Recordings, valid and damaged, as words of lent space, and other
-//! schedules of the same local trace.
+//! Recordings, valid and damaged, as words of lent space, other schedules of
+//! the same local trace, and recordings that begin alike.
 
 use super::random::Random;
 use crate::model::limits;
@@ -279,10 +279,24 @@ fn recorded_among(
     last: u32,
 ) -> RecordingTable {
     let length = random.size(steps.len() + 1, limits::STATES);
-    let masks = other_masks(random, controllers, controller, own);
-    let habits: Vec<usize> = masks.iter().map(|_| random.below(4)).collect();
     let picked = schedule(random, steps.len(), length);
     let atoms = scheduled_atoms(random, own, &picked, steps, last);
+    among_others(random, (controllers, controller), own, &picked, &atoms)
+}
+
+/// A recording of these words and so many controllers in which this one owns
+/// these atoms and runs in the picked states; the others run at least where
+/// their atoms change, any marks in the last state.
+fn among_others(
+    random: &mut Random,
+    (controllers, controller): (usize, usize),
+    own: u32,
+    picked: &[bool],
+    atoms: &[u32],
+) -> RecordingTable {
+    let length = atoms.len();
+    let masks = other_masks(random, controllers, controller, own);
+    let habits: Vec<usize> = masks.iter().map(|_| random.below(4)).collect();
     let mut states = Vec::new();
     for k in 0..length {
         let last = k + 1 == length;
@@ -346,11 +360,65 @@ pub fn varied(
     controller: usize,
     kept: &[u32],
 ) -> RecordingTable {
+    agreeing(random, recording, controller, kept, 0)
+}
+
+/// The same with a local trace that has more places, which are any.
+pub fn lengthened(
+    random: &mut Random,
+    recording: &RecordingTable,
+    controller: usize,
+    kept: &[u32],
+) -> RecordingTable {
+    let more = random.size(0, limits::STATES - kept.len());
+    agreeing(random, recording, controller, kept, more)
+}
+
+/// A recording whose local trace agrees with that of this one in the kept bits,
+/// and has so many places more.
+fn agreeing(
+    random: &mut Random,
+    recording: &RecordingTable,
+    controller: usize,
+    kept: &[u32],
+    more: usize,
+) -> RecordingTable {
     let own = recording.masks[controller];
-    let (mut steps, mut last) = local_words(recording, controller);
+    let mut steps = places(recording, controller);
     for (word, kept) in steps.iter_mut().zip(kept) {
         *word ^= some_bits(random) & !kept;
     }
-    last ^= some_bits(random) & own & !kept[steps.len()];
+    steps.extend((0..more).map(|_| random.word()));
+    let last = steps.pop().expect("a place") & own;
     recorded(random, controller, own, &steps, last)
+}
+
+/// The first states of a recording, with any run marks in the last of them.
+pub fn cut(random: &mut Random, recording: &RecordingTable, length: usize) -> RecordingTable {
+    let mut states = recording.states[..length].to_vec();
+    let last = State::of_word(states[length - 1]);
+    let scheduled = random.word() % (1 << recording.controllers);
+    states[length - 1] = State { scheduled, ..last }.word();
+    RecordingTable { length, states, ..recording.clone() }
+}
+
+/// Another recording of so many states that this one begins like, as far as
+/// this controller goes: other controllers, and other foreign atoms where it
+/// doesn't run.
+pub fn begun_alike(
+    random: &mut Random,
+    recording: &RecordingTable,
+    controller: usize,
+    length: usize,
+) -> RecordingTable {
+    let own = recording.masks[controller];
+    let states = recording.states[..length].iter().map(|word| State::of_word(*word));
+    let (mut picked, mut atoms) = (Vec::new(), Vec::new());
+    for (k, state) in states.enumerate() {
+        let runs = k + 1 < length && state.scheduled >> controller & 1 == 1;
+        picked.push(runs);
+        atoms.push(if runs { state.atoms } else { state.atoms ^ (some_bits(random) & !own) });
+    }
+    let controllers = random.between(controller + 1, limits::CONTROLLERS);
+    among_others(random, (controllers, controller), own, &picked, &atoms)
 }

@@ -36,7 +36,7 @@ fn chosen(verdicts: [[usize; 2]; 3], weak: bool) -> [usize; 3] {
 }
 
 /// The library's verdicts, accepted as the model accepts them.
-fn verdicts(
+pub fn verdicts(
     whole: &mut Whole,
     rule: &RuleTable,
     recording: &RecordingTable,
@@ -152,6 +152,15 @@ impl<'a> Small<'a> {
     }
 }
 
+/// Which other recordings are promised the verdict.
+#[derive(Clone, Copy, PartialEq, Eq)]
+pub enum Promised {
+    /// Those with as many steps.
+    AsLong,
+    /// Those with no fewer: a strong yes or a weak no, which stays.
+    NoShorter,
+}
+
 /// The pairs of a random rule and recording, compared with the model's; then
 /// other recordings whose local trace agrees in those bits, with the same
 /// verdict on the local trace and of both rewritings.
@@ -161,20 +170,30 @@ pub fn keeps(
     rule: &RuleTable,
     recording: &RecordingTable,
     weak: bool,
+    promised: Promised,
 ) -> Result<(), Difference> {
     let input = Input::evidence(rule.clone(), recording.clone(), weak);
     let found = check.compare(&input)?;
     let pairs: Vec<u32> =
         found.slice(0)[..found.values[0]].iter().map(|pair| *pair as u32).collect();
     let places = traces::places(recording, rule.controller).len();
-    let kept = named_bits(&rule.nodes, &pairs, places);
+    let mut kept = named_bits(&rule.nodes, &pairs, places);
     let mut whole = Whole::new();
     let mut expected = chosen(verdicts(&mut whole, rule, recording)?, weak);
+    if promised == Promised::NoShorter && expected[0] != usize::from(!weak) {
+        return Ok(());
+    }
     if check.wrong(Operation::Promise, Place::Value) {
         expected[0] ^= 1;
     }
+    if check.place(Operation::Promise) == Some(Place::Content) {
+        kept.fill(0);
+    }
     for _ in 0..OTHERS {
-        let other = traces::varied(random, recording, rule.controller, &kept);
+        let other = match promised {
+            Promised::AsLong => traces::varied(random, recording, rule.controller, &kept),
+            Promised::NoShorter => traces::lengthened(random, recording, rule.controller, &kept),
+        };
         let found = chosen(verdicts(&mut whole, rule, &other)?, weak);
         check.count(Operation::Promise, 1, 0);
         if found != expected || found.iter().any(|verdict| *verdict != found[0]) {

@@ -1,0 +1,168 @@
+//! Document 02, verdicts that may be announced early: that a strong yes and a
+//! weak no stay, and that each thing that is asked of the longer recording is
+//! needed.
+
+use reference::generate::exhaustive;
+use reference::generate::formulas::{self, RuleTable};
+use reference::generate::random::Random;
+use reference::generate::texts::{program_input, recording_text, rule_text};
+use reference::generate::traces::{self, RecordingTable};
+use reference::model::early::{announced, begins, missing, Asked};
+use reference::model::formula::{Node, ATOM, NEXT, TRUE};
+use reference::model::semantics::{local_readings, Reading};
+use reference::model::trace::{check_trace, project, State, Trace};
+use reference::model::{limits, program, Verdict};
+
+/// The verdicts of a rule on the local trace of controller c, whether or not the
+/// recording is accepted.
+fn verdict(nodes: &[Node], trace: &Trace, component: usize) -> Verdict {
+    let readings = local_readings(nodes, &project(trace, component));
+    let at = |reading| readings.at(nodes.len() - 1, reading, 0);
+    Verdict { weak: at(Reading::Weak), strong: at(Reading::Strong) }
+}
+
+fn checked(recording: &RecordingTable) -> Result<Trace, u8> {
+    let RecordingTable { controllers, length, masks, states } = recording;
+    check_trace(*controllers, *length, masks, states)
+}
+
+fn nodes(rule: &RuleTable) -> Vec<Node> {
+    rule.nodes.iter().map(|word| Node::of_word(*word)).collect()
+}
+
+/// A recording of controller 0 alone, with these marks and words.
+fn alone(own: u32, states: &[(u32, u32)]) -> Trace {
+    let state = |&(scheduled, atoms): &(u32, u32)| State { atoms, scheduled };
+    Trace { masks: vec![own], states: states.iter().map(state).collect() }
+}
+
+fn is_accepted(trace: &Trace) -> Result<(), u8> {
+    let states = trace.states.iter().map(|state| state.word()).collect();
+    let Trace { masks, states: all } = trace;
+    let table = RecordingTable {
+        controllers: masks.len(),
+        length: all.len(),
+        masks: masks.clone(),
+        states,
+    };
+    checked(&table).map(|_| ())
+}
+
+const KEPT: Verdict = Verdict { weak: true, strong: true };
+const BROKEN: Verdict = Verdict { weak: false, strong: false };
+const OPEN: Verdict = Verdict { weak: true, strong: false };
+
+#[test]
+fn what_is_announced() {
+    assert!(announced(KEPT) && announced(BROKEN));
+    assert!(!announced(OPEN));
+}
+
+/// For each thing that is asked a pair that lacks it alone, and a strong yes that
+/// goes.
+#[test]
+fn each_thing_is_needed() {
+    let atom = |first| Node { kind: ATOM, first, second: 0 };
+    let next = |first| Node { kind: NEXT, first, second: 0 };
+    let truth = Node { kind: TRUE, first: 0, second: 0 };
+    let trials = [
+        (vec![truth, next(0)], alone(1, &[(1, 0), (0, 0)]), alone(1, &[(1, 0)]), Asked::Longer),
+        (vec![atom(0)], alone(1, &[(0, 1)]), alone(0, &[(0, 1), (0, 0)]), Asked::Mask),
+        (
+            vec![truth, next(0)],
+            alone(1, &[(1, 0), (0, 0)]),
+            alone(1, &[(0, 0), (0, 0)]),
+            Asked::Marks,
+        ),
+        (vec![atom(1)], alone(1, &[(1, 2), (0, 0)]), alone(1, &[(1, 0), (0, 0)]), Asked::Words),
+        (
+            vec![atom(0), next(0)],
+            alone(1, &[(1, 0), (0, 1)]),
+            alone(1, &[(1, 0), (0, 0)]),
+            Asked::OwnAtoms,
+        ),
+    ];
+    for (nodes, a, b, lacks) in trials {
+        assert_eq!(missing(&a, &b, 0), [lacks]);
+        assert_eq!((is_accepted(&a), is_accepted(&b)), (Ok(()), Ok(())));
+        assert_eq!(verdict(&nodes, &a, 0), KEPT);
+        assert_ne!(verdict(&nodes, &b, 0), KEPT, "{lacks:?}");
+    }
+}
+
+/// "every accepted longer recording": without the output rule a recording can
+/// begin alike and lose a strong yes.
+#[test]
+fn the_output_rule_is_needed() {
+    let nodes = [Node { kind: ATOM, first: 0, second: 0 }];
+    let a = alone(1, &[(0, 1)]);
+    let b = alone(1, &[(0, 1), (1, 0), (0, 0)]);
+    assert!(begins(&a, &b) && missing(&a, &b, 0).is_empty());
+    assert_eq!((is_accepted(&a), is_accepted(&b)), (Ok(()), Err(10)));
+    assert_eq!((verdict(&nodes, &a, 0), verdict(&nodes, &b, 0)), (KEPT, BROKEN));
+}
+
+/// What the request asks, and what a controller needs of it.
+#[test]
+fn begins_asks_for_each_controller() {
+    let mut random = Random::new(91);
+    for _ in 0..300 {
+        let whole = traces::recording(&mut random, limits::CONTROLLERS, 20);
+        let length = random.between(1, whole.length);
+        let cut = traces::cut(&mut random, &whole, length);
+        let controller = random.below(whole.controllers);
+        let alike = traces::begun_alike(&mut random, &whole, controller, length);
+        let [whole, cut, alike] = [&whole, &cut, &alike].map(|one| checked(one).unwrap());
+        assert!(begins(&cut, &whole));
+        assert!((0..whole.masks.len()).all(|c| missing(&cut, &whole, c).is_empty()));
+        assert!(missing(&alike, &whole, controller).is_empty());
+    }
+}
+
+/// Every small rule on every two small recordings that begin alike.
+#[test]
+fn small_verdicts_stay() {
+    let mut traces: Vec<Trace> = Vec::new();
+    exhaustive::each_recording(1, 3, &mut |recording| traces.push(checked(recording).unwrap()));
+    let alike = |a: &Trace| -> Vec<usize> {
+        (0..traces.len()).filter(|b| missing(a, &traces[*b], 0).is_empty()).collect()
+    };
+    let alike: Vec<Vec<usize>> = traces.iter().map(alike).collect();
+    exhaustive::each_rule(2, &mut |words| {
+        let nodes: Vec<Node> = words.iter().map(|word| Node::of_word(*word)).collect();
+        let verdicts: Vec<Verdict> = traces.iter().map(|trace| verdict(&nodes, trace, 0)).collect();
+        for (a, others) in alike.iter().enumerate() {
+            assert!(verdicts[a].weak || !verdicts[a].strong, "a strong yes is a weak yes");
+            let stays = |b: &usize| !announced(verdicts[a]) || verdicts[*b] == verdicts[a];
+            assert!(others.iter().all(stays), "{nodes:?}, {:?}", traces[a]);
+        }
+    });
+}
+
+/// Random rules on recordings that are cut after each state: once announced, the
+/// verdicts stay the same; and what the program prints of the texts.
+#[test]
+fn random_verdicts_stay() {
+    let mut random = Random::new(92);
+    for _ in 0..300 {
+        let whole = traces::recording(&mut random, limits::CONTROLLERS, 30);
+        let controller = random.below(whole.controllers);
+        let rule = formulas::rule_for(&mut random, controller, 12);
+        let printed = |recording: &RecordingTable| {
+            let input = program_input(&rule_text(&rule), &recording_text(recording));
+            let output = String::from_utf8(program(&input)).unwrap();
+            output.split_once('\n').unwrap().1.to_string()
+        };
+        let mut before = OPEN;
+        let mut lines = String::new();
+        for length in 1..=whole.length {
+            let cut = traces::cut(&mut random, &whole, length);
+            let now = verdict(&nodes(&rule), &checked(&cut).unwrap(), controller);
+            let now_printed = printed(&cut);
+            if announced(before) {
+                assert_eq!((now, &now_printed), (before, &lines));
+            }
+            (before, lines) = (now, now_printed);
+        }
+    }
+}
