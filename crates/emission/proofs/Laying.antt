@@ -16,8 +16,8 @@ use Rattle.definitions.specs.Nodes.{node, nodeWord}
 use Rattle.definitions.specs.OneLineSigns.{Prefix, Not, Next, Prev, Future, Always}
 use Rattle.printing.specs.Printing.{Printed}
 use Rattle.printing.proofs.PrintLaws as print
-use Rattle.emission.specs.Nodes.{words, prefixOf, untilKind, prefixFirst, prefixLast, prefixNode, dualWords}
-use Rattle.emission.specs.Laying.{Laid, SpaceDual, SpaceFirst, SpaceLast}
+use Rattle.emission.specs.Nodes.{words, prefixOf, untilKind, prefixFirst, prefixLast, prefixNode, notWords, dualWords}
+use Rattle.emission.specs.Laying.{Laid, SpaceBehind, SpaceFirst, SpaceLast}
 
 -- one word
 pub laid-one : (w : ℕ) (o : List ℕ) (at : ℕ) → at < length o → Laid (w ∷ []) o at (at + 1) (set o at w)
@@ -38,8 +38,12 @@ laid-seq {xs} {ys} {o} {o′} {o″} {at} {r} {q} p s =
 pub relaid : {xs ys o o′ : List ℕ} {at r : ℕ} → xs ≡ ys → Laid xs o at r o′ → Laid ys o at r o′
 relaid e l = rw e at l
 
+-- ---- `not`
+pub not-laid : (e v : ℕ) (o : List ℕ) → SpaceBehind 1 e o → v ≡ nodeWord (node table.Not (e - 1) 0) → Laid (notWords e) o e (e + 1) (set o e v)
+not-laid e v o s q = relaid (rw q) (laid-one v o e (omega (arith, s .room, s .held)))
+
 -- ---- `dual`
-module _ (w e : ℕ) (o : List ℕ) (s : SpaceDual e o) where
+module _ (w e : ℕ) (o : List ℕ) (s : SpaceBehind 3 e o) where
   pub dual-third : (v : ℕ) → e + 2 < length (set (set o e v) (e + 1) w)
   dual-third v = omega (arith, s .room, s .held, length-set (set o e v) (e + 1) w, length-set o e v)
 
@@ -112,7 +116,7 @@ pub ruleset open-laws = (needs, open-future-room, open-always-room, open-future,
 
 -- ---- `close_prefix`
 module _ (c b e : ℕ) (o : List ℕ) (s : SpaceLast c b e o) where
-  pub close-dual : c ≡ 7 → SpaceDual e o
+  pub close-dual : c ≡ 7 → SpaceBehind 3 e o
   close-dual q = record { behind = omega (arith, s .order); room = omega (arith, s .room, ap length (always-last c b e q)); held = s .held }
 
   pub close-always : (w r : ℕ) (o′ : List ℕ) → c ≡ 7 → w ≡ nodeWord (node (untilKind 11) b e) → Laid (dualWords w e) o e r o′ → Laid (words (prefixLast (prefixOf c) b e)) o e r o′

@@ -1,13 +1,22 @@
 // Several nodes written one after another.
 ghost use mathlib.Core.Path.{_≡_};
-ghost use Rattle.emission.specs.Nodes.{prefixOf, prefixFirst, prefixLast, dualWords, words};
-ghost use Rattle.emission.specs.Laying.{Laid, SpaceDual, SpaceFirst, SpaceLast};
+ghost use Rattle.emission.specs.Nodes.{prefixOf, prefixFirst, prefixLast, notWords, dualWords, words};
+ghost use Rattle.emission.specs.Laying.{Laid, SpaceBehind, SpaceFirst, SpaceLast};
 use super::word;
 use signs::sign::Sign;
 
+// Not of the operand that ends before node e.
+pub fn not(e: usize, nodes: &mut [u32]) -> usize
+    requires { ⌜ SpaceBehind 1 e (now nodes) ⌝ }
+    ensures { λ r. ⌜ Laid (notWords e) (now (nodes .entry)) e r (now (nodes .exit)) ⌝ }
+{
+    nodes[e] = word::not(e - 1);
+    e + 1
+}
+
 // Not of the operand that ends before node e, the operator with the word w, not of that: as in `!(!p|!q)` and `!F!p`.
 pub fn dual(w: u32, e: usize, nodes: &mut [u32]) -> usize
-    requires { ⌜ SpaceDual e (now nodes) ⌝ }
+    requires { ⌜ SpaceBehind 3 e (now nodes) ⌝ }
     ensures { λ r. ⌜ Laid (dualWords w e) (now (nodes .entry)) e r (now (nodes .exit)) ⌝ }
 {
     nodes[e] = word::not(e - 1);

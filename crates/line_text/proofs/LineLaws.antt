@@ -5,7 +5,7 @@ use native.Mathlib.Nat.{sub-zero}
 use native.Mathlib.Omega.{arith}
 use mathlib.Core.Bool.{Bool, true, false}
 use mathlib.Core.List.{List, [], _∷_, _++_, map}
-use lib.ListN.{length, take, drop, getD, replicate, length-map}
+use lib.ListN.{length, take, drop, getD, replicate, length-map, length-take}
 use lib.Seq.{length-take-le}
 use lib.Dec.{eqb, ltb}
 use borrow.Author.Needs.{needs}
@@ -149,11 +149,8 @@ module _ (controller : ℕ) (line entry : List ℕ) where
       ahead-said : ahead (take n codes) 0 ≡ accepted-line .signs
       ahead-said = ahead-all (take n codes) ∙ codes-said
 
-      pub read-within : n ≤ length codes
-      read-within = spelt .within
-
-      pub read-part : n ≡ length (take n codes)
-      read-part = sym (length-take-le n codes read-within)
+      pub read-within : n ≤ maxLineBytes
+      read-within = omega (arith, spelt .within, v .whole)
 
       pub read-ready : Ready maxOpenBrackets (take n codes) 0 0 entry
       read-ready = record {
@@ -164,7 +161,7 @@ module _ (controller : ℕ) (line entry : List ℕ) where
         room = rw ahead-said (omega (arith, accepted-line .limits .nodes, sentence-weight (accepted-line .signs) (accepted-line .tree) (accepted-line .reads .derived)));
         held = room;
         low = codes-low (take n codes) (ap lowAtoms codes-said ∙ said-low);
-        short = omega (arith, read-part, read-within, v .whole);
+        short = omega (arith, length-take n codes, read-within);
       }
 
       module _ (at made : ℕ) (out : List ℕ) (r : Read Arrows 1 (take n codes) 0 0 entry at made out) where
@@ -214,4 +211,4 @@ module _ (controller : ℕ) (line entry : List ℕ) where
                   made q read-count (laid-begins made (map nodeWord (lineNodes line)) entry out read-count read-lies) e;
             }
 
-pub ruleset read-laws = (needs, read-short, read-refused, read-within, read-part, read-ready, read-few, read-held, read-accepted)
+pub ruleset read-laws = (needs, read-short, read-refused, read-within, read-ready, read-few, read-held, read-accepted)

@@ -55,7 +55,7 @@ pub fn read_line(controller: usize, line: &[u8], nodes: &mut [u32]) -> RuleRead
         return RuleRead::Refused(number);
     }
     let n = checked.signs;
-    let end = arrows(&codes[..n], 0, Limits::OPEN_BRACKETS, 0, nodes);
+    let end = arrows(&codes, n, 0, Limits::OPEN_BRACKETS, 0, nodes);
     let count = end.made;
     lent::clear_u32(nodes, count, Limits::RULE_NODES);
     RuleRead::Rule(controller, count)

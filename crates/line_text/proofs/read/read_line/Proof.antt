@@ -31,14 +31,6 @@ same-length c = search read-laws
 returns-2 : tie.Need-returns-2
 returns-2 c = search read-refused
 
--- src/read.rt:58:22
-array-share-prefix-codes : tie.Need-array-share-prefix-codes
-array-share-prefix-codes c = search read-laws
-
--- src/read.rt:58:22
-slice-aggregate-arrows : tie.Need-slice-aggregate-arrows
-slice-aggregate-arrows c = search read-laws
-
 -- src/read.rt:58:9
 arrows-requires : tie.Need-arrows-requires
 arrows-requires c κs = search read-laws
@@ -65,8 +57,6 @@ read-line-spec =
     clear-u32-requires
     same-length
     returns-2
-    array-share-prefix-codes
-    slice-aggregate-arrows
     arrows-requires
     clear-u32-requires-2
     same-length-2

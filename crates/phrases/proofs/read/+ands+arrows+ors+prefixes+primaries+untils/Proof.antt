@@ -1,7 +1,8 @@
 use Prim.Native.Nat.{_-_}
-use lib.ListN.{length}
+use borrow.Author.Needs.{needs}
+use lib.ListN.{length, take}
 use Rattle.definitions.specs.OneLineGrammar.{Ors, Ands}
-use Rattle.phrases.proofs.ReadLaws.{Turn, ands-again, ands-dual, ands-falls, ands-index, ands-laws, ands-less, ands-low-after, ands-ready, ands-write, arrows-falls, arrows-index, arrows-laws, arrows-low-after, arrows-read, arrows-ready, arrows-write-after, measure, ors-again, ors-falls, ors-laws, ors-less, ors-low-after, ors-ready, ors-write-after, prefixes-falling, prefixes-last, prefixes-laws, prefixes-primary, prefixes-read, prefixes-ready, primaries-laws, untils-falling, untils-index, untils-laws, untils-low-first, untils-low-second, untils-read, untils-ready, untils-stop-high, untils-stop-low, untils-write-after}
+use Rattle.phrases.proofs.ReadLaws.{Turn, ands-again, ands-dual, ands-falls, ands-index, ands-laws, ands-less, ands-low-after, ands-ready, arrows-falling, arrows-falls, arrows-index, arrows-laws, arrows-low-first, arrows-low-second, arrows-not, arrows-read, arrows-ready, arrows-stop, arrows-write-after, measure, ors-again, ors-falls, ors-laws, ors-less, ors-low-after, ors-ready, ors-write-after, prefixes-falling, prefixes-last, prefixes-laws, prefixes-primary, prefixes-read, prefixes-ready, primaries-laws, untils-falling, untils-index, untils-laws, untils-low-first, untils-low-second, untils-read, untils-ready, untils-stop-high, untils-stop-low, untils-write-after}
 use Prim.Native.Nat.{ℕ, _<_}
 use borrow.Fn.Kinds.{In}
 use borrow.Fn.PlainCycle.{Measures, is, falls, and}
@@ -24,7 +25,7 @@ use Rattle.phrases.proofs.read.untils.Reads as untils
 use Rattle.phrases.proofs.read.untils.Kinds as untils-kinds
 use Rattle.phrases.proofs.read.+ands+arrows+ors+prefixes+primaries+untils.Lts-untils as untils-lts
 use Rattle.emission.proofs.word.atom.Reads as atom-reads
-use Rattle.emission.proofs.word.not.Reads as not-reads
+use Rattle.emission.proofs.write.not.Reads as not-reads
 use Rattle.emission.proofs.word.or.Reads as or-reads
 use Rattle.emission.proofs.word.truth.Reads as truth-reads
 use Rattle.emission.proofs.word.until.Reads as until-reads
@@ -36,22 +37,22 @@ use Rattle.phrases.proofs.read.+ands+arrows+ors+prefixes+primaries+unti
 use Rattle.phrases.proofs.read.+ands+arrows+ors+prefixes+primaries+untils.Tie.{close}
 
 abbrev μ-ands : Measures 2 ands-kinds.ps ℕ
-μ-ands κs a = measure (length (a .0 .now)) (a .1 .0) 4
+μ-ands κs a = measure (length (take (a .1 .0) (a .0 .now))) (a .1 .1 .0) 4
 
 abbrev μ-arrows : Measures 2 arrows-kinds.ps ℕ
-μ-arrows κs a = measure (length (a .0 .now)) (a .1 .0) 6
+μ-arrows κs a = measure (length (take (a .1 .0) (a .0 .now))) (a .1 .1 .0) 6
 
 abbrev μ-ors : Measures 2 ors-kinds.ps ℕ
-μ-ors κs a = measure (length (a .0 .now)) (a .1 .0) 5
+μ-ors κs a = measure (length (take (a .1 .0) (a .0 .now))) (a .1 .1 .0) 5
 
 abbrev μ-prefixes : Measures 2 prefixes-kinds.ps ℕ
-μ-prefixes κs a = measure (length (a .0 .now)) (a .1 .0) 2
+μ-prefixes κs a = measure (length (take (a .1 .0) (a .0 .now))) (a .1 .1 .0) 2
 
 abbrev μ-primaries : Measures 2 primaries-kinds.ps ℕ
-μ-primaries κs a = measure (length (a .0 .now)) (a .1 .0) 1
+μ-primaries κs a = measure (length (take (a .1 .0) (a .0 .now))) (a .1 .1 .0) 1
 
 abbrev μ-untils : Measures 2 untils-kinds.ps ℕ
-μ-untils κs a = measure (length (a .0 .now)) (a .1 .0) 3
+μ-untils κs a = measure (length (take (a .1 .0) (a .0 .now))) (a .1 .1 .0) 3
 
 abbrev ands-at : ℕ → In 2 ands-kinds.ps
 ands-at t = and 2 ands-kinds.ps (is 2 ands-kinds.ps μ-ands t) ands.Pre
@@ -110,10 +111,10 @@ abbrev untils-claims : ℕ → untils-lts.Claims
 untils-claims t = (prefixes-below t, prefixes.Post, peek-reads.Asked, peek-reads.Learnt, untils-below t, untils.Post, until-reads.Asked, until-reads.Learnt)
 
 abbrev ands-Inv-loop : ands-lts.InvT-loop
-ands-Inv-loop codes at left made nodes₀ a₀ m₀ nodes a m = Turn Ands 4 left codes at made a₀ m₀ nodes₀ a m nodes
+ands-Inv-loop codes count at left made nodes₀ a₀ m₀ nodes a m = Turn Ands 4 left (take count codes) at made a₀ m₀ nodes₀ a m nodes
 
 abbrev ands-μ-loop : ands-lts.MeasureT-loop
-ands-μ-loop codes at left made nodes₀ a₀ m₀ nodes a m = length codes - a
+ands-μ-loop codes count at left made nodes₀ a₀ m₀ nodes a m = length (take count codes) - a
 
 -- src/read.rt:68:9
 ands-untils-requires : (t : ℕ) → ands-lts.Need-untils-requires (ands-claims t) (ands-at t) ands.Post ands-Inv-loop ands-μ-loop
@@ -127,49 +128,33 @@ ands-loop-holds t c = search ands-laws
 ands-peek-requires : (t : ℕ) → ands-lts.Need-peek-requires (ands-claims t) (ands-at t) ands.Post ands-Inv-loop ands-μ-loop
 ands-peek-requires t c κs = search ands-laws
 
--- src/read.rt:72:30
-ands-sub-not : (t : ℕ) → ands-lts.Need-sub-not (ands-claims t) (ands-at t) ands.Post ands-Inv-loop ands-μ-loop
-ands-sub-not t c = search ands-laws
-
 -- src/read.rt:72:20
 ands-not-requires : (t : ℕ) → ands-lts.Need-not-requires (ands-claims t) (ands-at t) ands.Post ands-Inv-loop ands-μ-loop
 ands-not-requires t c κs = search ands-laws
 
--- src/read.rt:72:9
-ands-mul-nodes : (t : ℕ) → ands-lts.Need-mul-nodes (ands-claims t) (ands-at t) ands.Post ands-Inv-loop ands-μ-loop
-ands-mul-nodes t c = search ands-laws
-
--- src/read.rt:72:9
-ands-slice-write-nodes : (t : ℕ) → ands-lts.Need-slice-write-nodes (ands-claims t) (ands-at t) ands.Post ands-Inv-loop ands-μ-loop
-ands-slice-write-nodes t c = search ands-laws
-
 -- src/read.rt:73:31
-ands-add-untils : (t : ℕ) → ands-lts.Need-add-untils (ands-claims t) (ands-at t) ands.Post ands-Inv-loop ands-μ-loop
-ands-add-untils t c = ands-index _ _ _ _ _ _ _ _ _ _ _ (c .before .before .before .before .before .before .before .before .before .before .pre .1) (c .before .before .before .before .before .before .untils .ensures) (c .before .before .before .loop .inv) _ (c .before .before .peek .ensures) (c .before .if1 .taken)
-
--- src/read.rt:73:44
-ands-add-untils-2 : (t : ℕ) → ands-lts.Need-add-untils-2 (ands-claims t) (ands-at t) ands.Post ands-Inv-loop ands-μ-loop
-ands-add-untils-2 t c = search ands-laws
+ands-add-next : (t : ℕ) → ands-lts.Need-add-next (ands-claims t) (ands-at t) ands.Post ands-Inv-loop ands-μ-loop
+ands-add-next t c = search ands-index
 
 -- src/read.rt:73:13
 ands-untils-requires-2 : (t : ℕ) → ands-lts.Need-untils-requires-2 (ands-claims t) (ands-at t) ands.Post ands-Inv-loop ands-μ-loop
-ands-untils-requires-2 t c κs = (ands-falls _ _ _ _ _ _ _ _ _ _ _ (c .before .before .before .before .before .before .before .before .before .before .before .pre .1) (c .before .before .before .before .before .before .before .untils .ensures) (c .before .before .before .before .loop .inv) _ (c .before .before .before .peek .ensures) (c .before .before .if1 .taken) t (c .before .before .before .before .before .before .before .before .before .before .before .pre .0), ands-ready _ _ _ _ _ _ _ _ _ _ _ (c .before .before .before .before .before .before .before .before .before .before .before .pre .1) (c .before .before .before .before .before .before .before .untils .ensures) (c .before .before .before .before .loop .inv) _ (c .before .before .before .peek .ensures) (c .before .before .if1 .taken) _ (c .before .not .ensures))
+ands-untils-requires-2 t c κs = (ands-falls _ _ _ _ _ _ _ _ _ _ _ (c .before .before .before .before .before .before .before .before .before .before .before .before .before .pre .1 .1) (c .before .before .before .before .before .before .before .before .before .before .untils .ensures) (c .before .before .before .before .before .before .before .loop .inv) _ (c .before .before .before .before .before .before .peek .ensures) (c .before .before .before .before .before .if1 .taken) t (c .before .before .before .before .before .before .before .before .before .before .before .before .before .pre .0), (search needs, ands-ready _ _ _ _ _ _ _ _ _ _ _ (c .before .before .before .before .before .before .before .before .before .before .before .before .before .pre .1 .1) (c .before .before .before .before .before .before .before .before .before .before .untils .ensures) (c .before .before .before .before .before .before .before .loop .inv) _ (c .before .before .before .before .before .before .peek .ensures) (c .before .before .before .before .before .if1 .taken) _ _ (c .before .before .before .not .ensures)))
 
 -- src/read.rt:75:31
 ands-or-requires : (t : ℕ) → ands-lts.Need-or-requires (ands-claims t) (ands-at t) ands.Post ands-Inv-loop ands-μ-loop
-ands-or-requires t c κs = ands-low-after _ _ _ _ _ _ _ _ _ _ _ (c .before .before .before .before .before .before .before .before .before .before .before .before .before .before .pre .1) (c .before .before .before .before .before .before .before .before .before .before .untils .ensures) (c .before .before .before .before .before .before .before .loop .inv) _ (c .before .before .before .before .before .before .peek .ensures) (c .before .before .before .before .before .if1 .taken) _ (c .before .before .before .before .not .ensures) _ _ _ (c .before .before .untils2 .ensures)
+ands-or-requires t c κs = ands-low-after _ _ _ _ _ _ _ _ _ _ _ (c .before .before .before .before .before .before .before .before .before .before .before .before .before .before .before .before .pre .1 .1) (c .before .before .before .before .before .before .before .before .before .before .before .before .before .untils .ensures) (c .before .before .before .before .before .before .before .before .before .before .loop .inv) _ (c .before .before .before .before .before .before .before .before .before .peek .ensures) (c .before .before .before .before .before .before .before .before .if1 .taken) _ _ (c .before .before .before .before .before .before .not .ensures) _ _ _ (c .before .before .untils2 .ensures)
 
 -- src/read.rt:75:13
 ands-dual-requires : (t : ℕ) → ands-lts.Need-dual-requires (ands-claims t) (ands-at t) ands.Post ands-Inv-loop ands-μ-loop
-ands-dual-requires t c κs = ands-dual _ _ _ _ _ _ _ _ _ _ _ (c .before .before .before .before .before .before .before .before .before .before .before .before .before .before .before .before .pre .1) (c .before .before .before .before .before .before .before .before .before .before .before .before .untils .ensures) (c .before .before .before .before .before .before .before .before .before .loop .inv) _ (c .before .before .before .before .before .before .before .before .peek .ensures) (c .before .before .before .before .before .before .before .if1 .taken) _ (c .before .before .before .before .before .before .not .ensures) _ _ _ (c .before .before .before .before .untils2 .ensures)
+ands-dual-requires t c κs = ands-dual _ _ _ _ _ _ _ _ _ _ _ (c .before .before .before .before .before .before .before .before .before .before .before .before .before .before .before .before .before .before .pre .1 .1) (c .before .before .before .before .before .before .before .before .before .before .before .before .before .before .before .untils .ensures) (c .before .before .before .before .before .before .before .before .before .before .before .before .loop .inv) _ (c .before .before .before .before .before .before .before .before .before .before .before .peek .ensures) (c .before .before .before .before .before .before .before .before .before .before .if1 .taken) _ _ (c .before .before .before .before .before .before .before .before .not .ensures) _ _ _ (c .before .before .before .before .untils2 .ensures)
 
 -- src/read.rt:71:5
 ands-loop-less : (t : ℕ) → ands-lts.Need-loop-less (ands-claims t) (ands-at t) ands.Post ands-Inv-loop ands-μ-loop
-ands-loop-less t c = ands-less _ _ _ _ _ _ _ _ _ _ _ (c .before .before .before .before .before .before .before .before .before .before .before .before .before .before .before .before .before .before .before .pre .1) (c .before .before .before .before .before .before .before .before .before .before .before .before .before .before .before .untils .ensures) (c .before .before .before .before .before .before .before .before .before .before .before .before .loop .inv) _ (c .before .before .before .before .before .before .before .before .before .before .before .peek .ensures) (c .before .before .before .before .before .before .before .before .before .before .if1 .taken) _ (c .before .before .before .before .before .before .before .before .before .not .ensures) _ _ _ (c .before .before .before .before .before .before .before .untils2 .ensures)
+ands-loop-less t c = ands-less _ _ _ _ _ _ _ _ _ _ _ (c .before .before .before .before .before .before .before .before .before .before .before .before .before .before .before .before .before .before .before .before .before .pre .1 .1) (c .before .before .before .before .before .before .before .before .before .before .before .before .before .before .before .before .before .before .untils .ensures) (c .before .before .before .before .before .before .before .before .before .before .before .before .before .before .before .loop .inv) _ (c .before .before .before .before .before .before .before .before .before .before .before .before .before .before .peek .ensures) (c .before .before .before .before .before .before .before .before .before .before .before .before .before .if1 .taken) _ _ (c .before .before .before .before .before .before .before .before .before .before .before .not .ensures) _ _ _ (c .before .before .before .before .before .before .before .untils2 .ensures)
 
 -- src/read.rt:71:5
 ands-loop-again : (t : ℕ) → ands-lts.Need-loop-again (ands-claims t) (ands-at t) ands.Post ands-Inv-loop ands-μ-loop
-ands-loop-again t c = ands-again _ _ _ _ _ _ _ _ _ _ _ (c .before .before .before .before .before .before .before .before .before .before .before .before .loop .inv) (c .before .before .before .before .before .before .before .before .before .before .before .peek .ensures) (c .before .before .before .before .before .before .before .before .before .before .if1 .taken) _ (ands-write _ _ _ _ _ _ _ _ _ _ _ (c .before .before .before .before .before .before .before .before .before .before .before .before .before .before .before .before .before .before .before .pre .1) (c .before .before .before .before .before .before .before .before .before .before .before .before .before .before .before .untils .ensures) (c .before .before .before .before .before .before .before .before .before .before .before .before .loop .inv) _ (c .before .before .before .before .before .before .before .before .before .before .before .peek .ensures) (c .before .before .before .before .before .before .before .before .before .before .if1 .taken)) (c .before .before .before .before .before .before .before .before .before .not .ensures) _ _ _ _ _ _ (c .before .before .before .before .before .before .before .untils2 .ensures) (c .before .before .before .before .or .ensures) (c .before .before .dual .ensures)
+ands-loop-again t c = ands-again _ _ _ _ _ _ _ _ _ _ _ (c .before .before .before .before .before .before .before .before .before .before .before .before .before .before .before .loop .inv) (c .before .before .before .before .before .before .before .before .before .before .before .before .before .before .peek .ensures) (c .before .before .before .before .before .before .before .before .before .before .before .before .before .if1 .taken) _ _ (c .before .before .before .before .before .before .before .before .before .before .before .not .ensures) _ _ _ _ _ _ (c .before .before .before .before .before .before .before .untils2 .ensures) (c .before .before .before .before .or .ensures) (c .before .before .dual .ensures)
 
 -- src/read.rt:64:1
 ands-same-length : (t : ℕ) → ands-lts.Need-same-length (ands-claims t) (ands-at t) ands.Post ands-Inv-loop ands-μ-loop
@@ -181,19 +166,15 @@ ands-returns t c = search ands-laws
 
 -- src/read.rt:29:9
 arrows-ors-requires : (t : ℕ) → arrows-lts.Need-ors-requires (arrows-claims t) (arrows-at t) arrows.Post
-arrows-ors-requires t c κs = search arrows-laws
+arrows-ors-requires t c κs = (search arrows-falling, (search needs, search arrows-ready))
 
 -- src/read.rt:32:8
 arrows-peek-requires : (t : ℕ) → arrows-lts.Need-peek-requires (arrows-claims t) (arrows-at t) arrows.Post
-arrows-peek-requires t c κs = search arrows-laws
-
--- src/read.rt:33:30
-arrows-sub-not : (t : ℕ) → arrows-lts.Need-sub-not (arrows-claims t) (arrows-at t) arrows.Post
-arrows-sub-not t c = search arrows-laws
+arrows-peek-requires t c κs = search needs
 
 -- src/read.rt:33:20
 arrows-not-requires : (t : ℕ) → arrows-lts.Need-not-requires (arrows-claims t) (arrows-at t) arrows.Post
-arrows-not-requires t c κs = search arrows-laws
+arrows-not-requires t c κs = search arrows-not
 
 -- src/read.rt:33:9
 arrows-mul-nodes : (t : ℕ) → arrows-lts.Need-mul-nodes (arrows-claims t) (arrows-at t) arrows.Post
@@ -201,19 +182,15 @@ arrows-mul-nodes t c = search arrows-laws
 
 -- src/read.rt:33:9
 arrows-slice-write-nodes : (t : ℕ) → arrows-lts.Need-slice-write-nodes (arrows-claims t) (arrows-at t) arrows.Post
-arrows-slice-write-nodes t c = search arrows-laws
+arrows-slice-write-nodes t c = search arrows-write-after
 
 -- src/read.rt:34:31
-arrows-add-arrows : (t : ℕ) → arrows-lts.Need-add-arrows (arrows-claims t) (arrows-at t) arrows.Post
-arrows-add-arrows t c = arrows-index _ _ _ _ _ _ _ _ _ (c .before .before .before .before .before .before .before .before .before .pre .1) (c .before .before .before .before .before .ors .ensures) (c .before .before .peek .ensures) (c .before .if1 .taken)
-
--- src/read.rt:34:44
-arrows-add-arrows-2 : (t : ℕ) → arrows-lts.Need-add-arrows-2 (arrows-claims t) (arrows-at t) arrows.Post
-arrows-add-arrows-2 t c = search arrows-laws
+arrows-add-next : (t : ℕ) → arrows-lts.Need-add-next (arrows-claims t) (arrows-at t) arrows.Post
+arrows-add-next t c = search arrows-index
 
 -- src/read.rt:34:13
 arrows-arrows-requires : (t : ℕ) → arrows-lts.Need-arrows-requires (arrows-claims t) (arrows-at t) arrows.Post
-arrows-arrows-requires t c κs = (arrows-falls _ _ _ _ _ _ _ _ _ (c .before .before .before .before .before .before .before .before .before .before .pre .1) (c .before .before .before .before .before .before .ors .ensures) (c .before .before .before .peek .ensures) (c .before .before .if1 .taken) t (c .before .before .before .before .before .before .before .before .before .before .pre .0), arrows-ready _ _ _ _ _ _ _ _ _ (c .before .before .before .before .before .before .before .before .before .before .pre .1) (c .before .before .before .before .before .before .ors .ensures) (c .before .before .before .peek .ensures) (c .before .before .if1 .taken) _ (c .before .not .ensures))
+arrows-arrows-requires t c κs = (arrows-falls _ _ _ _ _ _ _ _ _ _ _ (c .before .before .before .before .before .before .before .before .before .before .before .before .pre .1 .1) (c .before .before .before .before .before .before .before .before .before .ors .ensures) (c .before .before .before .before .before .before .peek .ensures) (c .before .before .before .before .before .if1 .taken) t (c .before .before .before .before .before .before .before .before .before .before .before .before .pre .0), (search needs, arrows-ready _ _ _ _ _ _ _ _ _ _ _ (c .before .before .before .before .before .before .before .before .before .before .before .before .pre .1 .1) (c .before .before .before .before .before .before .before .before .before .ors .ensures) (c .before .before .before .before .before .before .peek .ensures) (c .before .before .before .before .before .if1 .taken) _ _ (c .before .before .before .not .ensures)))
 
 -- src/read.rt:36:32
 arrows-sub-or : (t : ℕ) → arrows-lts.Need-sub-or (arrows-claims t) (arrows-at t) arrows.Post
@@ -221,19 +198,11 @@ arrows-sub-or t c = search arrows-laws
 
 -- src/read.rt:36:20
 arrows-or-requires : (t : ℕ) → arrows-lts.Need-or-requires (arrows-claims t) (arrows-at t) arrows.Post
-arrows-or-requires t c κs = arrows-low-after _ _ _ _ _ _ _ _ _ (c .before .before .before .before .before .before .before .before .before .before .before .before .before .pre .1) (c .before .before .before .before .before .before .before .before .before .ors .ensures) (c .before .before .before .before .before .before .peek .ensures) (c .before .before .before .before .before .if1 .taken) _ (c .before .before .before .before .not .ensures) _ _ _ (c .before .before .arrows .ensures)
-
--- src/read.rt:36:9
-arrows-mul-nodes-2 : (t : ℕ) → arrows-lts.Need-mul-nodes-2 (arrows-claims t) (arrows-at t) arrows.Post
-arrows-mul-nodes-2 t c = search arrows-laws
-
--- src/read.rt:36:9
-arrows-slice-write-nodes-2 : (t : ℕ) → arrows-lts.Need-slice-write-nodes-2 (arrows-claims t) (arrows-at t) arrows.Post
-arrows-slice-write-nodes-2 t c = arrows-write-after _ _ _ _ _ _ _ _ _ (c .before .before .before .before .before .before .before .before .before .before .before .before .before .before .pre .1) (c .before .before .before .before .before .before .before .before .before .before .ors .ensures) (c .before .before .before .before .before .before .before .peek .ensures) (c .before .before .before .before .before .before .if1 .taken) _ (c .before .before .before .before .before .not .ensures) _ _ _ (c .before .before .before .arrows .ensures)
+arrows-or-requires t c κs = (search arrows-low-first, search arrows-low-second)
 
 -- src/read.rt:39:19
-arrows-add-t17 : (t : ℕ) → arrows-lts.Need-add-t17 (arrows-claims t) (arrows-at t) arrows.Post
-arrows-add-t17 t c = search arrows-laws
+arrows-add-end : (t : ℕ) → arrows-lts.Need-add-end (arrows-claims t) (arrows-at t) arrows.Post
+arrows-add-end t c = search arrows-laws
 
 -- src/read.rt:37:9
 arrows-same-length : (t : ℕ) → arrows-lts.Need-same-length (arrows-claims t) (arrows-at t) arrows.Post
@@ -241,7 +210,7 @@ arrows-same-length t c = search arrows-laws
 
 -- src/read.rt:37:9
 arrows-returns : (t : ℕ) → arrows-lts.Need-returns (arrows-claims t) (arrows-at t) arrows.Post
-arrows-returns t c = arrows-read _ _ _ _ _ _ _ _ _ (c .before .before .before .before .before .before .before .before .before .before .before .before .before .before .pre .1) (c .before .before .before .before .before .before .before .before .before .before .ors .ensures) (c .before .before .before .before .before .before .before .peek .ensures) (c .before .before .before .before .before .before .if1 .taken) _ (c .before .before .before .before .before .not .ensures) _ _ _ (c .before .before .before .arrows .ensures) _ (c .or .ensures)
+arrows-returns t c = search arrows-read
 
 -- src/read.rt:25:1
 arrows-same-length-2 : (t : ℕ) → arrows-lts.Need-same-length-2 (arrows-claims t) (arrows-at t) arrows.Post
@@ -249,13 +218,13 @@ arrows-same-length-2 t c = search arrows-laws
 
 -- src/read.rt:25:1
 arrows-returns-2 : (t : ℕ) → arrows-lts.Need-returns-2 (arrows-claims t) (arrows-at t) arrows.Post
-arrows-returns-2 t c = search arrows-laws
+arrows-returns-2 t c = search arrows-stop
 
 abbrev ors-Inv-loop : ors-lts.InvT-loop
-ors-Inv-loop codes at left made nodes₀ a₀ m₀ nodes a m = Turn Ors 3 left codes at made a₀ m₀ nodes₀ a m nodes
+ors-Inv-loop codes count at left made nodes₀ a₀ m₀ nodes a m = Turn Ors 3 left (take count codes) at made a₀ m₀ nodes₀ a m nodes
 
 abbrev ors-μ-loop : ors-lts.MeasureT-loop
-ors-μ-loop codes at left made nodes₀ a₀ m₀ nodes a m = length codes - a
+ors-μ-loop codes count at left made nodes₀ a₀ m₀ nodes a m = length (take count codes) - a
 
 -- src/read.rt:50:9
 ors-ands-requires : (t : ℕ) → ors-lts.Need-ands-requires (ors-claims t) (ors-at t) ors.Post ors-Inv-loop ors-μ-loop
@@ -275,7 +244,7 @@ ors-add-ands t c = search ors-laws
 
 -- src/read.rt:54:13
 ors-ands-requires-2 : (t : ℕ) → ors-lts.Need-ands-requires-2 (ors-claims t) (ors-at t) ors.Post ors-Inv-loop ors-μ-loop
-ors-ands-requires-2 t c κs = (ors-falls _ _ _ _ _ _ _ _ _ _ _ (c .before .before .before .before .before .before .before .before .before .before .pre .1) (c .before .before .before .before .before .before .ands .ensures) (c .before .before .before .loop .inv) _ (c .before .before .peek .ensures) (c .before .if1 .taken) t (c .before .before .before .before .before .before .before .before .before .before .pre .0), ors-ready _ _ _ _ _ _ _ _ _ _ _ (c .before .before .before .before .before .before .before .before .before .before .pre .1) (c .before .before .before .before .before .before .ands .ensures) (c .before .before .before .loop .inv) _ (c .before .before .peek .ensures) (c .before .if1 .taken))
+ors-ands-requires-2 t c κs = (ors-falls _ _ _ _ _ _ _ _ _ _ _ (c .before .before .before .before .before .before .before .before .before .pre .1 .1) (c .before .before .before .before .before .before .ands .ensures) (c .before .before .before .loop .inv) _ (c .before .before .peek .ensures) (c .before .if1 .taken) t (c .before .before .before .before .before .before .before .before .before .pre .0), (search needs, ors-ready _ _ _ _ _ _ _ _ _ _ _ (c .before .before .before .before .before .before .before .before .before .pre .1 .1) (c .before .before .before .before .before .before .ands .ensures) (c .before .before .before .loop .inv) _ (c .before .before .peek .ensures) (c .before .if1 .taken)))
 
 -- src/read.rt:56:29
 ors-sub-or : (t : ℕ) → ors-lts.Need-sub-or (ors-claims t) (ors-at t) ors.Post ors-Inv-loop ors-μ-loop
@@ -287,7 +256,7 @@ ors-sub-or-2 t c = search ors-laws
 
 -- src/read.rt:56:20
 ors-or-requires : (t : ℕ) → ors-lts.Need-or-requires (ors-claims t) (ors-at t) ors.Post ors-Inv-loop ors-μ-loop
-ors-or-requires t c κs = ors-low-after _ _ _ _ _ _ _ _ _ _ _ (c .before .before .before .before .before .before .before .before .before .before .before .before .before .pre .1) (c .before .before .before .before .before .before .before .before .before .ands .ensures) (c .before .before .before .before .before .before .loop .inv) _ (c .before .before .before .before .before .peek .ensures) (c .before .before .before .before .if1 .taken) _ _ _ (c .before .before .ands2 .ensures)
+ors-or-requires t c κs = ors-low-after _ _ _ _ _ _ _ _ _ _ _ (c .before .before .before .before .before .before .before .before .before .before .before .before .pre .1 .1) (c .before .before .before .before .before .before .before .before .before .ands .ensures) (c .before .before .before .before .before .before .loop .inv) _ (c .before .before .before .before .before .peek .ensures) (c .before .before .before .before .if1 .taken) _ _ _ (c .before .before .ands2 .ensures)
 
 -- src/read.rt:56:9
 ors-mul-nodes : (t : ℕ) → ors-lts.Need-mul-nodes (ors-claims t) (ors-at t) ors.Post ors-Inv-loop ors-μ-loop
@@ -295,7 +264,7 @@ ors-mul-nodes t c = search ors-laws
 
 -- src/read.rt:56:9
 ors-slice-write-nodes : (t : ℕ) → ors-lts.Need-slice-write-nodes (ors-claims t) (ors-at t) ors.Post ors-Inv-loop ors-μ-loop
-ors-slice-write-nodes t c = ors-write-after _ _ _ _ _ _ _ _ _ _ _ (c .before .before .before .before .before .before .before .before .before .before .before .before .before .before .pre .1) (c .before .before .before .before .before .before .before .before .before .before .ands .ensures) (c .before .before .before .before .before .before .before .loop .inv) _ (c .before .before .before .before .before .before .peek .ensures) (c .before .before .before .before .before .if1 .taken) _ _ _ (c .before .before .before .ands2 .ensures)
+ors-slice-write-nodes t c = ors-write-after _ _ _ _ _ _ _ _ _ _ _ (c .before .before .before .before .before .before .before .before .before .before .before .before .before .pre .1 .1) (c .before .before .before .before .before .before .before .before .before .before .ands .ensures) (c .before .before .before .before .before .before .before .loop .inv) _ (c .before .before .before .before .before .before .peek .ensures) (c .before .before .before .before .before .if1 .taken) _ _ _ (c .before .before .before .ands2 .ensures)
 
 -- src/read.rt:58:13
 ors-add-m : (t : ℕ) → ors-lts.Need-add-m (ors-claims t) (ors-at t) ors.Post ors-Inv-loop ors-μ-loop
@@ -303,11 +272,11 @@ ors-add-m t c = search ors-laws
 
 -- src/read.rt:53:5
 ors-loop-less : (t : ℕ) → ors-lts.Need-loop-less (ors-claims t) (ors-at t) ors.Post ors-Inv-loop ors-μ-loop
-ors-loop-less t c = ors-less _ _ _ _ _ _ _ _ _ _ _ (c .before .before .before .before .before .before .before .before .before .before .before .before .before .before .pre .1) (c .before .before .before .before .before .before .before .before .before .before .ands .ensures) (c .before .before .before .before .before .before .before .loop .inv) _ (c .before .before .before .before .before .before .peek .ensures) (c .before .before .before .before .before .if1 .taken) _ _ _ (c .before .before .before .ands2 .ensures)
+ors-loop-less t c = ors-less _ _ _ _ _ _ _ _ _ _ _ (c .before .before .before .before .before .before .before .before .before .before .before .before .before .pre .1 .1) (c .before .before .before .before .before .before .before .before .before .before .ands .ensures) (c .before .before .before .before .before .before .before .loop .inv) _ (c .before .before .before .before .before .before .peek .ensures) (c .before .before .before .before .before .if1 .taken) _ _ _ (c .before .before .before .ands2 .ensures)
 
 -- src/read.rt:53:5
 ors-loop-again : (t : ℕ) → ors-lts.Need-loop-again (ors-claims t) (ors-at t) ors.Post ors-Inv-loop ors-μ-loop
-ors-loop-again t c = ors-again _ _ _ _ _ _ _ _ _ _ _ (c .before .before .before .before .before .before .before .loop .inv) (c .before .before .before .before .before .before .peek .ensures) (c .before .before .before .before .before .if1 .taken) _ _ _ _ (c .before .before .before .ands2 .ensures) (ors-write-after _ _ _ _ _ _ _ _ _ _ _ (c .before .before .before .before .before .before .before .before .before .before .before .before .before .before .pre .1) (c .before .before .before .before .before .before .before .before .before .before .ands .ensures) (c .before .before .before .before .before .before .before .loop .inv) _ (c .before .before .before .before .before .before .peek .ensures) (c .before .before .before .before .before .if1 .taken) _ _ _ (c .before .before .before .ands2 .ensures)) (c .or .ensures)
+ors-loop-again t c = ors-again _ _ _ _ _ _ _ _ _ _ _ (c .before .before .before .before .before .before .before .loop .inv) (c .before .before .before .before .before .before .peek .ensures) (c .before .before .before .before .before .if1 .taken) _ _ _ _ (c .before .before .before .ands2 .ensures) (ors-write-after _ _ _ _ _ _ _ _ _ _ _ (c .before .before .before .before .before .before .before .before .before .before .before .before .before .pre .1 .1) (c .before .before .before .before .before .before .before .before .before .before .ands .ensures) (c .before .before .before .before .before .before .before .loop .inv) _ (c .before .before .before .before .before .before .peek .ensures) (c .before .before .before .before .before .if1 .taken) _ _ _ (c .before .before .before .ands2 .ensures)) (c .or .ensures)
 
 -- src/read.rt:46:1
 ors-same-length : (t : ℕ) → ors-lts.Need-same-length (ors-claims t) (ors-at t) ors.Post ors-Inv-loop ors-μ-loop
@@ -355,11 +324,11 @@ prefixes-add-next t c = search prefixes-laws
 
 -- src/read.rt:119:9
 prefixes-prefixes-requires : (t : ℕ) → prefixes-lts.Need-prefixes-requires (prefixes-claims t) (prefixes-at t) prefixes.Post
-prefixes-prefixes-requires t c κs = (search prefixes-falling, search prefixes-ready)
+prefixes-prefixes-requires t c κs = (search prefixes-falling, (search needs, search prefixes-ready))
 
 -- src/read.rt:121:9
 prefixes-close-prefix-requires : (t : ℕ) → prefixes-lts.Need-close-prefix-requires (prefixes-claims t) (prefixes-at t) prefixes.Post
-prefixes-close-prefix-requires t c κs = prefixes-last _ _ _ _ _ _ (c .before .before .before .before .before .before .before .before .before .before .before .before .before .before .pre .1) (c .before .before .before .before .before .before .before .before .before .before .before .peek .ensures) (c .before .before .before .before .before .before .before .before .before .before .if1 .left) (c .before .before .before .before .before .before .before .before .before .if2 .left) _ _ (c .before .before .before .before .before .before .before .open-prefix .ensures) _ _ _ _ _ (c .before .before .before .prefixes .ensures)
+prefixes-close-prefix-requires t c κs = prefixes-last _ _ _ _ _ _ (c .before .before .before .before .before .before .before .before .before .before .before .before .before .pre .1 .1) (c .before .before .before .before .before .before .before .before .before .before .before .peek .ensures) (c .before .before .before .before .before .before .before .before .before .before .if1 .left) (c .before .before .before .before .before .before .before .before .before .if2 .left) _ _ (c .before .before .before .before .before .before .before .open-prefix .ensures) _ _ _ _ _ (c .before .before .before .prefixes .ensures)
 
 -- src/read.rt:107:1
 prefixes-same-length-3 : (t : ℕ) → prefixes-lts.Need-same-length-3 (prefixes-claims t) (prefixes-at t) prefixes.Post
@@ -386,8 +355,8 @@ primaries-arrows-requires : (t : ℕ) → primaries-lts.Need-arrows-requires (pr
 primaries-arrows-requires t c κs = search primaries-laws
 
 -- src/read.rt:137:17
-primaries-add-t9 : (t : ℕ) → primaries-lts.Need-add-t9 (primaries-claims t) (primaries-at t) primaries.Post
-primaries-add-t9 t c = search primaries-laws
+primaries-add-t10 : (t : ℕ) → primaries-lts.Need-add-t10 (primaries-claims t) (primaries-at t) primaries.Post
+primaries-add-t10 t c = search primaries-laws
 
 -- src/read.rt:136:9
 primaries-same-length : (t : ℕ) → primaries-lts.Need-same-length (primaries-claims t) (primaries-at t) primaries.Post
@@ -410,12 +379,12 @@ primaries-slice-write-nodes : (t : ℕ) → primaries-lts.Need-slice-write-nodes
 primaries-slice-write-nodes t c = search primaries-laws
 
 -- src/read.rt:144:17
-primaries-add-t14 : (t : ℕ) → primaries-lts.Need-add-t14 (primaries-claims t) (primaries-at t) primaries.Post
-primaries-add-t14 t c = search primaries-laws
+primaries-add-t15 : (t : ℕ) → primaries-lts.Need-add-t15 (primaries-claims t) (primaries-at t) primaries.Post
+primaries-add-t15 t c = search primaries-laws
 
 -- src/read.rt:145:19
-primaries-add-t16 : (t : ℕ) → primaries-lts.Need-add-t16 (primaries-claims t) (primaries-at t) primaries.Post
-primaries-add-t16 t c = search primaries-laws
+primaries-add-t17 : (t : ℕ) → primaries-lts.Need-add-t17 (primaries-claims t) (primaries-at t) primaries.Post
+primaries-add-t17 t c = search primaries-laws
 
 -- src/read.rt:143:9
 primaries-same-length-2 : (t : ℕ) → primaries-lts.Need-same-length-2 (primaries-claims t) (primaries-at t) primaries.Post
@@ -446,12 +415,12 @@ primaries-slice-write-nodes-2 : (t : ℕ) → primaries-lts.Need-slice-write-nod
 primaries-slice-write-nodes-2 t c = search primaries-laws
 
 -- src/read.rt:150:13
-primaries-add-t19 : (t : ℕ) → primaries-lts.Need-add-t19 (primaries-claims t) (primaries-at t) primaries.Post
-primaries-add-t19 t c = search primaries-laws
-
--- src/read.rt:151:15
 primaries-add-t20 : (t : ℕ) → primaries-lts.Need-add-t20 (primaries-claims t) (primaries-at t) primaries.Post
 primaries-add-t20 t c = search primaries-laws
+
+-- src/read.rt:151:15
+primaries-add-t21 : (t : ℕ) → primaries-lts.Need-add-t21 (primaries-claims t) (primaries-at t) primaries.Post
+primaries-add-t21 t c = search primaries-laws
 
 -- src/read.rt:129:1
 primaries-same-length-3 : (t : ℕ) → primaries-lts.Need-same-length-3 (primaries-claims t) (primaries-at t) primaries.Post
@@ -463,7 +432,7 @@ primaries-returns-3 t c = search primaries-laws
 
 -- src/read.rt:87:9
 untils-prefixes-requires : (t : ℕ) → untils-lts.Need-prefixes-requires (untils-claims t) (untils-at t) untils.Post
-untils-prefixes-requires t c κs = (search untils-falling, search untils-ready)
+untils-prefixes-requires t c κs = (search untils-falling, (search needs, search untils-ready))
 
 -- src/read.rt:90:9
 untils-peek-requires : (t : ℕ) → untils-lts.Need-peek-requires (untils-claims t) (untils-at t) untils.Post
@@ -491,7 +460,7 @@ untils-add-next t c = search untils-index
 
 -- src/read.rt:97:9
 untils-untils-requires : (t : ℕ) → untils-lts.Need-untils-requires (untils-claims t) (untils-at t) untils.Post
-untils-untils-requires t c κs = (search untils-falling, search untils-ready)
+untils-untils-requires t c κs = (search untils-falling, (search needs, search untils-ready))
 
 -- src/read.rt:99:31
 untils-sub-until : (t : ℕ) → untils-lts.Need-sub-until (untils-claims t) (untils-at t) untils.Post
@@ -534,12 +503,8 @@ pub +ands+arrows+ors+prefixes+primaries+untils-spec : {M : Type 1} → statement
     (ands-untils-requires t)
     (ands-loop-holds t)
     (ands-peek-requires t)
-    (ands-sub-not t)
     (ands-not-requires t)
-    (ands-mul-nodes t)
-    (ands-slice-write-nodes t)
-    (ands-add-untils t)
-    (ands-add-untils-2 t)
+    (ands-add-next t)
     (ands-untils-requires-2 t)
     (ands-or-requires t)
     (ands-dual-requires t)
@@ -551,18 +516,14 @@ pub +ands+arrows+ors+prefixes+primaries+untils-spec : {M : Type 1} → statement
     arrows.Post
     (arrows-ors-requires t)
     (arrows-peek-requires t)
-    (arrows-sub-not t)
     (arrows-not-requires t)
-    (arrows-mul-nodes t)
-    (arrows-slice-write-nodes t)
-    (arrows-add-arrows t)
-    (arrows-add-arrows-2 t)
+    (arrows-add-next t)
     (arrows-arrows-requires t)
+    (arrows-add-end t)
     (arrows-sub-or t)
     (arrows-or-requires t)
-    (arrows-mul-nodes-2 t)
-    (arrows-slice-write-nodes-2 t)
-    (arrows-add-t17 t)
+    (arrows-mul-nodes t)
+    (arrows-slice-write-nodes t)
     (arrows-same-length t)
     (arrows-returns t)
     (arrows-same-length-2 t)
@@ -607,14 +568,14 @@ pub +ands+arrows+ors+prefixes+primaries+untils-spec : {M : Type 1} → statement
     (primaries-add-arrows t)
     (primaries-sub-arrows t)
     (primaries-arrows-requires t)
-    (primaries-add-t9 t)
+    (primaries-add-t10 t)
     (primaries-same-length t)
     (primaries-returns t)
     (primaries-truth-requires t)
     (primaries-mul-nodes t)
     (primaries-slice-write-nodes t)
-    (primaries-add-t14 t)
-    (primaries-add-t16 t)
+    (primaries-add-t15 t)
+    (primaries-add-t17 t)
     (primaries-same-length-2 t)
     (primaries-returns-2 t)
     (primaries-sub-atom t)
@@ -622,8 +583,8 @@ pub +ands+arrows+ors+prefixes+primaries+untils-spec : {M : Type 1} → statement
     (primaries-atom-requires t)
     (primaries-mul-nodes-2 t)
     (primaries-slice-write-nodes-2 t)
-    (primaries-add-t19 t)
     (primaries-add-t20 t)
+    (primaries-add-t21 t)
     (primaries-same-length-3 t)
     (primaries-returns-3 t))
     λ t. untils-lts.spec (untils-claims t) (untils-at t)
