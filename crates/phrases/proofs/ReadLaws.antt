@@ -304,9 +304,6 @@ module _ (l : Level) (b left at made a m : ℕ) (x : Infix) (cs out o₁ : List 
           relaid (infix-words x (r₁ .tree) (r₂ .tree) made m n e (read-size r₁) (mid .next) (read-size r₂))
           (laid-seq (r₁ .laid) (laid-seq mid (laid-seq (r₂ .laid) last)))
 
-      infix-kept : (f : ℕ) (o₄ : List ℕ) → Laid (words (infixLast x m e)) o₃ e f o₄ → length o₄ ≡ length o₁
-      infix-kept f o₄ last = last .kept ∙ (r₂ .laid .kept ∙ mid .kept)
-
 -- what was read stops at a code
 below : (k b : ℕ) → k < b + 1 → (k ≡ b → ⊥) → k < b
 below k b h n = omega arith
@@ -373,18 +370,18 @@ module _ (l : Level) (b left at made a m c : ℕ) (cs out o₁ : List ℕ) (w : 
       pub arrows-low-second : e - 1 < operandSpan
       arrows-low-second = omega (arith, implies-room-after)
 
-      pub arrows-write-after : e < length o₃
-      arrows-write-after = omega (arith, implies-room-after, infix-held-after l b left at made a m Implies cs out o₁ w r₁ implies-joins n o₂ implies-mid l₂ b₂ a′ e o₃ r₂)
+      pub arrows-write-after : e < maxRuleNodes
+      arrows-write-after = omega (arith, implies-room-after)
+
+      implies-fits : e < length o₃
+      implies-fits = omega (arith, implies-room-after, infix-held-after l b left at made a m Implies cs out o₁ w r₁ implies-joins n o₂ implies-mid l₂ b₂ a′ e o₃ r₂)
 
       pub arrows-next-after : Fits w64 (e + 1)
       arrows-next-after = record { fits = omega (arith, implies-room-after) }
 
       module _ (u : ℕ) (p : u ≡ nodeWord (node table.Or m (e - 1))) where
         implies-end : Laid (words (infixLast Implies m e)) o₃ e (e + 1) (set o₃ e u)
-        implies-end = relaid (implies-last m e u p) (laid-one u o₃ e arrows-write-after)
-
-        pub arrows-kept : length (set o₃ e u) ≡ length out
-        arrows-kept = infix-kept l b left at made a m Implies cs out o₁ w r₁ implies-joins n o₂ implies-mid l₂ b₂ a′ e o₃ r₂ (e + 1) (set o₃ e u) implies-end ∙ r₁ .laid .kept
+        implies-end = relaid (implies-last m e u p) (laid-one u o₃ e implies-fits)
 
 module _ (left at made a m c : ℕ) (cs out o₁ : List ℕ) (w : Ready left cs at made out) (r₁ : Read Ors 2 cs at made out a m o₁) (is : c ≡ getD cs a 0) where
   pub arrows-read : c ≡ 8 → (n : ℕ) (o₂ : List ℕ) → Laid (notWords m) o₁ m n o₂ → (a′ e : ℕ) (o₃ : List ℕ) → Read Arrows 1 cs (a + 1) n o₂ a′ e o₃
@@ -408,7 +405,7 @@ module _ (left at made a m c : ℕ) (cs out o₁ : List ℕ) (w : Ready left cs 
     laid = r₁ .laid;
   }
 
-pub ruleset arrows-laws = (needs, arrows-some-after, arrows-next-after, arrows-kept)
+pub ruleset arrows-laws = (needs, arrows-some-after, arrows-next-after)
 
 pub ruleset arrows-falling = (arrows-ors-falls, arrows-falls, arrows-falls-more)
 
@@ -485,18 +482,18 @@ module _ (l : Level) (b left at made a m c : ℕ) (cs out o₁ : List ℕ) (w : 
       pub untils-low-second : e - 1 < operandSpan
       untils-low-second = omega (arith, until-room-after)
 
-      pub untils-write-after : e < length o₃
-      untils-write-after = omega (arith, until-room-after, infix-held-after l b left at made a m (untilSign c) cs out o₁ w r₁ until-joins m o₁ until-mid l₂ b₂ a′ e o₃ r₂)
+      pub untils-write-after : e < maxRuleNodes
+      untils-write-after = omega (arith, until-room-after)
+
+      until-fits : e < length o₃
+      until-fits = omega (arith, until-room-after, infix-held-after l b left at made a m (untilSign c) cs out o₁ w r₁ until-joins m o₁ until-mid l₂ b₂ a′ e o₃ r₂)
 
       pub untils-next-after : Fits w64 (e + 1)
       untils-next-after = record { fits = omega (arith, until-room-after) }
 
       module _ (u : ℕ) (p : u ≡ nodeWord (node (untilKind c) (m - 1) (e - 1))) where
         until-end : Laid (words (infixLast (untilSign c) m e)) o₃ e (e + 1) (set o₃ e u)
-        until-end = relaid (until-last c m e u p) (laid-one u o₃ e untils-write-after)
-
-        pub untils-kept : length (set o₃ e u) ≡ length out
-        untils-kept = infix-kept l b left at made a m (untilSign c) cs out o₁ w r₁ until-joins m o₁ until-mid l₂ b₂ a′ e o₃ r₂ (e + 1) (set o₃ e u) until-end ∙ r₁ .laid .kept
+        until-end = relaid (until-last c m e u p) (laid-one u o₃ e until-fits)
 
 module _ (left at made a m c : ℕ) (cs out o₁ : List ℕ) (w : Ready left cs at made out) (r₁ : Read Prefixes 5 cs at made out a m o₁) (is : c ≡ getD cs a 0) where
   untils-alone : (tight (ahead cs a) ≡ 4 → ⊥) → Read Untils 4 cs at made out a m o₁
@@ -523,17 +520,16 @@ module _ (left at made a m c : ℕ) (cs out o₁ : List ℕ) (w : Ready left cs 
             (until-end Prefixes 5 left at made a m c cs out o₁ w r₁ is lo hi Untils 4 a′ e o₃ r₂ u p);
       }
 
-pub ruleset untils-laws = (needs, untils-some, untils-some-after, untils-next-after, untils-kept)
+pub ruleset untils-laws = (needs, untils-some, untils-some-after, untils-next-after)
 
 pub ruleset untils-falling = (untils-prefixes-falls, untils-falls, untils-falls-more)
 
 -- ---- a turn of the loops of `ors` and `ands`: whatever was lent, what was read before the loop is read on
 pub record Turn (l : Level) (b left : ℕ) (cs : List ℕ) (at made a₀ m₀ : ℕ) (o₀ : List ℕ) (a m : ℕ) (o : List ℕ) : Type 0 where
   pub on : (out : List ℕ) → Ready left cs at made out → Read l b cs at made out a₀ m₀ o₀ → Read l b cs at made out a m o
-  pub kept : length o ≡ length o₀
 
 turn-start : (l : Level) (b left at made a m : ℕ) (cs o : List ℕ) → Turn l b left cs at made a m o a m o
-turn-start l b left at made a m cs o = record { on = λ out w r. r; kept = refl }
+turn-start l b left at made a m cs o = record { on = λ out w r. r }
 
 -- ---- `ors`
 pub ors-ands-falls : (n at t : ℕ) → measure n at 5 ≡ t → measure n at 4 < t
@@ -568,9 +564,6 @@ or-mid m o h = relaid (or-none m) (laid-none o m h)
 module _ (left at made a₀ m₀ a m : ℕ) (cs out o₀ o₁ : List ℕ) (w : Ready left cs at made out) (r₀ : Read Ands 3 cs at made out a₀ m₀ o₀) (inv : Turn Ors 3 left cs at made a₀ m₀ o₀ a m o₁) where
   ors-so-far : Read Ors 3 cs at made out a m o₁
   ors-so-far = inv .on out w (or-up r₀)
-
-  pub ors-kept : length o₁ ≡ length out
-  ors-kept = ors-so-far .laid .kept
 
   module _ (c : ℕ) (is : c ≡ getD cs a 0) where
     pub ors-stop : (c ≡ 9 → ⊥) → Read Ors 2 cs at made out a m o₁
@@ -610,11 +603,17 @@ module _ (left at made a₀ m₀ a m : ℕ) (cs out o₀ o₁ : List ℕ) (w : R
         pub ors-some-after : 1 ≤ e
         ors-some-after = omega (arith, or-order)
 
-        pub ors-low-after : (m - 1 < operandSpan) × (e - 1 < operandSpan)
-        ors-low-after = (omega (arith, or-order, or-room-after), omega (arith, or-room-after))
+        pub ors-low-first : m - 1 < operandSpan
+        ors-low-first = omega (arith, or-order, or-room-after)
 
-        pub ors-write-after : e < length o₃
-        ors-write-after = omega (arith, or-room-after, infix-held-after Ors 3 left at made a m Or cs out o₁ w ors-so-far or-joins m o₁ (or-mid m o₁ or-fits) Ands 3 a′ e o₃ r₂)
+        pub ors-low-second : e - 1 < operandSpan
+        ors-low-second = omega (arith, or-room-after)
+
+        pub ors-write-after : e < maxRuleNodes
+        ors-write-after = omega (arith, or-room-after)
+
+        pub ors-fits : e < length o₃
+        ors-fits = omega (arith, or-room-after, infix-held-after Ors 3 left at made a m Or cs out o₁ w ors-so-far or-joins m o₁ (or-mid m o₁ or-fits) Ands 3 a′ e o₃ r₂)
 
         pub ors-next-after : Fits w64 (e + 1)
         ors-next-after = record { fits = omega (arith, or-room-after) }
@@ -639,9 +638,9 @@ module _ (left at made a₀ m₀ a m c : ℕ) (cs o₀ o₁ : List ℕ) (inv : T
       }
 
   pub ors-again : Turn Ors 3 left cs at made a₀ m₀ o₀ a′ (e + 1) (set o₃ e u)
-  ors-again = record { on = λ out w r. ors-more out w (inv .on out w r); kept = or-end .kept ∙ (r₂ .laid .kept ∙ inv .kept) }
+  ors-again = record { on = λ out w r. ors-more out w (inv .on out w r) }
 
-pub ruleset ors-laws = (needs, ors-ands-falls, ors-start, ors-kept, ors-stop, ors-index, ors-falls, ors-ready, ors-some, ors-some-after, ors-low-after, ors-write-after, ors-next-after, ors-less, ors-again)
+pub ruleset ors-laws = (needs, ors-ands-falls, ors-start, ors-some, ors-some-after, ors-next-after)
 
 -- ---- `ands`
 pub ands-untils-falls : (n at t : ℕ) → measure n at 4 ≡ t → measure n at 3 < t
@@ -677,9 +676,6 @@ module _ (left at made a₀ m₀ a m : ℕ) (cs out o₀ o₁ : List ℕ) (w : R
   ands-so-far : Read Ands 4 cs at made out a m o₁
   ands-so-far = inv .on out w (and-up r₀)
 
-  pub ands-kept : length o₁ ≡ length out
-  ands-kept = ands-so-far .laid .kept
-
   module _ (c : ℕ) (is : c ≡ getD cs a 0) where
     pub ands-stop : (c ≡ 10 → ⊥) → Read Ands 3 cs at made out a m o₁
     ands-stop no-and = record {
@@ -695,6 +691,9 @@ module _ (left at made a₀ m₀ a m : ℕ) (cs out o₀ o₁ : List ℕ) (w : R
 
       and-room : m + 4 ≤ maxRuleNodes
       and-room = omega (arith, and-adds, infix-room Ands 4 left at made a m And cs out o₁ w ands-so-far and-joins)
+
+      pub ands-low-first : m < operandSpan
+      ands-low-first = omega (arith, and-room)
 
       pub ands-not : SpaceBehind 1 m o₁
       ands-not = record {
@@ -720,8 +719,8 @@ module _ (left at made a₀ m₀ a m : ℕ) (cs out o₀ o₁ : List ℕ) (w : R
           and-room-after : e + 3 ≤ maxRuleNodes
           and-room-after = omega (arith, infix-after Ands 4 left at made a m And cs out o₁ w ands-so-far and-joins n o₂ (and-mid mid) Untils 4 a′ e o₃ r₂, and-three m e)
 
-          pub ands-low-after : (m < operandSpan) × (e < operandSpan)
-          ands-low-after = (omega (arith, and-order, and-room-after), omega (arith, and-room-after))
+          pub ands-low-second : e < operandSpan
+          ands-low-second = omega (arith, and-room-after)
 
           pub ands-dual : SpaceBehind 3 e o₃
           ands-dual = record {
@@ -750,9 +749,9 @@ module _ (left at made a₀ m₀ a m c : ℕ) (cs o₀ o₁ : List ℕ) (inv : T
       }
 
   pub ands-again : Turn Ands 4 left cs at made a₀ m₀ o₀ a′ f o₄
-  ands-again = record { on = λ out w r. ands-more out w (inv .on out w r); kept = dual .kept ∙ (r₂ .laid .kept ∙ (mid .kept ∙ inv .kept)) }
+  ands-again = record { on = λ out w r. ands-more out w (inv .on out w r) }
 
-pub ruleset ands-laws = (needs, ands-untils-falls, ands-start, ands-kept, ands-stop, ands-not, ands-index, ands-falls, ands-ready, ands-low-after, ands-dual, ands-less, ands-again)
+pub ruleset ands-laws = (needs, ands-untils-falls, ands-start)
 
 -- ---- `prefixes`
 weight-prefix : (x : Prefix) (s : List Sign) → weight (before x ∷ s) ≡ prefixNodes x + weight s
@@ -992,15 +991,15 @@ module _ (left at made c : ℕ) (cs out : List ℕ) (pr : Primed left cs at made
     unfolding signNodes
     true-room = omega (arith, pr .ready .room, ap weight true-ahead ∙ weight-one truth (ahead cs (at + 1)) refl)
 
-    pub primaries-true-write : made < length out
-    primaries-true-write = omega (arith, true-room, pr .ready .held)
+    pub primaries-true-write : made < maxRuleNodes
+    primaries-true-write = omega (arith, true-room)
 
     pub primaries-true-next : Fits w64 (made + 1)
     primaries-true-next = record { fits = omega (arith, true-room) }
 
     pub primaries-true : (w : ℕ) → w ≡ nodeWord (node table.True 0 0) → Read Primaries 5 cs at made out (at + 1) (made + 1) (set out made w)
     unfolding nodesFrom formulaOf
-    primaries-true w e = record { tree = always; phrase = rw true-ahead isTrue; stops = tight-most (ahead cs (at + 1)); laid = relaid (rw e) (laid-one w out made primaries-true-write) }
+    primaries-true w e = record { tree = always; phrase = rw true-ahead isTrue; stops = tight-most (ahead cs (at + 1)); laid = relaid (rw e) (laid-one w out made (omega (arith, true-room, pr .ready .held))) }
 
   module _ (n1 : c ≡ 1 → ⊥) (n2 : c ≡ 2 → ⊥) where
     pub primaries-atom-code : 13 ≤ c
@@ -1022,14 +1021,14 @@ module _ (left at made c : ℕ) (cs out : List ℕ) (pr : Primed left cs at made
     unfolding signNodes
     atom-room = omega (arith, pr .ready .room, ap weight atom-ahead ∙ weight-one (atom (c - 13)) (ahead cs (at + 1)) refl)
 
-    pub primaries-atom-write : made < length out
-    primaries-atom-write = omega (arith, atom-room, pr .ready .held)
+    pub primaries-atom-write : made < maxRuleNodes
+    primaries-atom-write = omega (arith, atom-room)
 
     pub primaries-atom-next : Fits w64 (made + 1)
     primaries-atom-next = record { fits = omega (arith, atom-room) }
 
     pub primaries-atom : (w : ℕ) → w ≡ nodeWord (node table.Atom (c - 13) 0) → Read Primaries 5 cs at made out (at + 1) (made + 1) (set out made w)
     unfolding nodesFrom formulaOf
-    primaries-atom w e = record { tree = reading (c - 13); phrase = rw atom-ahead (isAtom (c - 13)); stops = tight-most (ahead cs (at + 1)); laid = relaid (rw e) (laid-one w out made primaries-atom-write) }
+    primaries-atom w e = record { tree = reading (c - 13); phrase = rw atom-ahead (isAtom (c - 13)); stops = tight-most (ahead cs (at + 1)); laid = relaid (rw e) (laid-one w out made (omega (arith, atom-room, pr .ready .held))) }
 
 pub ruleset primaries-laws = (needs, primaries-index, primaries-depth, primaries-falls, primaries-ready, primaries-after, primaries-bracket, primaries-true-write, primaries-true-next, primaries-true, primaries-atom-code, primaries-atom-low, primaries-atom-cast, primaries-atom-write, primaries-atom-next, primaries-atom)

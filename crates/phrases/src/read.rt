@@ -32,7 +32,7 @@ pub fn arrows(
     at: usize,
     left: usize,
     made: usize,
-    nodes: &mut [u32],
+    nodes: &mut [u32; Limits::RULE_NODES],
 ) -> Spot
     requires { ⌜ count ≤ maxLineBytes ⌝ }
     requires { ⌜ Ready left (take count (now codes)) at made (now nodes) ⌝ }
@@ -63,7 +63,7 @@ fn ors(
     at: usize,
     left: usize,
     made: usize,
-    nodes: &mut [u32],
+    nodes: &mut [u32; Limits::RULE_NODES],
 ) -> Spot
     requires { ⌜ count ≤ maxLineBytes ⌝ }
     requires { ⌜ Ready left (take count (now codes)) at made (now nodes) ⌝ }
@@ -89,7 +89,7 @@ fn ands(
     at: usize,
     left: usize,
     made: usize,
-    nodes: &mut [u32],
+    nodes: &mut [u32; Limits::RULE_NODES],
 ) -> Spot
     requires { ⌜ count ≤ maxLineBytes ⌝ }
     requires { ⌜ Ready left (take count (now codes)) at made (now nodes) ⌝ }
@@ -117,7 +117,7 @@ fn untils(
     at: usize,
     left: usize,
     made: usize,
-    nodes: &mut [u32],
+    nodes: &mut [u32; Limits::RULE_NODES],
 ) -> Spot
     requires { ⌜ count ≤ maxLineBytes ⌝ }
     requires { ⌜ Ready left (take count (now codes)) at made (now nodes) ⌝ }
@@ -151,7 +151,7 @@ fn prefixes(
     at: usize,
     left: usize,
     made: usize,
-    nodes: &mut [u32],
+    nodes: &mut [u32; Limits::RULE_NODES],
 ) -> Spot
     requires { ⌜ count ≤ maxLineBytes ⌝ }
     requires { ⌜ Ready left (take count (now codes)) at made (now nodes) ⌝ }
@@ -182,7 +182,7 @@ fn primaries(
     at: usize,
     left: usize,
     made: usize,
-    nodes: &mut [u32],
+    nodes: &mut [u32; Limits::RULE_NODES],
 ) -> Spot
     requires { ⌜ count ≤ maxLineBytes ⌝ }
     requires { ⌜ Primed left (take count (now codes)) at made (now nodes) ⌝ }

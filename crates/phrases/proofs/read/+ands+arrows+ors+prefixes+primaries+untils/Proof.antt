@@ -2,7 +2,7 @@ use Prim.Native.Nat.{_-_}
 use borrow.Author.Needs.{needs}
 use lib.ListN.{length, take}
 use Rattle.definitions.specs.OneLineGrammar.{Ors, Ands}
-use Rattle.phrases.proofs.ReadLaws.{Turn, ands-again, ands-dual, ands-falls, ands-index, ands-laws, ands-less, ands-low-after, ands-ready, arrows-falling, arrows-falls, arrows-index, arrows-laws, arrows-low-first, arrows-low-second, arrows-not, arrows-read, arrows-ready, arrows-stop, arrows-write-after, measure, ors-again, ors-falls, ors-laws, ors-less, ors-low-after, ors-ready, ors-write-after, prefixes-falling, prefixes-last, prefixes-laws, prefixes-primary, prefixes-read, prefixes-ready, primaries-laws, untils-falling, untils-index, untils-laws, untils-low-first, untils-low-second, untils-read, untils-ready, untils-stop-high, untils-stop-low, untils-write-after}
+use Rattle.phrases.proofs.ReadLaws.{Turn, ands-again, ands-dual, ands-falls, ands-index, ands-laws, ands-less, ands-low-first, ands-low-second, ands-not, ands-ready, ands-stop, arrows-falling, arrows-index, arrows-laws, arrows-low-first, arrows-low-second, arrows-not, arrows-read, arrows-ready, arrows-stop, arrows-write-after, measure, ors-again, ors-falls, ors-fits, ors-index, ors-laws, ors-less, ors-low-first, ors-low-second, ors-ready, ors-stop, ors-write-after, prefixes-falling, prefixes-last, prefixes-laws, prefixes-primary, prefixes-read, prefixes-ready, primaries-laws, untils-falling, untils-index, untils-laws, untils-low-first, untils-low-second, untils-read, untils-ready, untils-stop-high, untils-stop-low, untils-write-after}
 use Prim.Native.Nat.{ℕ, _<_}
 use borrow.Fn.Kinds.{In}
 use borrow.Fn.PlainCycle.{Measures, is, falls, and}
@@ -130,7 +130,7 @@ ands-peek-requires t c κs = search ands-laws
 
 -- src/read.rt:72:20
 ands-not-requires : (t : ℕ) → ands-lts.Need-not-requires (ands-claims t) (ands-at t) ands.Post ands-Inv-loop ands-μ-loop
-ands-not-requires t c κs = search ands-laws
+ands-not-requires t c κs = search ands-not
 
 -- src/read.rt:73:31
 ands-add-next : (t : ℕ) → ands-lts.Need-add-next (ands-claims t) (ands-at t) ands.Post ands-Inv-loop ands-μ-loop
@@ -138,31 +138,27 @@ ands-add-next t c = search ands-index
 
 -- src/read.rt:73:13
 ands-untils-requires-2 : (t : ℕ) → ands-lts.Need-untils-requires-2 (ands-claims t) (ands-at t) ands.Post ands-Inv-loop ands-μ-loop
-ands-untils-requires-2 t c κs = (ands-falls _ _ _ _ _ _ _ _ _ _ _ (c .before .before .before .before .before .before .before .before .before .before .before .before .before .pre .1 .1) (c .before .before .before .before .before .before .before .before .before .before .untils .ensures) (c .before .before .before .before .before .before .before .loop .inv) _ (c .before .before .before .before .before .before .peek .ensures) (c .before .before .before .before .before .if1 .taken) t (c .before .before .before .before .before .before .before .before .before .before .before .before .before .pre .0), (search needs, ands-ready _ _ _ _ _ _ _ _ _ _ _ (c .before .before .before .before .before .before .before .before .before .before .before .before .before .pre .1 .1) (c .before .before .before .before .before .before .before .before .before .before .untils .ensures) (c .before .before .before .before .before .before .before .loop .inv) _ (c .before .before .before .before .before .before .peek .ensures) (c .before .before .before .before .before .if1 .taken) _ _ (c .before .before .before .not .ensures)))
+ands-untils-requires-2 t c κs = (ands-falls _ _ _ _ _ _ _ _ _ _ _ (c .before .before .before .before .before .before .before .before .pre .1 .1) (c .before .before .before .before .before .before .untils .ensures) (c .before .before .before .before .before .loop .inv) _ (c .before .before .before .before .peek .ensures) (c .before .before .before .if1 .taken) t (c .before .before .before .before .before .before .before .before .pre .0), (search needs, ands-ready _ _ _ _ _ _ _ _ _ _ _ (c .before .before .before .before .before .before .before .before .pre .1 .1) (c .before .before .before .before .before .before .untils .ensures) (c .before .before .before .before .before .loop .inv) _ (c .before .before .before .before .peek .ensures) (c .before .before .before .if1 .taken) _ _ (c .before .not .ensures)))
 
 -- src/read.rt:75:31
 ands-or-requires : (t : ℕ) → ands-lts.Need-or-requires (ands-claims t) (ands-at t) ands.Post ands-Inv-loop ands-μ-loop
-ands-or-requires t c κs = ands-low-after _ _ _ _ _ _ _ _ _ _ _ (c .before .before .before .before .before .before .before .before .before .before .before .before .before .before .before .before .pre .1 .1) (c .before .before .before .before .before .before .before .before .before .before .before .before .before .untils .ensures) (c .before .before .before .before .before .before .before .before .before .before .loop .inv) _ (c .before .before .before .before .before .before .before .before .before .peek .ensures) (c .before .before .before .before .before .before .before .before .if1 .taken) _ _ (c .before .before .before .before .before .before .not .ensures) _ _ _ (c .before .before .untils2 .ensures)
+ands-or-requires t c κs = (search ands-low-first, search ands-low-second)
 
 -- src/read.rt:75:13
 ands-dual-requires : (t : ℕ) → ands-lts.Need-dual-requires (ands-claims t) (ands-at t) ands.Post ands-Inv-loop ands-μ-loop
-ands-dual-requires t c κs = ands-dual _ _ _ _ _ _ _ _ _ _ _ (c .before .before .before .before .before .before .before .before .before .before .before .before .before .before .before .before .before .before .pre .1 .1) (c .before .before .before .before .before .before .before .before .before .before .before .before .before .before .before .untils .ensures) (c .before .before .before .before .before .before .before .before .before .before .before .before .loop .inv) _ (c .before .before .before .before .before .before .before .before .before .before .before .peek .ensures) (c .before .before .before .before .before .before .before .before .before .before .if1 .taken) _ _ (c .before .before .before .before .before .before .before .before .not .ensures) _ _ _ (c .before .before .before .before .untils2 .ensures)
+ands-dual-requires t c κs = ands-dual _ _ _ _ _ _ _ _ _ _ _ (c .before .before .before .before .before .before .before .before .before .before .before .pre .1 .1) (c .before .before .before .before .before .before .before .before .before .untils .ensures) (c .before .before .before .before .before .before .before .before .loop .inv) _ (c .before .before .before .before .before .before .before .peek .ensures) (c .before .before .before .before .before .before .if1 .taken) _ _ (c .before .before .before .before .not .ensures) _ _ _ (c .before .before .untils2 .ensures)
 
 -- src/read.rt:71:5
 ands-loop-less : (t : ℕ) → ands-lts.Need-loop-less (ands-claims t) (ands-at t) ands.Post ands-Inv-loop ands-μ-loop
-ands-loop-less t c = ands-less _ _ _ _ _ _ _ _ _ _ _ (c .before .before .before .before .before .before .before .before .before .before .before .before .before .before .before .before .before .before .before .before .before .pre .1 .1) (c .before .before .before .before .before .before .before .before .before .before .before .before .before .before .before .before .before .before .untils .ensures) (c .before .before .before .before .before .before .before .before .before .before .before .before .before .before .before .loop .inv) _ (c .before .before .before .before .before .before .before .before .before .before .before .before .before .before .peek .ensures) (c .before .before .before .before .before .before .before .before .before .before .before .before .before .if1 .taken) _ _ (c .before .before .before .before .before .before .before .before .before .before .before .not .ensures) _ _ _ (c .before .before .before .before .before .before .before .untils2 .ensures)
+ands-loop-less t c = search ands-less
 
 -- src/read.rt:71:5
 ands-loop-again : (t : ℕ) → ands-lts.Need-loop-again (ands-claims t) (ands-at t) ands.Post ands-Inv-loop ands-μ-loop
-ands-loop-again t c = ands-again _ _ _ _ _ _ _ _ _ _ _ (c .before .before .before .before .before .before .before .before .before .before .before .before .before .before .before .loop .inv) (c .before .before .before .before .before .before .before .before .before .before .before .before .before .before .peek .ensures) (c .before .before .before .before .before .before .before .before .before .before .before .before .before .if1 .taken) _ _ (c .before .before .before .before .before .before .before .before .before .before .before .not .ensures) _ _ _ _ _ _ (c .before .before .before .before .before .before .before .untils2 .ensures) (c .before .before .before .before .or .ensures) (c .before .before .dual .ensures)
-
--- src/read.rt:64:1
-ands-same-length : (t : ℕ) → ands-lts.Need-same-length (ands-claims t) (ands-at t) ands.Post ands-Inv-loop ands-μ-loop
-ands-same-length t c = search ands-laws
+ands-loop-again t c = search ands-again
 
 -- src/read.rt:64:1
 ands-returns : (t : ℕ) → ands-lts.Need-returns (ands-claims t) (ands-at t) ands.Post ands-Inv-loop ands-μ-loop
-ands-returns t c = search ands-laws
+ands-returns t c = search ands-stop
 
 -- src/read.rt:29:9
 arrows-ors-requires : (t : ℕ) → arrows-lts.Need-ors-requires (arrows-claims t) (arrows-at t) arrows.Post
@@ -181,8 +177,8 @@ arrows-mul-nodes : (t : ℕ) → arrows-lts.Need-mul-nodes (arrows-claims t) (ar
 arrows-mul-nodes t c = search arrows-laws
 
 -- src/read.rt:33:9
-arrows-slice-write-nodes : (t : ℕ) → arrows-lts.Need-slice-write-nodes (arrows-claims t) (arrows-at t) arrows.Post
-arrows-slice-write-nodes t c = search arrows-write-after
+arrows-element-write-nodes : (t : ℕ) → arrows-lts.Need-element-write-nodes (arrows-claims t) (arrows-at t) arrows.Post
+arrows-element-write-nodes t c = search arrows-write-after
 
 -- src/read.rt:34:31
 arrows-add-next : (t : ℕ) → arrows-lts.Need-add-next (arrows-claims t) (arrows-at t) arrows.Post
@@ -190,7 +186,7 @@ arrows-add-next t c = search arrows-index
 
 -- src/read.rt:34:13
 arrows-arrows-requires : (t : ℕ) → arrows-lts.Need-arrows-requires (arrows-claims t) (arrows-at t) arrows.Post
-arrows-arrows-requires t c κs = (arrows-falls _ _ _ _ _ _ _ _ _ _ _ (c .before .before .before .before .before .before .before .before .before .before .before .before .pre .1 .1) (c .before .before .before .before .before .before .before .before .before .ors .ensures) (c .before .before .before .before .before .before .peek .ensures) (c .before .before .before .before .before .if1 .taken) t (c .before .before .before .before .before .before .before .before .before .before .before .before .pre .0), (search needs, arrows-ready _ _ _ _ _ _ _ _ _ _ _ (c .before .before .before .before .before .before .before .before .before .before .before .before .pre .1 .1) (c .before .before .before .before .before .before .before .before .before .ors .ensures) (c .before .before .before .before .before .before .peek .ensures) (c .before .before .before .before .before .if1 .taken) _ _ (c .before .before .before .not .ensures)))
+arrows-arrows-requires t c κs = (search arrows-falling, (search needs, search arrows-ready))
 
 -- src/read.rt:36:32
 arrows-sub-or : (t : ℕ) → arrows-lts.Need-sub-or (arrows-claims t) (arrows-at t) arrows.Post
@@ -205,16 +201,8 @@ arrows-add-end : (t : ℕ) → arrows-lts.Need-add-end (arrows-claims t) (arrows
 arrows-add-end t c = search arrows-laws
 
 -- src/read.rt:37:9
-arrows-same-length : (t : ℕ) → arrows-lts.Need-same-length (arrows-claims t) (arrows-at t) arrows.Post
-arrows-same-length t c = search arrows-laws
-
--- src/read.rt:37:9
 arrows-returns : (t : ℕ) → arrows-lts.Need-returns (arrows-claims t) (arrows-at t) arrows.Post
 arrows-returns t c = search arrows-read
-
--- src/read.rt:25:1
-arrows-same-length-2 : (t : ℕ) → arrows-lts.Need-same-length-2 (arrows-claims t) (arrows-at t) arrows.Post
-arrows-same-length-2 t c = search arrows-laws
 
 -- src/read.rt:25:1
 arrows-returns-2 : (t : ℕ) → arrows-lts.Need-returns-2 (arrows-claims t) (arrows-at t) arrows.Post
@@ -240,11 +228,11 @@ ors-peek-requires t c κs = search ors-laws
 
 -- src/read.rt:54:29
 ors-add-ands : (t : ℕ) → ors-lts.Need-add-ands (ors-claims t) (ors-at t) ors.Post ors-Inv-loop ors-μ-loop
-ors-add-ands t c = search ors-laws
+ors-add-ands t c = search ors-index
 
 -- src/read.rt:54:13
 ors-ands-requires-2 : (t : ℕ) → ors-lts.Need-ands-requires-2 (ors-claims t) (ors-at t) ors.Post ors-Inv-loop ors-μ-loop
-ors-ands-requires-2 t c κs = (ors-falls _ _ _ _ _ _ _ _ _ _ _ (c .before .before .before .before .before .before .before .before .before .pre .1 .1) (c .before .before .before .before .before .before .ands .ensures) (c .before .before .before .loop .inv) _ (c .before .before .peek .ensures) (c .before .if1 .taken) t (c .before .before .before .before .before .before .before .before .before .pre .0), (search needs, ors-ready _ _ _ _ _ _ _ _ _ _ _ (c .before .before .before .before .before .before .before .before .before .pre .1 .1) (c .before .before .before .before .before .before .ands .ensures) (c .before .before .before .loop .inv) _ (c .before .before .peek .ensures) (c .before .if1 .taken)))
+ors-ands-requires-2 t c κs = (search ors-falls, (search needs, search ors-ready))
 
 -- src/read.rt:56:29
 ors-sub-or : (t : ℕ) → ors-lts.Need-sub-or (ors-claims t) (ors-at t) ors.Post ors-Inv-loop ors-μ-loop
@@ -256,15 +244,15 @@ ors-sub-or-2 t c = search ors-laws
 
 -- src/read.rt:56:20
 ors-or-requires : (t : ℕ) → ors-lts.Need-or-requires (ors-claims t) (ors-at t) ors.Post ors-Inv-loop ors-μ-loop
-ors-or-requires t c κs = ors-low-after _ _ _ _ _ _ _ _ _ _ _ (c .before .before .before .before .before .before .before .before .before .before .before .before .pre .1 .1) (c .before .before .before .before .before .before .before .before .before .ands .ensures) (c .before .before .before .before .before .before .loop .inv) _ (c .before .before .before .before .before .peek .ensures) (c .before .before .before .before .if1 .taken) _ _ _ (c .before .before .ands2 .ensures)
+ors-or-requires t c κs = (search ors-low-first, search ors-low-second)
 
 -- src/read.rt:56:9
 ors-mul-nodes : (t : ℕ) → ors-lts.Need-mul-nodes (ors-claims t) (ors-at t) ors.Post ors-Inv-loop ors-μ-loop
 ors-mul-nodes t c = search ors-laws
 
 -- src/read.rt:56:9
-ors-slice-write-nodes : (t : ℕ) → ors-lts.Need-slice-write-nodes (ors-claims t) (ors-at t) ors.Post ors-Inv-loop ors-μ-loop
-ors-slice-write-nodes t c = ors-write-after _ _ _ _ _ _ _ _ _ _ _ (c .before .before .before .before .before .before .before .before .before .before .before .before .before .pre .1 .1) (c .before .before .before .before .before .before .before .before .before .before .ands .ensures) (c .before .before .before .before .before .before .before .loop .inv) _ (c .before .before .before .before .before .before .peek .ensures) (c .before .before .before .before .before .if1 .taken) _ _ _ (c .before .before .before .ands2 .ensures)
+ors-element-write-nodes : (t : ℕ) → ors-lts.Need-element-write-nodes (ors-claims t) (ors-at t) ors.Post ors-Inv-loop ors-μ-loop
+ors-element-write-nodes t c = search ors-write-after
 
 -- src/read.rt:58:13
 ors-add-m : (t : ℕ) → ors-lts.Need-add-m (ors-claims t) (ors-at t) ors.Post ors-Inv-loop ors-μ-loop
@@ -272,19 +260,15 @@ ors-add-m t c = search ors-laws
 
 -- src/read.rt:53:5
 ors-loop-less : (t : ℕ) → ors-lts.Need-loop-less (ors-claims t) (ors-at t) ors.Post ors-Inv-loop ors-μ-loop
-ors-loop-less t c = ors-less _ _ _ _ _ _ _ _ _ _ _ (c .before .before .before .before .before .before .before .before .before .before .before .before .before .pre .1 .1) (c .before .before .before .before .before .before .before .before .before .before .ands .ensures) (c .before .before .before .before .before .before .before .loop .inv) _ (c .before .before .before .before .before .before .peek .ensures) (c .before .before .before .before .before .if1 .taken) _ _ _ (c .before .before .before .ands2 .ensures)
+ors-loop-less t c = search ors-less
 
 -- src/read.rt:53:5
 ors-loop-again : (t : ℕ) → ors-lts.Need-loop-again (ors-claims t) (ors-at t) ors.Post ors-Inv-loop ors-μ-loop
-ors-loop-again t c = ors-again _ _ _ _ _ _ _ _ _ _ _ (c .before .before .before .before .before .before .before .loop .inv) (c .before .before .before .before .before .before .peek .ensures) (c .before .before .before .before .before .if1 .taken) _ _ _ _ (c .before .before .before .ands2 .ensures) (ors-write-after _ _ _ _ _ _ _ _ _ _ _ (c .before .before .before .before .before .before .before .before .before .before .before .before .before .pre .1 .1) (c .before .before .before .before .before .before .before .before .before .before .ands .ensures) (c .before .before .before .before .before .before .before .loop .inv) _ (c .before .before .before .before .before .before .peek .ensures) (c .before .before .before .before .before .if1 .taken) _ _ _ (c .before .before .before .ands2 .ensures)) (c .or .ensures)
-
--- src/read.rt:46:1
-ors-same-length : (t : ℕ) → ors-lts.Need-same-length (ors-claims t) (ors-at t) ors.Post ors-Inv-loop ors-μ-loop
-ors-same-length t c = search ors-laws
+ors-loop-again t c = search (ors-again, ors-fits)
 
 -- src/read.rt:46:1
 ors-returns : (t : ℕ) → ors-lts.Need-returns (ors-claims t) (ors-at t) ors.Post ors-Inv-loop ors-μ-loop
-ors-returns t c = search ors-laws
+ors-returns t c = search ors-stop
 
 -- src/read.rt:111:9
 prefixes-peek-requires : (t : ℕ) → prefixes-lts.Need-peek-requires (prefixes-claims t) (prefixes-at t) prefixes.Post
@@ -295,20 +279,12 @@ prefixes-primaries-requires : (t : ℕ) → prefixes-lts.Need-primaries-requires
 prefixes-primaries-requires t c κs = search prefixes-laws
 
 -- src/read.rt:113:9
-prefixes-same-length : (t : ℕ) → prefixes-lts.Need-same-length (prefixes-claims t) (prefixes-at t) prefixes.Post
-prefixes-same-length t c = search prefixes-laws
-
--- src/read.rt:113:9
 prefixes-returns : (t : ℕ) → prefixes-lts.Need-returns (prefixes-claims t) (prefixes-at t) prefixes.Post
 prefixes-returns t c = search prefixes-primary
 
 -- src/read.rt:116:9
 prefixes-primaries-requires-2 : (t : ℕ) → prefixes-lts.Need-primaries-requires-2 (prefixes-claims t) (prefixes-at t) prefixes.Post
 prefixes-primaries-requires-2 t c κs = search prefixes-laws
-
--- src/read.rt:116:9
-prefixes-same-length-2 : (t : ℕ) → prefixes-lts.Need-same-length-2 (prefixes-claims t) (prefixes-at t) prefixes.Post
-prefixes-same-length-2 t c = search prefixes-laws
 
 -- src/read.rt:116:9
 prefixes-returns-2 : (t : ℕ) → prefixes-lts.Need-returns-2 (prefixes-claims t) (prefixes-at t) prefixes.Post
@@ -328,11 +304,7 @@ prefixes-prefixes-requires t c κs = (search prefixes-falling, (search needs, se
 
 -- src/read.rt:121:9
 prefixes-close-prefix-requires : (t : ℕ) → prefixes-lts.Need-close-prefix-requires (prefixes-claims t) (prefixes-at t) prefixes.Post
-prefixes-close-prefix-requires t c κs = prefixes-last _ _ _ _ _ _ (c .before .before .before .before .before .before .before .before .before .before .before .before .before .pre .1 .1) (c .before .before .before .before .before .before .before .before .before .before .before .peek .ensures) (c .before .before .before .before .before .before .before .before .before .before .if1 .left) (c .before .before .before .before .before .before .before .before .before .if2 .left) _ _ (c .before .before .before .before .before .before .before .open-prefix .ensures) _ _ _ _ _ (c .before .before .before .prefixes .ensures)
-
--- src/read.rt:107:1
-prefixes-same-length-3 : (t : ℕ) → prefixes-lts.Need-same-length-3 (prefixes-claims t) (prefixes-at t) prefixes.Post
-prefixes-same-length-3 t c = search prefixes-laws
+prefixes-close-prefix-requires t c κs = search prefixes-last
 
 -- src/read.rt:107:1
 prefixes-returns-3 : (t : ℕ) → prefixes-lts.Need-returns-3 (prefixes-claims t) (prefixes-at t) prefixes.Post
@@ -359,10 +331,6 @@ primaries-add-t10 : (t : ℕ) → primaries-lts.Need-add-t10 (primaries-claims t
 primaries-add-t10 t c = search primaries-laws
 
 -- src/read.rt:136:9
-primaries-same-length : (t : ℕ) → primaries-lts.Need-same-length (primaries-claims t) (primaries-at t) primaries.Post
-primaries-same-length t c = search primaries-laws
-
--- src/read.rt:136:9
 primaries-returns : (t : ℕ) → primaries-lts.Need-returns (primaries-claims t) (primaries-at t) primaries.Post
 primaries-returns t c = search primaries-laws
 
@@ -375,20 +343,16 @@ primaries-mul-nodes : (t : ℕ) → primaries-lts.Need-mul-nodes (primaries-clai
 primaries-mul-nodes t c = search primaries-laws
 
 -- src/read.rt:142:9
-primaries-slice-write-nodes : (t : ℕ) → primaries-lts.Need-slice-write-nodes (primaries-claims t) (primaries-at t) primaries.Post
-primaries-slice-write-nodes t c = search primaries-laws
+primaries-element-write-nodes : (t : ℕ) → primaries-lts.Need-element-write-nodes (primaries-claims t) (primaries-at t) primaries.Post
+primaries-element-write-nodes t c = search primaries-laws
 
 -- src/read.rt:144:17
-primaries-add-t15 : (t : ℕ) → primaries-lts.Need-add-t15 (primaries-claims t) (primaries-at t) primaries.Post
-primaries-add-t15 t c = search primaries-laws
+primaries-add-t14 : (t : ℕ) → primaries-lts.Need-add-t14 (primaries-claims t) (primaries-at t) primaries.Post
+primaries-add-t14 t c = search primaries-laws
 
 -- src/read.rt:145:19
 primaries-add-t17 : (t : ℕ) → primaries-lts.Need-add-t17 (primaries-claims t) (primaries-at t) primaries.Post
 primaries-add-t17 t c = search primaries-laws
-
--- src/read.rt:143:9
-primaries-same-length-2 : (t : ℕ) → primaries-lts.Need-same-length-2 (primaries-claims t) (primaries-at t) primaries.Post
-primaries-same-length-2 t c = search primaries-laws
 
 -- src/read.rt:143:9
 primaries-returns-2 : (t : ℕ) → primaries-lts.Need-returns-2 (primaries-claims t) (primaries-at t) primaries.Post
@@ -411,8 +375,8 @@ primaries-mul-nodes-2 : (t : ℕ) → primaries-lts.Need-mul-nodes-2 (primaries-
 primaries-mul-nodes-2 t c = search primaries-laws
 
 -- src/read.rt:148:5
-primaries-slice-write-nodes-2 : (t : ℕ) → primaries-lts.Need-slice-write-nodes-2 (primaries-claims t) (primaries-at t) primaries.Post
-primaries-slice-write-nodes-2 t c = search primaries-laws
+primaries-element-write-nodes-2 : (t : ℕ) → primaries-lts.Need-element-write-nodes-2 (primaries-claims t) (primaries-at t) primaries.Post
+primaries-element-write-nodes-2 t c = search primaries-laws
 
 -- src/read.rt:150:13
 primaries-add-t20 : (t : ℕ) → primaries-lts.Need-add-t20 (primaries-claims t) (primaries-at t) primaries.Post
@@ -421,10 +385,6 @@ primaries-add-t20 t c = search primaries-laws
 -- src/read.rt:151:15
 primaries-add-t21 : (t : ℕ) → primaries-lts.Need-add-t21 (primaries-claims t) (primaries-at t) primaries.Post
 primaries-add-t21 t c = search primaries-laws
-
--- src/read.rt:129:1
-primaries-same-length-3 : (t : ℕ) → primaries-lts.Need-same-length-3 (primaries-claims t) (primaries-at t) primaries.Post
-primaries-same-length-3 t c = search primaries-laws
 
 -- src/read.rt:129:1
 primaries-returns-3 : (t : ℕ) → primaries-lts.Need-returns-3 (primaries-claims t) (primaries-at t) primaries.Post
@@ -439,16 +399,8 @@ untils-peek-requires : (t : ℕ) → untils-lts.Need-peek-requires (untils-claim
 untils-peek-requires t c κs = search untils-laws
 
 -- src/read.rt:92:9
-untils-same-length : (t : ℕ) → untils-lts.Need-same-length (untils-claims t) (untils-at t) untils.Post
-untils-same-length t c = search untils-laws
-
--- src/read.rt:92:9
 untils-returns : (t : ℕ) → untils-lts.Need-returns (untils-claims t) (untils-at t) untils.Post
 untils-returns t c = search untils-stop-low
-
--- src/read.rt:95:9
-untils-same-length-2 : (t : ℕ) → untils-lts.Need-same-length-2 (untils-claims t) (untils-at t) untils.Post
-untils-same-length-2 t c = search untils-laws
 
 -- src/read.rt:95:9
 untils-returns-2 : (t : ℕ) → untils-lts.Need-returns-2 (untils-claims t) (untils-at t) untils.Post
@@ -479,16 +431,12 @@ untils-mul-nodes : (t : ℕ) → untils-lts.Need-mul-nodes (untils-claims t) (un
 untils-mul-nodes t c = search untils-laws
 
 -- src/read.rt:99:5
-untils-slice-write-nodes : (t : ℕ) → untils-lts.Need-slice-write-nodes (untils-claims t) (untils-at t) untils.Post
-untils-slice-write-nodes t c = search untils-write-after
+untils-element-write-nodes : (t : ℕ) → untils-lts.Need-element-write-nodes (untils-claims t) (untils-at t) untils.Post
+untils-element-write-nodes t c = search untils-write-after
 
 -- src/read.rt:102:15
 untils-add-end : (t : ℕ) → untils-lts.Need-add-end (untils-claims t) (untils-at t) untils.Post
 untils-add-end t c = search untils-laws
-
--- src/read.rt:83:1
-untils-same-length-3 : (t : ℕ) → untils-lts.Need-same-length-3 (untils-claims t) (untils-at t) untils.Post
-untils-same-length-3 t c = search untils-laws
 
 -- src/read.rt:83:1
 untils-returns-3 : (t : ℕ) → untils-lts.Need-returns-3 (untils-claims t) (untils-at t) untils.Post
@@ -510,7 +458,6 @@ pub +ands+arrows+ors+prefixes+primaries+untils-spec : {M : Type 1} → statement
     (ands-dual-requires t)
     (ands-loop-less t)
     (ands-loop-again t)
-    (ands-same-length t)
     (ands-returns t))
     (λ t. arrows-lts.spec (arrows-claims t) (arrows-at t)
     arrows.Post
@@ -523,10 +470,8 @@ pub +ands+arrows+ors+prefixes+primaries+untils-spec : {M : Type 1} → statement
     (arrows-sub-or t)
     (arrows-or-requires t)
     (arrows-mul-nodes t)
-    (arrows-slice-write-nodes t)
-    (arrows-same-length t)
+    (arrows-element-write-nodes t)
     (arrows-returns t)
-    (arrows-same-length-2 t)
     (arrows-returns-2 t))
     (λ t. ors-lts.spec (ors-claims t) (ors-at t)
     ors.Post
@@ -541,26 +486,22 @@ pub +ands+arrows+ors+prefixes+primaries+untils-spec : {M : Type 1} → statement
     (ors-sub-or-2 t)
     (ors-or-requires t)
     (ors-mul-nodes t)
-    (ors-slice-write-nodes t)
+    (ors-element-write-nodes t)
     (ors-add-m t)
     (ors-loop-less t)
     (ors-loop-again t)
-    (ors-same-length t)
     (ors-returns t))
     (λ t. prefixes-lts.spec (prefixes-claims t) (prefixes-at t)
     prefixes.Post
     (prefixes-peek-requires t)
     (prefixes-primaries-requires t)
-    (prefixes-same-length t)
     (prefixes-returns t)
     (prefixes-primaries-requires-2 t)
-    (prefixes-same-length-2 t)
     (prefixes-returns-2 t)
     (prefixes-open-prefix-requires t)
     (prefixes-add-next t)
     (prefixes-prefixes-requires t)
     (prefixes-close-prefix-requires t)
-    (prefixes-same-length-3 t)
     (prefixes-returns-3 t))
     (λ t. primaries-lts.spec (primaries-claims t) (primaries-at t)
     primaries.Post
@@ -569,31 +510,26 @@ pub +ands+arrows+ors+prefixes+primaries+untils-spec : {M : Type 1} → statement
     (primaries-sub-arrows t)
     (primaries-arrows-requires t)
     (primaries-add-t10 t)
-    (primaries-same-length t)
     (primaries-returns t)
     (primaries-truth-requires t)
     (primaries-mul-nodes t)
-    (primaries-slice-write-nodes t)
-    (primaries-add-t15 t)
+    (primaries-element-write-nodes t)
+    (primaries-add-t14 t)
     (primaries-add-t17 t)
-    (primaries-same-length-2 t)
     (primaries-returns-2 t)
     (primaries-sub-atom t)
     (primaries-cast-atom t)
     (primaries-atom-requires t)
     (primaries-mul-nodes-2 t)
-    (primaries-slice-write-nodes-2 t)
+    (primaries-element-write-nodes-2 t)
     (primaries-add-t20 t)
     (primaries-add-t21 t)
-    (primaries-same-length-3 t)
     (primaries-returns-3 t))
     λ t. untils-lts.spec (untils-claims t) (untils-at t)
     untils.Post
     (untils-prefixes-requires t)
     (untils-peek-requires t)
-    (untils-same-length t)
     (untils-returns t)
-    (untils-same-length-2 t)
     (untils-returns-2 t)
     (untils-add-next t)
     (untils-untils-requires t)
@@ -602,6 +538,5 @@ pub +ands+arrows+ors+prefixes+primaries+untils-spec : {M : Type 1} → statement
     (untils-sub-until-2 t)
     (untils-until-requires t)
     (untils-mul-nodes t)
-    (untils-slice-write-nodes t)
-    (untils-same-length-3 t)
+    (untils-element-write-nodes t)
     (untils-returns-3 t)

@@ -2,8 +2,6 @@ use Rattle.phrases.proofs.ReadLaws.{peek-laws}
 use borrow.Author.Needs.{needs}
 use Rattle.phrases.proofs.read.peek.Statement.{statement}
 use Rattle.phrases.proofs.read.peek.Tie as tie
-use Rattle.phrases.proofs.read.peek.Reads as reads
-use Rattle.phrases.proofs.read.peek.Lts as lts
 
 -- src/read.rt:26:9
 element-copy-out-result : tie.Need-element-copy-out-result
