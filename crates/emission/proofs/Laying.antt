@@ -16,8 +16,8 @@ use Rattle.definitions.specs.Nodes.{node, nodeWord}
 use Rattle.definitions.specs.OneLineSigns.{Prefix, Not, Next, Prev, Future, Always}
 use Rattle.printing.specs.Printing.{Printed}
 use Rattle.printing.proofs.PrintLaws as print
-use Rattle.emission.specs.Nodes.{words, prefixOf, untilKind, prefixFirst, prefixLast, prefixNode, dualWords}
-use Rattle.emission.specs.Laying.{Laid, SpaceDual, SpaceFirst, SpaceLast}
+use Rattle.emission.specs.Nodes.{words, prefixOf, untilKind, prefixFirst, prefixLast, prefixNode, notWords, dualWords}
+use Rattle.emission.specs.Laying.{Laid, SpaceBehind, SpaceFirst, SpaceLast}
 
 -- one word
 pub laid-one : (w : ℕ) (o : List ℕ) (at : ℕ) → at < length o → Laid (w ∷ []) o at (at + 1) (set o at w)
@@ -38,27 +38,19 @@ laid-seq {xs} {ys} {o} {o′} {o″} {at} {r} {q} p s =
 pub relaid : {xs ys o o′ : List ℕ} {at r : ℕ} → xs ≡ ys → Laid xs o at r o′ → Laid ys o at r o′
 relaid e l = rw e at l
 
+-- ---- `not`
+pub not-laid : (e v : ℕ) (o : List ℕ) → SpaceBehind 1 e o → v ≡ nodeWord (node table.Not (e - 1) 0) → Laid (notWords e) o e (e + 1) (set o e v)
+not-laid e v o s q = relaid (rw q) (laid-one v o e (omega (arith, s .room, s .held)))
+
 -- ---- `dual`
-module _ (w e : ℕ) (o : List ℕ) (s : SpaceDual e o) where
-  pub dual-third : (v : ℕ) → e + 2 < length (set (set o e v) (e + 1) w)
-  dual-third v = omega (arith, s .room, s .held, length-set (set o e v) (e + 1) w, length-set o e v)
+module _ (w e n : ℕ) (o o₁ : List ℕ) (s : SpaceBehind 3 e o) (first : Laid (notWords e) o e n o₁) where
+  pub dual-second : SpaceBehind 1 (n + 1) (set o₁ n w)
+  dual-second = record { behind = omega arith; room = omega (arith, first .next, s .room); held = omega (arith, s .held, first .kept, length-set o₁ n w) }
 
-  pub dual-second : (v : ℕ) → e + 1 < length (set o e v)
-  dual-second v = omega (arith, s .room, s .held, length-set o e v)
-
-  pub dual-laid : (v u : ℕ) → v ≡ nodeWord (node table.Not (e - 1) 0) → u ≡ nodeWord (node table.Not (e + 1) 0)
-      → Laid (dualWords w e) o e (e + 3) (set (set (set o e v) (e + 1) w) (e + 2) u)
-  dual-laid v u p q =
-      let one : e + 1 + 1 ≡ e + 2 = omega arith in
-      let two : e + 2 + 1 ≡ e + 3 = omega arith in
-      let a : Laid (v ∷ []) o e (e + 1) (set o e v) = laid-one v o e (omega (arith, s .room, s .held)) in
-      let b : Laid (w ∷ []) (set o e v) (e + 1) (e + 2) (set (set o e v) (e + 1) w) = rw one at (laid-one w (set o e v) (e + 1) (dual-second v)) in
-      let c : Laid (u ∷ []) (set (set o e v) (e + 1) w) (e + 2) (e + 3) (set (set (set o e v) (e + 1) w) (e + 2) u)
-      = rw two at (laid-one u (set (set o e v) (e + 1) w) (e + 2) (dual-third v)) in
-      let same : (v ∷ w ∷ u ∷ []) ≡ dualWords w e = rw (p, q) in
-      relaid same (laid-seq a (laid-seq b c))
-
-pub ruleset dual-laws = (needs, dual-second, dual-third, dual-laid)
+  pub dual-laid : (r : ℕ) (o₂ : List ℕ) → Laid (notWords (n + 1)) (set o₁ n w) (n + 1) r o₂ → Laid (dualWords w e) o e r o₂
+  dual-laid r o₂ last =
+      let same : n + 1 - 1 ≡ e + 1 = omega (arith, first .next) in
+      relaid (rw same) (laid-seq first (laid-seq (laid-one w o₁ n (omega (arith, first .next, first .kept, s .room, s .held))) last))
 
 -- ---- the prefix of a code
 module _ (c : ℕ) where
@@ -93,17 +85,17 @@ module _ (c : ℕ) where
 
 -- ---- `open_prefix`
 module _ (c b : ℕ) (o : List ℕ) (s : SpaceFirst c b o) where
-  pub open-future-room : c ≡ 6 → b < length o
-  open-future-room q = omega (arith, s .room, s .held, ap length (future-first c q))
+  pub open-future-room : c ≡ 6 → b < maxRuleNodes
+  open-future-room q = omega (arith, s .room, ap length (future-first c q))
 
-  pub open-always-room : c ≡ 7 → b < length o
-  open-always-room q = omega (arith, s .room, s .held, ap length (always-first c q))
+  pub open-always-room : c ≡ 7 → b < maxRuleNodes
+  open-always-room q = omega (arith, s .room, ap length (always-first c q))
 
   pub open-future : (w : ℕ) → c ≡ 6 → w ≡ nodeWord (node table.True 0 0) → Laid (words (prefixFirst (prefixOf c))) o b (b + 1) (set o b w)
-  open-future w q e = relaid (rw (future-first c q, e)) (laid-one w o b (open-future-room q))
+  open-future w q e = relaid (rw (future-first c q, e)) (laid-one w o b (omega (arith, open-future-room q, s .held)))
 
   pub open-always : (w : ℕ) → c ≡ 7 → w ≡ nodeWord (node table.True 0 0) → Laid (words (prefixFirst (prefixOf c))) o b (b + 1) (set o b w)
-  open-always w q e = relaid (rw (always-first c q, e)) (laid-one w o b (open-always-room q))
+  open-always w q e = relaid (rw (always-first c q, e)) (laid-one w o b (omega (arith, open-always-room q, s .held)))
 
   pub open-none : (c ≡ 6 → ⊥) → (c ≡ 7 → ⊥) → Laid (words (prefixFirst (prefixOf c))) o b b o
   open-none n m = relaid (rw (other-first c (s .low) (s .high) n m)) (laid-none o b (omega (arith, s .room, s .held)))
@@ -112,17 +104,17 @@ pub ruleset open-laws = (needs, open-future-room, open-always-room, open-future,
 
 -- ---- `close_prefix`
 module _ (c b e : ℕ) (o : List ℕ) (s : SpaceLast c b e o) where
-  pub close-dual : c ≡ 7 → SpaceDual e o
+  pub close-dual : c ≡ 7 → SpaceBehind 3 e o
   close-dual q = record { behind = omega (arith, s .order); room = omega (arith, s .room, ap length (always-last c b e q)); held = s .held }
 
   pub close-always : (w r : ℕ) (o′ : List ℕ) → c ≡ 7 → w ≡ nodeWord (node (untilKind 11) b e) → Laid (dualWords w e) o e r o′ → Laid (words (prefixLast (prefixOf c) b e)) o e r o′
   unfolding untilKind pick
   close-always w r o′ q t l = relaid (rw (always-last c b e q, t)) l
 
-  pub close-room : (c ≡ 7 → ⊥) → e < length o
-  close-room n = omega (arith, s .room, s .held, ap length (other-last c b e (s .low) (s .high) n))
+  pub close-room : (c ≡ 7 → ⊥) → e < maxRuleNodes
+  close-room n = omega (arith, s .room, ap length (other-last c b e (s .low) (s .high) n))
 
   pub close-one : (w : ℕ) → (c ≡ 7 → ⊥) → w ≡ nodeWord (prefixNode c b e) → Laid (words (prefixLast (prefixOf c) b e)) o e (e + 1) (set o e w)
-  close-one w n t = relaid (rw (other-last c b e (s .low) (s .high) n, t)) (laid-one w o e (close-room n))
+  close-one w n t = relaid (rw (other-last c b e (s .low) (s .high) n, t)) (laid-one w o e (omega (arith, close-room n, s .held)))
 
 pub ruleset close-laws = (needs, close-dual, close-always, close-room, close-one)

@@ -21,10 +21,10 @@ pub record SpaceFirst (c b : ℕ) (out : List ℕ) : Type 0 where
   pub room : b + length (prefixFirst (prefixOf c)) ≤ maxRuleNodes
   pub held : maxRuleNodes ≤ length out
 
--- room for the three nodes of a dual, behind an operand
-pub record SpaceDual (e : ℕ) (out : List ℕ) : Type 0 where
+-- room for k nodes behind an operand, which ends before node e
+pub record SpaceBehind (k e : ℕ) (out : List ℕ) : Type 0 where
   pub behind : 0 < e
-  pub room : e + 3 ≤ maxRuleNodes
+  pub room : e + k ≤ maxRuleNodes
   pub held : maxRuleNodes ≤ length out
 
 -- room for the nodes after it, which ends before node e

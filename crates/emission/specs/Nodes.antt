@@ -61,6 +61,10 @@ infixLast And m e = node table.Not (e - 1) 0 ∷ node table.Or m e ∷ node tabl
 infixLast Until m e = node table.Until (m - 1) (e - 1) ∷ []
 infixLast Since m e = node table.Since (m - 1) (e - 1) ∷ []
 
+-- not of the node before e
+abbrev pub notWords : ℕ → List ℕ
+notWords e = nodeWord (node table.Not (e - 1) 0) ∷ []
+
 -- not of the node before e, an operator, not of that
 abbrev pub dualWords : ℕ → ℕ → List ℕ
 dualWords w e = nodeWord (node table.Not (e - 1) 0) ∷ w ∷ nodeWord (node table.Not (e + 1) 0) ∷ []

@@ -1,23 +1,32 @@
 // Several nodes written one after another.
 ghost use mathlib.Core.Path.{_≡_};
-ghost use Rattle.emission.specs.Nodes.{prefixOf, prefixFirst, prefixLast, dualWords, words};
-ghost use Rattle.emission.specs.Laying.{Laid, SpaceDual, SpaceFirst, SpaceLast};
+ghost use Rattle.emission.specs.Nodes.{prefixOf, prefixFirst, prefixLast, notWords, dualWords, words};
+ghost use Rattle.emission.specs.Laying.{Laid, SpaceBehind, SpaceFirst, SpaceLast};
 use super::word;
+use formulas::limits::Limits;
 use signs::sign::Sign;
 
-// Not of the operand that ends before node e, the operator with the word w, not of that: as in `!(!p|!q)` and `!F!p`.
-pub fn dual(w: u32, e: usize, nodes: &mut [u32]) -> usize
-    requires { ⌜ SpaceDual e (now nodes) ⌝ }
-    ensures { λ r. ⌜ Laid (dualWords w e) (now (nodes .entry)) e r (now (nodes .exit)) ⌝ }
+// Not of the operand that ends before node e.
+pub fn not(e: usize, nodes: &mut [u32; Limits::RULE_NODES]) -> usize
+    requires { ⌜ SpaceBehind 1 e (now nodes) ⌝ }
+    ensures { λ r. ⌜ Laid (notWords e) (now (nodes .entry)) e r (now (nodes .exit)) ⌝ }
 {
     nodes[e] = word::not(e - 1);
-    nodes[e + 1] = w;
-    nodes[e + 2] = word::not(e + 1);
-    e + 3
+    e + 1
+}
+
+// Not of the operand that ends before node e, the operator with the word w, not of that: as in `!(!p|!q)` and `!F!p`.
+pub fn dual(w: u32, e: usize, nodes: &mut [u32; Limits::RULE_NODES]) -> usize
+    requires { ⌜ SpaceBehind 3 e (now nodes) ⌝ }
+    ensures { λ r. ⌜ Laid (dualWords w e) (now (nodes .entry)) e r (now (nodes .exit)) ⌝ }
+{
+    let n = not(e, nodes);
+    nodes[n] = w;
+    not(n + 1, nodes)
 }
 
 // What stands before the operand of a prefix.
-pub fn open_prefix(c: u8, b: usize, nodes: &mut [u32]) -> usize
+pub fn open_prefix(c: u8, b: usize, nodes: &mut [u32; Limits::RULE_NODES]) -> usize
     requires { ⌜ SpaceFirst c b (now nodes) ⌝ }
     ensures { λ r. ⌜ Laid (words (prefixFirst (prefixOf c))) (now (nodes .entry)) b r (now (nodes .exit)) ⌝ }
 {
@@ -33,7 +42,7 @@ pub fn open_prefix(c: u8, b: usize, nodes: &mut [u32]) -> usize
 }
 
 // What follows the operand of a prefix, which ends before node e.
-pub fn close_prefix(c: u8, b: usize, e: usize, nodes: &mut [u32]) -> usize
+pub fn close_prefix(c: u8, b: usize, e: usize, nodes: &mut [u32; Limits::RULE_NODES]) -> usize
     requires { ⌜ SpaceLast c b e (now nodes) ⌝ }
     ensures { λ r. ⌜ Laid (words (prefixLast (prefixOf c) b e)) (now (nodes .entry)) e r (now (nodes .exit)) ⌝ }
 {

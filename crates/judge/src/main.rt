@@ -1,19 +1,19 @@
 // Judges the rule and the recording on standard input, and prints to standard output. On standard error it says where a
 // refused line stands, or what could not be read or written.
 use formulas::limits::Limits;
-use libc::STDERR_FILENO;
 use libc::STDOUT_FILENO;
 use program::judge;
 use refused_line::find::refused_line;
+use standard_streams::failures;
 use standard_streams::input::read_input;
-use standard_streams::told::say_line;
+use told_line::say_line;
 
 fn main() {
     // One byte more than the limit tells an input that is too long.
     let mut space = [0u8; Limits::INPUT_BYTES + 1];
     let input = read_input(&mut space);
     if input.failed {
-        io::write_all(STDERR_FILENO, b"judge: standard input cannot be read\n");
+        failures::say_unread(b"judge");
         return;
     }
     let length = input.count;
@@ -22,6 +22,6 @@ fn main() {
     if io::write_all(STDOUT_FILENO, &output[..printed]) {
         say_line(refused_line(&space[..length]));
     } else {
-        io::write_all(STDERR_FILENO, b"judge: standard output cannot be written\n");
+        failures::say_unwritten(b"judge");
     }
 }

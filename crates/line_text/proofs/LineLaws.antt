@@ -1,12 +1,13 @@
 -- Laws of the reader of a rule in one line: one for each return.
 use mathlib.Core.Path.{_≡_, refl, sym, ap, _∙_}
 use Prim.Native.Nat.{ℕ, zero, suc, _+_, _-_, _<_, _≤_}
-use native.Mathlib.Nat.{sub-zero}
+use native.Mathlib.Nat.{sub-zero, suc-sub-suc, zero-add}
+use native.Mathlib.Numerals.{add-one}
 use native.Mathlib.Omega.{arith}
 use mathlib.Core.Bool.{Bool, true, false}
-use mathlib.Core.List.{List, [], _∷_, _++_, map}
-use lib.ListN.{length, take, drop, getD, replicate, length-map}
-use lib.Seq.{length-take-le}
+use mathlib.Core.List.{List, [], _∷_, _++_, map, append-assoc}
+use lib.ListN.{length, take, drop, getD, set, replicate, length-append, length-map, length-take, length-drop, length-replicate}
+use lib.Seq.{length-take-le, take-length, paste-suc}
 use lib.Dec.{eqb, ltb}
 use borrow.Author.Needs.{needs}
 use borrow.Author.Tests.{ne-eqb, lt-ltb, le-ltb, ltb-true}
@@ -22,7 +23,7 @@ use Rattle.definitions.specs.OneLineReading.{signsOf}
 use Rattle.definitions.specs.OneLine.{lineRefusal, lineNodes, readLineNumber, readLineAnswer, readLineNodes}
 use Rattle.theorems.proofs.Choice.{pick-true, pick-false}
 use Rattle.theorems.proofs.Inversions.{formed-same}
-use Rattle.theorems.proofs.LentSpace.{refused-answer, accepted-answer}
+use Rattle.theorems.proofs.LentSpace.{refused-answer, accepted-answer, left-accepted}
 use Rattle.theorems.proofs.Phrases.{flat, operand, operator, weight, lowAtoms, tight, phrase-flat}
 use Rattle.theorems.proofs.PhraseUnique.{unique}
 use Rattle.theorems.proofs.SentenceTrees.{sentence-flat, ends}
@@ -30,7 +31,7 @@ use Rattle.theorems.proofs.FlatRefusal.{flatRefusal, flat-refusal, sentence-wei
 use Rattle.theorems.proofs.SignSpelling.{spelled-signs}
 use Rattle.theorems.proofs.OneLineAnswers.{Refusal, tooLong, noSentence, tooDeep, outside, none, AcceptedLine, accepted-derivable, refusal-right, long-refused, short-refused, unspelled-refused}
 use Rattle.lent.specs.Space.{laid, cleared}
-use Rattle.lent.proofs.LeftLaws.{laid-past, laid-begins, left-untouched, left-filled}
+use Rattle.lent.proofs.LeftLaws.{left-untouched}
 use Rattle.signs.specs.Codes.{signs, ahead, cappedSigns}
 use Rattle.signs.specs.Scanning.{Spelt, Scanned}
 use Rattle.signs.specs.declared.scan.Signs.{Signs}
@@ -82,7 +83,41 @@ module _ (controller : ℕ) (line codes : List ℕ) where
 
 pub ruleset check-laws = (needs, check-long, check-nothing, check-within, check-part, check-few, check-counted)
 
+-- ---- `lay`
+
+-- the first i words lie over the start
+pub record Copied (words entry : List ℕ) (i : ℕ) (l : List ℕ) : Type 0 where
+  pub high : i ≤ maxRuleNodes
+  pub part : l ≡ take i words ++ drop i entry
+
+module _ (words entry : List ℕ) (all : length words ≡ maxRuleNodes) (room : maxRuleNodes ≤ length entry) where
+  pub lay-none : Copied words entry 0 entry
+  lay-none = record { high = omega arith; part = refl }
+
+  module _ (i : ℕ) (l : List ℕ) (v : Copied words entry i l) where
+    pub lay-kept : length l ≡ length entry
+    lay-kept = ap length (v .part) ∙ (length-append (take i words) (drop i entry) ∙ omega (arith, v .high, length-take i words, length-drop i entry))
+
+    pub lay-room : i < maxRuleNodes → i < length l
+    lay-room h = omega (arith, lay-kept)
+
+    pub lay-more : i < maxRuleNodes → Copied words entry (i + 1) (set l i (getD words i 0))
+    lay-more h =
+        let e : set (take i words ++ drop i entry) i (getD words i 0) ≡ take (suc i) words ++ drop (suc i) entry
+        = rw (zero-add i, zero-add (suc i)) at (paste-suc entry 0 words i 0 (omega arith) (omega arith)) in
+        record { high = omega arith; part = rw (v .part, add-one i) e }
+
+    pub lay-all : maxRuleNodes ≤ i → l ≡ laid words entry
+    lay-all h = let e : i ≡ length words = omega (arith, v .high) in v .part ∙ rw (e, take-length words)
+
+pub ruleset lay-laws = (needs, lay-none, lay-kept, lay-room, lay-more, lay-all)
+
 -- ---- `read_line`
+
+drop-zeros : (n k : ℕ) → drop {A = ℕ} k (replicate n 0) ≡ replicate (n - k) 0
+drop-zeros n zero = rw (sub-zero n)
+drop-zeros zero (suc k) = let e : 0 - suc k ≡ 0 = omega arith in rw e
+drop-zeros (suc n) (suc k) = drop-zeros n k ∙ rw (suc-sub-suc n k)
 
 -- none of a line's numbers is 13
 line-not-short : (controller : ℕ) (line : List ℕ) → lineRefusal controller line ≡ lentShort → ⊥
@@ -149,25 +184,22 @@ module _ (controller : ℕ) (line entry : List ℕ) where
       ahead-said : ahead (take n codes) 0 ≡ accepted-line .signs
       ahead-said = ahead-all (take n codes) ∙ codes-said
 
-      pub read-within : n ≤ length codes
-      read-within = spelt .within
+      pub read-within : n ≤ maxLineBytes
+      read-within = omega (arith, spelt .within, v .whole)
 
-      pub read-part : n ≡ length (take n codes)
-      read-part = sym (length-take-le n codes read-within)
-
-      pub read-ready : Ready maxOpenBrackets (take n codes) 0 0 entry
+      pub read-ready : Ready maxOpenBrackets (take n codes) 0 0 (replicate maxRuleNodes 0)
       read-ready = record {
         opened = 0;
         most = 0;
         due = rw ahead-said (sentence-flat (accepted-line .reads .derived));
         deep = rw ahead-said (omega (arith, accepted-line .shallow));
         room = rw ahead-said (omega (arith, accepted-line .limits .nodes, sentence-weight (accepted-line .signs) (accepted-line .tree) (accepted-line .reads .derived)));
-        held = room;
+        held = omega (arith, length-replicate {A = ℕ} maxRuleNodes 0);
         low = codes-low (take n codes) (ap lowAtoms codes-said ∙ said-low);
-        short = omega (arith, read-part, read-within, v .whole);
+        short = omega (arith, length-take n codes, read-within);
       }
 
-      module _ (at made : ℕ) (out : List ℕ) (r : Read Arrows 1 (take n codes) 0 0 entry at made out) where
+      module _ (at made : ℕ) (out : List ℕ) (r : Read Arrows 1 (take n codes) 0 0 (replicate maxRuleNodes 0) at made out) where
         read-ends : ahead (take n codes) at ≡ []
         read-ends = ends (ahead (take n codes) at) (sym (phrase-flat (r .phrase) 0) ∙ read-due) (r .stops)
           where
@@ -183,35 +215,30 @@ module _ (controller : ℕ) (line entry : List ℕ) where
         line-words : List ℕ
         line-words = map nodeWord (lineNodes line)
 
-        read-laid : Laid line-words entry 0 made out
+        read-laid : Laid line-words (replicate maxRuleNodes 0) 0 made out
         unfolding line-words
         read-laid = rw (accepted-line .nodes, ← read-tree) (r .laid)
 
         read-count : length line-words ≡ made
         read-count = sym (read-laid .next ∙ omega arith)
 
-        read-lies : out ≡ laid line-words entry
+        pub read-whole : length out ≡ maxRuleNodes
+        read-whole = read-laid .kept ∙ length-replicate {A = ℕ} maxRuleNodes 0
+
+        read-lies : out ≡ line-words ++ replicate (maxRuleNodes - length line-words) 0
         unfolding laidAt
-        read-lies = let z : 0 + length line-words ≡ length line-words = omega arith in rw z at (read-laid .lies)
+        read-lies = let z : 0 + length line-words ≡ length line-words = omega arith in (rw z at (read-laid .lies)) ∙ rw (drop-zeros maxRuleNodes (length line-words))
 
-        pub read-few : made ≤ maxRuleNodes
-        unfolding line-words
-        read-few = omega (arith, read-count, length-map (lineNodes line) nodeWord, ap length (accepted-line .nodes), accepted-line .limits .nodes)
-
-        pub read-held : maxRuleNodes ≤ length out
-        read-held = omega (arith, room, read-laid .kept)
-
-        pub read-accepted : (exit : List ℕ) → exit ≡ cleared out made maxRuleNodes → ReadLine controller line entry (rule.Rule controller made) exit
+        pub read-accepted : (exit : List ℕ) → exit ≡ laid out entry → ReadLine controller line entry (rule.Rule controller made) exit
         unfolding readLineAnswer readLineNodes line-words
         read-accepted exit e =
             let q : readLineNumber controller line entry ≡ 0 = full-number room ∙ (sym (v .refusal) ∙ fine) in
             let c : length (lineNodes line) ≡ made = sym (length-map (lineNodes line) nodeWord) ∙ read-count in
+            let filled : laid out entry ≡ line-words ++ (replicate (maxRuleNodes - length line-words) 0 ++ drop maxRuleNodes entry)
+            = rw (read-whole, read-lies) (append-assoc line-words (replicate (maxRuleNodes - length line-words) 0) (drop maxRuleNodes entry)) in
             record {
               answered = rw (q, c) (accepted-answer 0 (controller ∷ made ∷ []) refl);
-              nodes =
-                  left-filled (readLineNumber controller line entry) maxRuleNodes (map nodeWord (lineNodes line)) entry out exit
-                  (laid-past maxRuleNodes (map nodeWord (lineNodes line)) entry out (omega (arith, read-few, read-count)) read-lies)
-                  made q read-count (laid-begins made (map nodeWord (lineNodes line)) entry out read-count read-lies) e;
+              nodes = rw q (e ∙ (filled ∙ sym (left-accepted maxRuleNodes line-words entry)));
             }
 
-pub ruleset read-laws = (needs, read-short, read-refused, read-within, read-part, read-ready, read-few, read-held, read-accepted)
+pub ruleset read-laws = (needs, read-short, read-refused, read-within, read-ready, read-whole, read-accepted)

@@ -1,7 +1,9 @@
 // Reading a rule in one line: what refuses it is found first, and what is read then can't fail.
 ghost use mathlib.Core.Path.{_≡_};
+ghost use Prim.Native.Nat.{_≤_};
 ghost use lib.ListN.{length};
-ghost use Rattle.definitions.specs.Limits.{maxLineBytes};
+ghost use Rattle.definitions.specs.Limits.{maxLineBytes, maxRuleNodes};
+ghost use Rattle.lent.specs.Space.{laid};
 ghost use Rattle.line_text.specs.Reading.{LineChecked, ReadLine};
 use formula_reader::RuleRead;
 use formulas::limits::Limits;
@@ -40,6 +42,16 @@ fn check(controller: usize, line: &[u8], codes: &mut [u8]) -> Checked
     }
 }
 
+// Lays a rule's words over the start of lent nodes.
+fn lay(words: &[u32; Limits::RULE_NODES], nodes: &mut [u32])
+    requires { ⌜ (length (now words) ≡ maxRuleNodes) × (maxRuleNodes ≤ length (now nodes)) ⌝ }
+    ensures { λ _. ⌜ now (nodes .exit) ≡ laid (now (words .entry)) (now (nodes .entry)) ⌝ }
+{
+    for i in 0..Limits::RULE_NODES {
+        nodes[i] = words[i];
+    }
+}
+
 // Reads a rule in one line into `nodes`.
 pub fn read_line(controller: usize, line: &[u8], nodes: &mut [u32]) -> RuleRead
     ensures { λ r. ⌜ ReadLine controller (now (line .entry)) (now (nodes .entry)) r (now (nodes .exit)) ⌝ }
@@ -55,8 +67,8 @@ pub fn read_line(controller: usize, line: &[u8], nodes: &mut [u32]) -> RuleRead
         return RuleRead::Refused(number);
     }
     let n = checked.signs;
-    let end = arrows(&codes[..n], 0, Limits::OPEN_BRACKETS, 0, nodes);
-    let count = end.made;
-    lent::clear_u32(nodes, count, Limits::RULE_NODES);
-    RuleRead::Rule(controller, count)
+    let mut words = [0u32; Limits::RULE_NODES];
+    let end = arrows(&codes, n, 0, Limits::OPEN_BRACKETS, 0, &mut words);
+    lay(&words, nodes);
+    RuleRead::Rule(controller, end.made)
 }

@@ -6,7 +6,8 @@ use native.Mathlib.Numerals.{add-one}
 use native.Mathlib.Decide.{decLt}
 use mathlib.Core.Bool.{Bool, true, false, true≢false}
 use mathlib.Core.List.{List, [], _∷_, _++_, map, append-assoc}
-use lib.ListN.{length, getD, set, length-append, length-map, length-set, List·getD-eq-default}
+use lib.ListN.{length, getD, set, take, length-append, length-map, length-take, List·getD-eq-default}
+use lib.Seq.{getD-take}
 use lib.Dec.{eqb}
 use mir.Syntax.{w64}
 use mir.Val.{Fits}
@@ -23,8 +24,8 @@ use Rattle.theorems.proofs.Phrases.{flat, operand, operator, tight, signStrengt
 use Rattle.theorems.proofs.OneLineTables.{nodes-size, size-some}
 use Rattle.signs.specs.Codes.{signOf, ahead}
 use Rattle.signs.proofs.CodeLaws.{by-code, atom-sign, ahead-cons, ahead-none, ahead-length, code-inside}
-use Rattle.emission.specs.Nodes.{words, prefixOf, untilSign, untilKind, prefixFirst, prefixLast, infixMiddle, infixLast, dualWords}
-use Rattle.emission.specs.Laying.{Laid, SpaceDual, SpaceFirst, SpaceLast}
+use Rattle.emission.specs.Nodes.{words, prefixOf, untilSign, untilKind, prefixFirst, prefixLast, infixMiddle, infixLast, notWords, dualWords}
+use Rattle.emission.specs.Laying.{Laid, SpaceBehind, SpaceFirst, SpaceLast}
 use Rattle.emission.proofs.Laying.{laid-one, laid-none, laid-seq, relaid}
 use Rattle.phrases.specs.Reading.{Ready, isPrefix, Primed, treeWords, Read}
 
@@ -135,10 +136,13 @@ prefix-words x p b n e i j =
     rw (prefix-nodes x p b n e l j) (simp words-append)
 
 -- ---- `peek`
-pub peek-none : (cs : List ℕ) (at : ℕ) → length cs ≤ at → 0 ≡ getD cs at 0
-peek-none cs at h = sym (List·getD-eq-default cs 0 {n = at} h)
+pub peek-some : (cs : List ℕ) (count at : ℕ) → at < count → getD cs at 0 ≡ getD (take count cs) at 0
+peek-some cs count at h = sym (getD-take count cs at 0 h)
 
-pub ruleset peek-laws = (needs, peek-none)
+pub peek-none : (cs : List ℕ) (count at : ℕ) → count ≤ at → 0 ≡ getD (take count cs) at 0
+peek-none cs count at h = sym (List·getD-eq-default (take count cs) 0 {n = at} (omega (arith, length-take count cs, h)))
+
+pub ruleset peek-laws = (needs, peek-some, peek-none)
 
 -- ---- the sign at a place
 
@@ -300,9 +304,6 @@ module _ (l : Level) (b left at made a m : ℕ) (x : Infix) (cs out o₁ : List 
           relaid (infix-words x (r₁ .tree) (r₂ .tree) made m n e (read-size r₁) (mid .next) (read-size r₂))
           (laid-seq (r₁ .laid) (laid-seq mid (laid-seq (r₂ .laid) last)))
 
-      infix-kept : (f : ℕ) (o₄ : List ℕ) → Laid (words (infixLast x m e)) o₃ e f o₄ → length o₄ ≡ length o₁
-      infix-kept f o₄ last = last .kept ∙ (r₂ .laid .kept ∙ mid .kept)
-
 -- what was read stops at a code
 below : (k b : ℕ) → k < b + 1 → (k ≡ b → ⊥) → k < b
 below k b h n = omega arith
@@ -316,78 +317,85 @@ implies-last : (m e u : ℕ) → u ≡ nodeWord (node table.Or m (e - 1)) → (u
 unfolding infixLast
 implies-last m e u q = rw q
 
-implies-middle : (m v : ℕ) → v ≡ nodeWord (node table.Not (m - 1) 0) → (v ∷ []) ≡ words (infixMiddle Implies m)
+implies-middle : (m : ℕ) → notWords m ≡ words (infixMiddle Implies m)
 unfolding infixMiddle
-implies-middle m v q = rw q
+implies-middle m = refl
 
 implies-adds : infixNodes Implies ≡ 2
 unfolding infixNodes
 implies-adds = refl
 
+-- these do not ask at which level the operands were read
+module _ (l : Level) (b left at made a m c : ℕ) (cs out o₁ : List ℕ) (w : Ready left cs at made out) (r₁ : Read l b cs at made out a m o₁) (is : c ≡ getD cs a 0) (there : c ≡ 8) where
+  implies-joins : Joins cs a Implies
+  implies-joins = joins cs a c Implies is (omega arith) (implies-sign c there)
+
+  implies-room : m + 2 ≤ maxRuleNodes
+  implies-room = omega (arith, implies-adds, infix-room l b left at made a m Implies cs out o₁ w r₁ implies-joins)
+
+  pub arrows-not : SpaceBehind 1 m o₁
+  arrows-not = record {
+    behind = infix-behind l b left at made a m Implies cs out o₁ w r₁ implies-joins;
+    room = omega (arith, implies-room);
+    held = infix-held l b left at made a m Implies cs out o₁ w r₁ implies-joins;
+  }
+
+  pub arrows-low-first : m < operandSpan
+  arrows-low-first = omega (arith, implies-room)
+
+  pub arrows-index : Fits w64 (a + 1)
+  arrows-index = infix-index l b left at made a m Implies cs out o₁ w r₁ implies-joins
+
+  pub arrows-falls : (t : ℕ) → measure (length cs) at 6 ≡ t → measure (length cs) (a + 1) 6 < t
+  arrows-falls t e = infix-falls l b left at made a m Implies cs out o₁ w r₁ implies-joins t 6 6 e (omega arith)
+
+  pub arrows-falls-more : (t : ℕ) → measure (length cs) at 6 ≡ t → measure (length cs) (a + 1) 5 < t
+  arrows-falls-more t e = infix-falls l b left at made a m Implies cs out o₁ w r₁ implies-joins t 6 5 e (omega arith)
+
+  module _ (n : ℕ) (o₂ : List ℕ) (mid : Laid (notWords m) o₁ m n o₂) where
+    implies-mid : Laid (words (infixMiddle Implies m)) o₁ m n o₂
+    implies-mid = relaid (implies-middle m) mid
+
+    pub arrows-ready : Ready left cs (a + 1) n o₂
+    arrows-ready = infix-ready l b left at made a m Implies cs out o₁ w r₁ implies-joins n o₂ implies-mid
+
+    module _ (l₂ : Level) (b₂ a′ e : ℕ) (o₃ : List ℕ) (r₂ : Read l₂ b₂ cs (a + 1) n o₂ a′ e o₃) where
+      implies-room-after : e + 1 ≤ maxRuleNodes
+      unfolding infixLast
+      implies-room-after = infix-after l b left at made a m Implies cs out o₁ w r₁ implies-joins n o₂ implies-mid l₂ b₂ a′ e o₃ r₂
+
+      pub arrows-some-after : 1 ≤ e
+      arrows-some-after = omega (arith, infix-order l b left at made a m Implies cs out o₁ w r₁ implies-joins n o₂ implies-mid l₂ b₂ a′ e o₃ r₂)
+
+      pub arrows-low-second : e - 1 < operandSpan
+      arrows-low-second = omega (arith, implies-room-after)
+
+      pub arrows-write-after : e < maxRuleNodes
+      arrows-write-after = omega (arith, implies-room-after)
+
+      implies-fits : e < length o₃
+      implies-fits = omega (arith, implies-room-after, infix-held-after l b left at made a m Implies cs out o₁ w r₁ implies-joins n o₂ implies-mid l₂ b₂ a′ e o₃ r₂)
+
+      pub arrows-next-after : Fits w64 (e + 1)
+      arrows-next-after = record { fits = omega (arith, implies-room-after) }
+
+      module _ (u : ℕ) (p : u ≡ nodeWord (node table.Or m (e - 1))) where
+        implies-end : Laid (words (infixLast Implies m e)) o₃ e (e + 1) (set o₃ e u)
+        implies-end = relaid (implies-last m e u p) (laid-one u o₃ e implies-fits)
+
 module _ (left at made a m c : ℕ) (cs out o₁ : List ℕ) (w : Ready left cs at made out) (r₁ : Read Ors 2 cs at made out a m o₁) (is : c ≡ getD cs a 0) where
-  module _ (there : c ≡ 8) where
-    implies-joins : Joins cs a Implies
-    implies-joins = joins cs a c Implies is (omega arith) (implies-sign c there)
-
-    implies-room : m + 2 ≤ maxRuleNodes
-    implies-room = omega (arith, implies-adds, infix-room Ors 2 left at made a m Implies cs out o₁ w r₁ implies-joins)
-
-    pub arrows-some : 1 ≤ m
-    arrows-some = infix-behind Ors 2 left at made a m Implies cs out o₁ w r₁ implies-joins
-
-    pub arrows-low : m - 1 < operandSpan
-    arrows-low = omega (arith, implies-room)
-
-    pub arrows-write : m < length o₁
-    arrows-write = omega (arith, implies-room, infix-held Ors 2 left at made a m Implies cs out o₁ w r₁ implies-joins)
-
-    pub arrows-index : Fits w64 (a + 1)
-    arrows-index = infix-index Ors 2 left at made a m Implies cs out o₁ w r₁ implies-joins
-
-    pub arrows-next : Fits w64 (m + 1)
-    arrows-next = record { fits = omega (arith, implies-room) }
-
-    pub arrows-falls : (t : ℕ) → measure (length cs) at 6 ≡ t → measure (length cs) (a + 1) 6 < t
-    arrows-falls t e = infix-falls Ors 2 left at made a m Implies cs out o₁ w r₁ implies-joins t 6 6 e (omega arith)
-
-    module _ (v : ℕ) (q : v ≡ nodeWord (node table.Not (m - 1) 0)) where
-      implies-mid : Laid (words (infixMiddle Implies m)) o₁ m (m + 1) (set o₁ m v)
-      implies-mid = relaid (implies-middle m v q) (laid-one v o₁ m arrows-write)
-
-      pub arrows-ready : Ready left cs (a + 1) (m + 1) (set o₁ m v)
-      arrows-ready = infix-ready Ors 2 left at made a m Implies cs out o₁ w r₁ implies-joins (m + 1) (set o₁ m v) implies-mid
-
-      module _ (a′ e : ℕ) (o₃ : List ℕ) (r₂ : Read Arrows 1 cs (a + 1) (m + 1) (set o₁ m v) a′ e o₃) where
-        implies-room-after : e + 1 ≤ maxRuleNodes
-        unfolding infixLast
-        implies-room-after = infix-after Ors 2 left at made a m Implies cs out o₁ w r₁ implies-joins (m + 1) (set o₁ m v) implies-mid Arrows 1 a′ e o₃ r₂
-
-        pub arrows-some-after : 1 ≤ e
-        arrows-some-after = omega (arith, infix-order Ors 2 left at made a m Implies cs out o₁ w r₁ implies-joins (m + 1) (set o₁ m v) implies-mid Arrows 1 a′ e o₃ r₂)
-
-        pub arrows-low-after : (m < operandSpan) × (e - 1 < operandSpan)
-        arrows-low-after = (omega (arith, implies-room), omega (arith, implies-room-after))
-
-        pub arrows-write-after : e < length o₃
-        arrows-write-after = omega (arith, implies-room-after, infix-held-after Ors 2 left at made a m Implies cs out o₁ w r₁ implies-joins (m + 1) (set o₁ m v) implies-mid Arrows 1 a′ e o₃ r₂)
-
-        pub arrows-next-after : Fits w64 (e + 1)
-        arrows-next-after = record { fits = omega (arith, implies-room-after) }
-
-        module _ (u : ℕ) (p : u ≡ nodeWord (node table.Or m (e - 1))) where
-          implies-end : Laid (words (infixLast Implies m e)) o₃ e (e + 1) (set o₃ e u)
-          implies-end = relaid (implies-last m e u p) (laid-one u o₃ e arrows-write-after)
-
-          pub arrows-kept : length (set o₃ e u) ≡ length out
-          arrows-kept = infix-kept Ors 2 left at made a m Implies cs out o₁ w r₁ implies-joins (m + 1) (set o₁ m v) implies-mid Arrows 1 a′ e o₃ r₂ (e + 1) (set o₃ e u) implies-end ∙ r₁ .laid .kept
-
-          pub arrows-read : Read Arrows 1 cs at made out a′ (e + 1) (set o₃ e u)
-          arrows-read = record {
-            tree = two Implies (r₁ .tree) (r₂ .tree);
-            phrase = arrow (infix-first Ors 2 left at made a m Implies cs out o₁ w r₁ implies-joins (m + 1) (set o₁ m v) implies-mid Arrows 1 a′ e o₃ r₂) (r₂ .phrase);
-            stops = r₂ .stops;
-            laid = infix-laid Ors 2 left at made a m Implies cs out o₁ w r₁ implies-joins (m + 1) (set o₁ m v) implies-mid Arrows 1 a′ e o₃ r₂ (e + 1) (set o₃ e u) implies-end;
-          }
+  pub arrows-read : c ≡ 8 → (n : ℕ) (o₂ : List ℕ) → Laid (notWords m) o₁ m n o₂ → (a′ e : ℕ) (o₃ : List ℕ) → Read Arrows 1 cs (a + 1) n o₂ a′ e o₃
+      → (u : ℕ) → u ≡ nodeWord (node table.Or m (e - 1)) → Read Arrows 1 cs at made out a′ (e + 1) (set o₃ e u)
+  arrows-read there n o₂ mid a′ e o₃ r₂ u p =
+      let j = implies-joins Ors 2 left at made a m c cs out o₁ w r₁ is there in
+      let i = implies-mid Ors 2 left at made a m c cs out o₁ w r₁ is there n o₂ mid in
+      record {
+        tree = two Implies (r₁ .tree) (r₂ .tree);
+        phrase = arrow (infix-first Ors 2 left at made a m Implies cs out o₁ w r₁ j n o₂ i Arrows 1 a′ e o₃ r₂) (r₂ .phrase);
+        stops = r₂ .stops;
+        laid = infix-laid Ors 2 left at made a m Implies cs out o₁ w r₁ j n o₂ i Arrows 1 a′ e o₃ r₂ (e + 1) (set o₃ e u)
+            (implies-end Ors 2 left at made a m c cs out o₁ w r₁ is there n o₂ mid Arrows 1 a′ e o₃ r₂ u p);
+      }
 
   pub arrows-stop : (c ≡ 8 → ⊥) → Read Arrows 1 cs at made out a m o₁
   arrows-stop no-arrow = record {
@@ -397,7 +405,9 @@ module _ (left at made a m c : ℕ) (cs out o₁ : List ℕ) (w : Ready left cs 
     laid = r₁ .laid;
   }
 
-pub ruleset arrows-laws = (needs, arrows-ors-falls, arrows-some, arrows-low, arrows-write, arrows-index, arrows-next, arrows-falls, arrows-ready, arrows-some-after, arrows-low-after, arrows-write-after, arrows-next-after, arrows-kept, arrows-read, arrows-stop)
+pub ruleset arrows-laws = (needs, arrows-some-after, arrows-next-after)
+
+pub ruleset arrows-falling = (arrows-ors-falls, arrows-falls, arrows-falls-more)
 
 -- ---- `untils`
 pub untils-prefixes-falls : (n at t : ℕ) → measure n at 3 ≡ t → measure n at 2 < t
@@ -472,18 +482,18 @@ module _ (l : Level) (b left at made a m c : ℕ) (cs out o₁ : List ℕ) (w : 
       pub untils-low-second : e - 1 < operandSpan
       untils-low-second = omega (arith, until-room-after)
 
-      pub untils-write-after : e < length o₃
-      untils-write-after = omega (arith, until-room-after, infix-held-after l b left at made a m (untilSign c) cs out o₁ w r₁ until-joins m o₁ until-mid l₂ b₂ a′ e o₃ r₂)
+      pub untils-write-after : e < maxRuleNodes
+      untils-write-after = omega (arith, until-room-after)
+
+      until-fits : e < length o₃
+      until-fits = omega (arith, until-room-after, infix-held-after l b left at made a m (untilSign c) cs out o₁ w r₁ until-joins m o₁ until-mid l₂ b₂ a′ e o₃ r₂)
 
       pub untils-next-after : Fits w64 (e + 1)
       untils-next-after = record { fits = omega (arith, until-room-after) }
 
       module _ (u : ℕ) (p : u ≡ nodeWord (node (untilKind c) (m - 1) (e - 1))) where
         until-end : Laid (words (infixLast (untilSign c) m e)) o₃ e (e + 1) (set o₃ e u)
-        until-end = relaid (until-last c m e u p) (laid-one u o₃ e untils-write-after)
-
-        pub untils-kept : length (set o₃ e u) ≡ length out
-        untils-kept = infix-kept l b left at made a m (untilSign c) cs out o₁ w r₁ until-joins m o₁ until-mid l₂ b₂ a′ e o₃ r₂ (e + 1) (set o₃ e u) until-end ∙ r₁ .laid .kept
+        until-end = relaid (until-last c m e u p) (laid-one u o₃ e until-fits)
 
 module _ (left at made a m c : ℕ) (cs out o₁ : List ℕ) (w : Ready left cs at made out) (r₁ : Read Prefixes 5 cs at made out a m o₁) (is : c ≡ getD cs a 0) where
   untils-alone : (tight (ahead cs a) ≡ 4 → ⊥) → Read Untils 4 cs at made out a m o₁
@@ -510,17 +520,16 @@ module _ (left at made a m c : ℕ) (cs out o₁ : List ℕ) (w : Ready left cs 
             (until-end Prefixes 5 left at made a m c cs out o₁ w r₁ is lo hi Untils 4 a′ e o₃ r₂ u p);
       }
 
-pub ruleset untils-laws = (needs, untils-some, untils-some-after, untils-next-after, untils-kept)
+pub ruleset untils-laws = (needs, untils-some, untils-some-after, untils-next-after)
 
 pub ruleset untils-falling = (untils-prefixes-falls, untils-falls, untils-falls-more)
 
 -- ---- a turn of the loops of `ors` and `ands`: whatever was lent, what was read before the loop is read on
 pub record Turn (l : Level) (b left : ℕ) (cs : List ℕ) (at made a₀ m₀ : ℕ) (o₀ : List ℕ) (a m : ℕ) (o : List ℕ) : Type 0 where
   pub on : (out : List ℕ) → Ready left cs at made out → Read l b cs at made out a₀ m₀ o₀ → Read l b cs at made out a m o
-  pub kept : length o ≡ length o₀
 
 turn-start : (l : Level) (b left at made a m : ℕ) (cs o : List ℕ) → Turn l b left cs at made a m o a m o
-turn-start l b left at made a m cs o = record { on = λ out w r. r; kept = refl }
+turn-start l b left at made a m cs o = record { on = λ out w r. r }
 
 -- ---- `ors`
 pub ors-ands-falls : (n at t : ℕ) → measure n at 5 ≡ t → measure n at 4 < t
@@ -555,9 +564,6 @@ or-mid m o h = relaid (or-none m) (laid-none o m h)
 module _ (left at made a₀ m₀ a m : ℕ) (cs out o₀ o₁ : List ℕ) (w : Ready left cs at made out) (r₀ : Read Ands 3 cs at made out a₀ m₀ o₀) (inv : Turn Ors 3 left cs at made a₀ m₀ o₀ a m o₁) where
   ors-so-far : Read Ors 3 cs at made out a m o₁
   ors-so-far = inv .on out w (or-up r₀)
-
-  pub ors-kept : length o₁ ≡ length out
-  ors-kept = ors-so-far .laid .kept
 
   module _ (c : ℕ) (is : c ≡ getD cs a 0) where
     pub ors-stop : (c ≡ 9 → ⊥) → Read Ors 2 cs at made out a m o₁
@@ -597,11 +603,17 @@ module _ (left at made a₀ m₀ a m : ℕ) (cs out o₀ o₁ : List ℕ) (w : R
         pub ors-some-after : 1 ≤ e
         ors-some-after = omega (arith, or-order)
 
-        pub ors-low-after : (m - 1 < operandSpan) × (e - 1 < operandSpan)
-        ors-low-after = (omega (arith, or-order, or-room-after), omega (arith, or-room-after))
+        pub ors-low-first : m - 1 < operandSpan
+        ors-low-first = omega (arith, or-order, or-room-after)
 
-        pub ors-write-after : e < length o₃
-        ors-write-after = omega (arith, or-room-after, infix-held-after Ors 3 left at made a m Or cs out o₁ w ors-so-far or-joins m o₁ (or-mid m o₁ or-fits) Ands 3 a′ e o₃ r₂)
+        pub ors-low-second : e - 1 < operandSpan
+        ors-low-second = omega (arith, or-room-after)
+
+        pub ors-write-after : e < maxRuleNodes
+        ors-write-after = omega (arith, or-room-after)
+
+        pub ors-fits : e < length o₃
+        ors-fits = omega (arith, or-room-after, infix-held-after Ors 3 left at made a m Or cs out o₁ w ors-so-far or-joins m o₁ (or-mid m o₁ or-fits) Ands 3 a′ e o₃ r₂)
 
         pub ors-next-after : Fits w64 (e + 1)
         ors-next-after = record { fits = omega (arith, or-room-after) }
@@ -626,9 +638,9 @@ module _ (left at made a₀ m₀ a m c : ℕ) (cs o₀ o₁ : List ℕ) (inv : T
       }
 
   pub ors-again : Turn Ors 3 left cs at made a₀ m₀ o₀ a′ (e + 1) (set o₃ e u)
-  ors-again = record { on = λ out w r. ors-more out w (inv .on out w r); kept = or-end .kept ∙ (r₂ .laid .kept ∙ inv .kept) }
+  ors-again = record { on = λ out w r. ors-more out w (inv .on out w r) }
 
-pub ruleset ors-laws = (needs, ors-ands-falls, ors-start, ors-kept, ors-stop, ors-index, ors-falls, ors-ready, ors-some, ors-some-after, ors-low-after, ors-write-after, ors-next-after, ors-less, ors-again)
+pub ruleset ors-laws = (needs, ors-ands-falls, ors-start, ors-some, ors-some-after, ors-next-after)
 
 -- ---- `ands`
 pub ands-untils-falls : (n at t : ℕ) → measure n at 4 ≡ t → measure n at 3 < t
@@ -645,9 +657,9 @@ and-adds : infixNodes And ≡ 4
 unfolding infixNodes
 and-adds = refl
 
-and-middle : (m v : ℕ) → v ≡ nodeWord (node table.Not (m - 1) 0) → (v ∷ []) ≡ words (infixMiddle And m)
+and-middle : (m : ℕ) → notWords m ≡ words (infixMiddle And m)
 unfolding infixMiddle
-and-middle m v q = rw q
+and-middle m = refl
 
 and-three : (m e : ℕ) → length (infixLast And m e) ≡ 3
 unfolding infixLast
@@ -657,15 +669,12 @@ and-last : (m e u : ℕ) → u ≡ nodeWord (node table.Or m e) → dualWords u 
 unfolding infixLast
 and-last m e u q = rw q
 
-and-mid : (m v : ℕ) (o : List ℕ) → m < length o → v ≡ nodeWord (node table.Not (m - 1) 0) → Laid (words (infixMiddle And m)) o m (m + 1) (set o m v)
-and-mid m v o h q = relaid (and-middle m v q) (laid-one v o m h)
+and-mid : {m n : ℕ} {o o′ : List ℕ} → Laid (notWords m) o m n o′ → Laid (words (infixMiddle And m)) o m n o′
+and-mid {m} mid = relaid (and-middle m) mid
 
 module _ (left at made a₀ m₀ a m : ℕ) (cs out o₀ o₁ : List ℕ) (w : Ready left cs at made out) (r₀ : Read Untils 4 cs at made out a₀ m₀ o₀) (inv : Turn Ands 4 left cs at made a₀ m₀ o₀ a m o₁) where
   ands-so-far : Read Ands 4 cs at made out a m o₁
   ands-so-far = inv .on out w (and-up r₀)
-
-  pub ands-kept : length o₁ ≡ length out
-  ands-kept = ands-so-far .laid .kept
 
   module _ (c : ℕ) (is : c ≡ getD cs a 0) where
     pub ands-stop : (c ≡ 10 → ⊥) → Read Ands 3 cs at made out a m o₁
@@ -683,50 +692,48 @@ module _ (left at made a₀ m₀ a m : ℕ) (cs out o₀ o₁ : List ℕ) (w : R
       and-room : m + 4 ≤ maxRuleNodes
       and-room = omega (arith, and-adds, infix-room Ands 4 left at made a m And cs out o₁ w ands-so-far and-joins)
 
-      pub ands-some : 1 ≤ m
-      ands-some = infix-behind Ands 4 left at made a m And cs out o₁ w ands-so-far and-joins
+      pub ands-low-first : m < operandSpan
+      ands-low-first = omega (arith, and-room)
 
-      pub ands-low : m - 1 < operandSpan
-      ands-low = omega (arith, and-room)
-
-      pub ands-write : m < length o₁
-      ands-write = omega (arith, and-room, infix-held Ands 4 left at made a m And cs out o₁ w ands-so-far and-joins)
+      pub ands-not : SpaceBehind 1 m o₁
+      ands-not = record {
+        behind = infix-behind Ands 4 left at made a m And cs out o₁ w ands-so-far and-joins;
+        room = omega (arith, and-room);
+        held = infix-held Ands 4 left at made a m And cs out o₁ w ands-so-far and-joins;
+      }
 
       pub ands-index : Fits w64 (a + 1)
       ands-index = infix-index Ands 4 left at made a m And cs out o₁ w ands-so-far and-joins
 
-      pub ands-next : Fits w64 (m + 1)
-      ands-next = record { fits = omega (arith, and-room) }
-
       pub ands-falls : (t : ℕ) → measure (length cs) at 4 ≡ t → measure (length cs) (a + 1) 3 < t
       ands-falls t e = infix-falls Ands 4 left at made a m And cs out o₁ w ands-so-far and-joins t 4 3 e (omega arith)
 
-      module _ (v : ℕ) (q : v ≡ nodeWord (node table.Not (m - 1) 0)) where
-        pub ands-ready : Ready left cs (a + 1) (m + 1) (set o₁ m v)
-        ands-ready = infix-ready Ands 4 left at made a m And cs out o₁ w ands-so-far and-joins (m + 1) (set o₁ m v) (and-mid m v o₁ ands-write q)
+      module _ (n : ℕ) (o₂ : List ℕ) (mid : Laid (notWords m) o₁ m n o₂) where
+        pub ands-ready : Ready left cs (a + 1) n o₂
+        ands-ready = infix-ready Ands 4 left at made a m And cs out o₁ w ands-so-far and-joins n o₂ (and-mid mid)
 
-        module _ (a′ e : ℕ) (o₃ : List ℕ) (r₂ : Read Untils 4 cs (a + 1) (m + 1) (set o₁ m v) a′ e o₃) where
+        module _ (a′ e : ℕ) (o₃ : List ℕ) (r₂ : Read Untils 4 cs (a + 1) n o₂ a′ e o₃) where
           and-order : m < e
-          and-order = infix-order Ands 4 left at made a m And cs out o₁ w ands-so-far and-joins (m + 1) (set o₁ m v) (and-mid m v o₁ ands-write q) Untils 4 a′ e o₃ r₂
+          and-order = infix-order Ands 4 left at made a m And cs out o₁ w ands-so-far and-joins n o₂ (and-mid mid) Untils 4 a′ e o₃ r₂
 
           and-room-after : e + 3 ≤ maxRuleNodes
-          and-room-after = omega (arith, infix-after Ands 4 left at made a m And cs out o₁ w ands-so-far and-joins (m + 1) (set o₁ m v) (and-mid m v o₁ ands-write q) Untils 4 a′ e o₃ r₂, and-three m e)
+          and-room-after = omega (arith, infix-after Ands 4 left at made a m And cs out o₁ w ands-so-far and-joins n o₂ (and-mid mid) Untils 4 a′ e o₃ r₂, and-three m e)
 
-          pub ands-low-after : (m < operandSpan) × (e < operandSpan)
-          ands-low-after = (omega (arith, and-order, and-room-after), omega (arith, and-room-after))
+          pub ands-low-second : e < operandSpan
+          ands-low-second = omega (arith, and-room-after)
 
-          pub ands-dual : SpaceDual e o₃
+          pub ands-dual : SpaceBehind 3 e o₃
           ands-dual = record {
             behind = omega (arith, and-order);
             room = and-room-after;
-            held = infix-held-after Ands 4 left at made a m And cs out o₁ w ands-so-far and-joins (m + 1) (set o₁ m v) (and-mid m v o₁ ands-write q) Untils 4 a′ e o₃ r₂;
+            held = infix-held-after Ands 4 left at made a m And cs out o₁ w ands-so-far and-joins n o₂ (and-mid mid) Untils 4 a′ e o₃ r₂;
           }
 
           pub ands-less : length cs - a′ < length cs - a
-          ands-less = infix-onwards Ands 4 left at made a m And cs out o₁ w ands-so-far and-joins (m + 1) (set o₁ m v) (and-mid m v o₁ ands-write q) Untils 4 a′ e o₃ r₂
+          ands-less = infix-onwards Ands 4 left at made a m And cs out o₁ w ands-so-far and-joins n o₂ (and-mid mid) Untils 4 a′ e o₃ r₂
 
-module _ (left at made a₀ m₀ a m c : ℕ) (cs o₀ o₁ : List ℕ) (inv : Turn Ands 4 left cs at made a₀ m₀ o₀ a m o₁) (is : c ≡ getD cs a 0) (there : c ≡ 10) (v : ℕ) (room : m < length o₁)
-    (q : v ≡ nodeWord (node table.Not (m - 1) 0)) (a′ e u f : ℕ) (o₃ o₄ : List ℕ) (r₂ : Read Untils 4 cs (a + 1) (m + 1) (set o₁ m v) a′ e o₃)
+module _ (left at made a₀ m₀ a m c : ℕ) (cs o₀ o₁ : List ℕ) (inv : Turn Ands 4 left cs at made a₀ m₀ o₀ a m o₁) (is : c ≡ getD cs a 0) (there : c ≡ 10) (n : ℕ) (o₂ : List ℕ)
+    (mid : Laid (notWords m) o₁ m n o₂) (a′ e u f : ℕ) (o₃ o₄ : List ℕ) (r₂ : Read Untils 4 cs (a + 1) n o₂ a′ e o₃)
     (p : u ≡ nodeWord (node table.Or m e)) (dual : Laid (dualWords u e) o₃ e f o₄) where
   and-end : Laid (words (infixLast And m e)) o₃ e f o₄
   and-end = relaid (and-last m e u p) dual
@@ -736,15 +743,15 @@ module _ (left at made a₀ m₀ a m c : ℕ) (cs o₀ o₁ : List ℕ) (inv : T
       let j : Joins cs a And = joins cs a c And is (omega arith) (and-sign c there) in
       record {
         tree = two And (r₁ .tree) (r₂ .tree);
-        phrase = and (infix-first Ands 4 left at made a m And cs out o₁ w r₁ j (m + 1) (set o₁ m v) (and-mid m v o₁ room q) Untils 4 a′ e o₃ r₂) (r₂ .phrase);
+        phrase = and (infix-first Ands 4 left at made a m And cs out o₁ w r₁ j n o₂ (and-mid mid) Untils 4 a′ e o₃ r₂) (r₂ .phrase);
         stops = r₂ .stops;
-        laid = infix-laid Ands 4 left at made a m And cs out o₁ w r₁ j (m + 1) (set o₁ m v) (and-mid m v o₁ room q) Untils 4 a′ e o₃ r₂ f o₄ and-end;
+        laid = infix-laid Ands 4 left at made a m And cs out o₁ w r₁ j n o₂ (and-mid mid) Untils 4 a′ e o₃ r₂ f o₄ and-end;
       }
 
   pub ands-again : Turn Ands 4 left cs at made a₀ m₀ o₀ a′ f o₄
-  ands-again = record { on = λ out w r. ands-more out w (inv .on out w r); kept = dual .kept ∙ (r₂ .laid .kept ∙ (length-set o₁ m v ∙ inv .kept)) }
+  ands-again = record { on = λ out w r. ands-more out w (inv .on out w r) }
 
-pub ruleset ands-laws = (needs, ands-untils-falls, ands-start, ands-kept, ands-stop, ands-some, ands-low, ands-write, ands-index, ands-next, ands-falls, ands-ready, ands-low-after, ands-dual, ands-less, ands-again)
+pub ruleset ands-laws = (needs, ands-untils-falls, ands-start)
 
 -- ---- `prefixes`
 weight-prefix : (x : Prefix) (s : List Sign) → weight (before x ∷ s) ≡ prefixNodes x + weight s
@@ -984,15 +991,15 @@ module _ (left at made c : ℕ) (cs out : List ℕ) (pr : Primed left cs at made
     unfolding signNodes
     true-room = omega (arith, pr .ready .room, ap weight true-ahead ∙ weight-one truth (ahead cs (at + 1)) refl)
 
-    pub primaries-true-write : made < length out
-    primaries-true-write = omega (arith, true-room, pr .ready .held)
+    pub primaries-true-write : made < maxRuleNodes
+    primaries-true-write = omega (arith, true-room)
 
     pub primaries-true-next : Fits w64 (made + 1)
     primaries-true-next = record { fits = omega (arith, true-room) }
 
     pub primaries-true : (w : ℕ) → w ≡ nodeWord (node table.True 0 0) → Read Primaries 5 cs at made out (at + 1) (made + 1) (set out made w)
     unfolding nodesFrom formulaOf
-    primaries-true w e = record { tree = always; phrase = rw true-ahead isTrue; stops = tight-most (ahead cs (at + 1)); laid = relaid (rw e) (laid-one w out made primaries-true-write) }
+    primaries-true w e = record { tree = always; phrase = rw true-ahead isTrue; stops = tight-most (ahead cs (at + 1)); laid = relaid (rw e) (laid-one w out made (omega (arith, true-room, pr .ready .held))) }
 
   module _ (n1 : c ≡ 1 → ⊥) (n2 : c ≡ 2 → ⊥) where
     pub primaries-atom-code : 13 ≤ c
@@ -1014,14 +1021,14 @@ module _ (left at made c : ℕ) (cs out : List ℕ) (pr : Primed left cs at made
     unfolding signNodes
     atom-room = omega (arith, pr .ready .room, ap weight atom-ahead ∙ weight-one (atom (c - 13)) (ahead cs (at + 1)) refl)
 
-    pub primaries-atom-write : made < length out
-    primaries-atom-write = omega (arith, atom-room, pr .ready .held)
+    pub primaries-atom-write : made < maxRuleNodes
+    primaries-atom-write = omega (arith, atom-room)
 
     pub primaries-atom-next : Fits w64 (made + 1)
     primaries-atom-next = record { fits = omega (arith, atom-room) }
 
     pub primaries-atom : (w : ℕ) → w ≡ nodeWord (node table.Atom (c - 13) 0) → Read Primaries 5 cs at made out (at + 1) (made + 1) (set out made w)
     unfolding nodesFrom formulaOf
-    primaries-atom w e = record { tree = reading (c - 13); phrase = rw atom-ahead (isAtom (c - 13)); stops = tight-most (ahead cs (at + 1)); laid = relaid (rw e) (laid-one w out made primaries-atom-write) }
+    primaries-atom w e = record { tree = reading (c - 13); phrase = rw atom-ahead (isAtom (c - 13)); stops = tight-most (ahead cs (at + 1)); laid = relaid (rw e) (laid-one w out made (omega (arith, atom-room, pr .ready .held))) }
 
 pub ruleset primaries-laws = (needs, primaries-index, primaries-depth, primaries-falls, primaries-ready, primaries-after, primaries-bracket, primaries-true-write, primaries-true-next, primaries-true, primaries-atom-code, primaries-atom-low, primaries-atom-cast, primaries-atom-write, primaries-atom-next, primaries-atom)

@@ -1,4 +1,4 @@
--- What is read lies in the space for it, and what is printed in the output.
+-- What is read lies in the space for it.
 use mathlib.Core.Path.{_≡_, refl, sym}
 use Prim.Native.Nat.{ℕ, _≤_}
 use mathlib.Core.List.{List}
@@ -6,7 +6,6 @@ use native.Mathlib.Omega.{arith}
 use lib.ListN.{length, take}
 use lib.Seq.{length-take-le}
 use borrow.Author.Needs.{needs}
-use Rattle.program.proofs.OutputLaws.{printed-counts}
 
 -- so many bytes were read into a space
 pub record Reading (entry space : List ℕ) (count : ℕ) : Type 0 where
@@ -18,8 +17,8 @@ reading-none space = record { kept = refl; within = omega arith }
 
 pub ruleset read-laws = (needs, reading-none)
 
--- ---- what a `main` takes of the space and of the output
+-- ---- what a `main` takes of the space
 pub read-counts : (space : List ℕ) (n : ℕ) → n ≤ length space → n ≡ length (take n space)
 read-counts space n h = sym (length-take-le n space h)
 
-pub ruleset main-laws = (needs, read-counts, printed-counts)
+pub ruleset main-laws = (needs, read-counts)

@@ -3,11 +3,11 @@
 use asked_reading::Asked;
 use asked_reading::asked_by;
 use formulas::limits::Limits;
-use libc::STDERR_FILENO;
 use libc::STDOUT_FILENO;
 use refused_line::find::refused_line;
+use standard_streams::failures;
 use standard_streams::input::read_input;
-use standard_streams::told::say_line;
+use told_line::say_line;
 use why_program::why;
 
 // Where a reading was asked for, the refused line of the texts after that line. An input that is too long has none.
@@ -25,7 +25,7 @@ fn main() {
     let mut space = [0u8; Limits::INPUT_BYTES + 1];
     let input = read_input(&mut space);
     if input.failed {
-        io::write_all(STDERR_FILENO, b"why: standard input cannot be read\n");
+        failures::say_unread(b"why");
         return;
     }
     let length = input.count;
@@ -34,6 +34,6 @@ fn main() {
     if io::write_all(STDOUT_FILENO, &output[..printed]) {
         say_refused(&space[..length]);
     } else {
-        io::write_all(STDERR_FILENO, b"why: standard output cannot be written\n");
+        failures::say_unwritten(b"why");
     }
 }

@@ -1,7 +1,8 @@
 use Prim.Native.Nat.{_-_}
-use lib.ListN.{length}
+use borrow.Author.Needs.{needs}
+use lib.ListN.{length, take}
 use Rattle.definitions.specs.OneLineGrammar.{Ors, Ands}
-use Rattle.phrases.proofs.ReadLaws.{Turn, ands-again, ands-dual, ands-falls, ands-index, ands-laws, ands-less, ands-low-after, ands-ready, ands-write, arrows-falls, arrows-index, arrows-laws, arrows-low-after, arrows-read, arrows-ready, arrows-write-after, measure, ors-again, ors-falls, ors-laws, ors-less, ors-low-after, ors-ready, ors-write-after, prefixes-falling, prefixes-last, prefixes-laws, prefixes-primary, prefixes-read, prefixes-ready, primaries-laws, untils-falling, untils-index, untils-laws, untils-low-first, untils-low-second, untils-read, untils-ready, untils-stop-high, untils-stop-low, untils-write-after}
+use Rattle.phrases.proofs.ReadLaws.{Turn, ands-again, ands-dual, ands-falls, ands-index, ands-laws, ands-less, ands-low-first, ands-low-second, ands-not, ands-ready, ands-stop, arrows-falling, arrows-index, arrows-laws, arrows-low-first, arrows-low-second, arrows-not, arrows-read, arrows-ready, arrows-stop, arrows-write-after, measure, ors-again, ors-falls, ors-fits, ors-index, ors-laws, ors-less, ors-low-first, ors-low-second, ors-ready, ors-stop, ors-write-after, prefixes-falling, prefixes-last, prefixes-laws, prefixes-primary, prefixes-read, prefixes-ready, primaries-laws, untils-falling, untils-index, untils-laws, untils-low-first, untils-low-second, untils-read, untils-ready, untils-stop-high, untils-stop-low, untils-write-after}
 use Prim.Native.Nat.{ℕ, _<_}
 use borrow.Fn.Kinds.{In}
 use borrow.Fn.PlainCycle.{Measures, is, falls, and}
@@ -24,7 +25,7 @@ use Rattle.phrases.proofs.read.untils.Reads as untils
 use Rattle.phrases.proofs.read.untils.Kinds as untils-kinds
 use Rattle.phrases.proofs.read.+ands+arrows+ors+prefixes+primaries+untils.Lts-untils as untils-lts
 use Rattle.emission.proofs.word.atom.Reads as atom-reads
-use Rattle.emission.proofs.word.not.Reads as not-reads
+use Rattle.emission.proofs.write.not.Reads as not-reads
 use Rattle.emission.proofs.word.or.Reads as or-reads
 use Rattle.emission.proofs.word.truth.Reads as truth-reads
 use Rattle.emission.proofs.word.until.Reads as until-reads
@@ -36,22 +37,22 @@ use Rattle.phrases.proofs.read.+ands+arrows+ors+prefixes+primaries+unti
 use Rattle.phrases.proofs.read.+ands+arrows+ors+prefixes+primaries+untils.Tie.{close}
 
 abbrev μ-ands : Measures 2 ands-kinds.ps ℕ
-μ-ands κs a = measure (length (a .0 .now)) (a .1 .0) 4
+μ-ands κs a = measure (length (take (a .1 .0) (a .0 .now))) (a .1 .1 .0) 4
 
 abbrev μ-arrows : Measures 2 arrows-kinds.ps ℕ
-μ-arrows κs a = measure (length (a .0 .now)) (a .1 .0) 6
+μ-arrows κs a = measure (length (take (a .1 .0) (a .0 .now))) (a .1 .1 .0) 6
 
 abbrev μ-ors : Measures 2 ors-kinds.ps ℕ
-μ-ors κs a = measure (length (a .0 .now)) (a .1 .0) 5
+μ-ors κs a = measure (length (take (a .1 .0) (a .0 .now))) (a .1 .1 .0) 5
 
 abbrev μ-prefixes : Measures 2 prefixes-kinds.ps ℕ
-μ-prefixes κs a = measure (length (a .0 .now)) (a .1 .0) 2
+μ-prefixes κs a = measure (length (take (a .1 .0) (a .0 .now))) (a .1 .1 .0) 2
 
 abbrev μ-primaries : Measures 2 primaries-kinds.ps ℕ
-μ-primaries κs a = measure (length (a .0 .now)) (a .1 .0) 1
+μ-primaries κs a = measure (length (take (a .1 .0) (a .0 .now))) (a .1 .1 .0) 1
 
 abbrev μ-untils : Measures 2 untils-kinds.ps ℕ
-μ-untils κs a = measure (length (a .0 .now)) (a .1 .0) 3
+μ-untils κs a = measure (length (take (a .1 .0) (a .0 .now))) (a .1 .1 .0) 3
 
 abbrev ands-at : ℕ → In 2 ands-kinds.ps
 ands-at t = and 2 ands-kinds.ps (is 2 ands-kinds.ps μ-ands t) ands.Pre
@@ -110,10 +111,10 @@ abbrev untils-claims : ℕ → untils-lts.Claims
 untils-claims t = (prefixes-below t, prefixes.Post, peek-reads.Asked, peek-reads.Learnt, untils-below t, untils.Post, until-reads.Asked, until-reads.Learnt)
 
 abbrev ands-Inv-loop : ands-lts.InvT-loop
-ands-Inv-loop codes at left made nodes₀ a₀ m₀ nodes a m = Turn Ands 4 left codes at made a₀ m₀ nodes₀ a m nodes
+ands-Inv-loop codes count at left made nodes₀ a₀ m₀ nodes a m = Turn Ands 4 left (take count codes) at made a₀ m₀ nodes₀ a m nodes
 
 abbrev ands-μ-loop : ands-lts.MeasureT-loop
-ands-μ-loop codes at left made nodes₀ a₀ m₀ nodes a m = length codes - a
+ands-μ-loop codes count at left made nodes₀ a₀ m₀ nodes a m = length (take count codes) - a
 
 -- src/read.rt:68:9
 ands-untils-requires : (t : ℕ) → ands-lts.Need-untils-requires (ands-claims t) (ands-at t) ands.Post ands-Inv-loop ands-μ-loop
@@ -127,93 +128,65 @@ ands-loop-holds t c = search ands-laws
 ands-peek-requires : (t : ℕ) → ands-lts.Need-peek-requires (ands-claims t) (ands-at t) ands.Post ands-Inv-loop ands-μ-loop
 ands-peek-requires t c κs = search ands-laws
 
--- src/read.rt:72:30
-ands-sub-not : (t : ℕ) → ands-lts.Need-sub-not (ands-claims t) (ands-at t) ands.Post ands-Inv-loop ands-μ-loop
-ands-sub-not t c = search ands-laws
-
 -- src/read.rt:72:20
 ands-not-requires : (t : ℕ) → ands-lts.Need-not-requires (ands-claims t) (ands-at t) ands.Post ands-Inv-loop ands-μ-loop
-ands-not-requires t c κs = search ands-laws
-
--- src/read.rt:72:9
-ands-mul-nodes : (t : ℕ) → ands-lts.Need-mul-nodes (ands-claims t) (ands-at t) ands.Post ands-Inv-loop ands-μ-loop
-ands-mul-nodes t c = search ands-laws
-
--- src/read.rt:72:9
-ands-slice-write-nodes : (t : ℕ) → ands-lts.Need-slice-write-nodes (ands-claims t) (ands-at t) ands.Post ands-Inv-loop ands-μ-loop
-ands-slice-write-nodes t c = search ands-laws
+ands-not-requires t c κs = search ands-not
 
 -- src/read.rt:73:31
-ands-add-untils : (t : ℕ) → ands-lts.Need-add-untils (ands-claims t) (ands-at t) ands.Post ands-Inv-loop ands-μ-loop
-ands-add-untils t c = ands-index _ _ _ _ _ _ _ _ _ _ _ (c .before .before .before .before .before .before .before .before .before .before .pre .1) (c .before .before .before .before .before .before .untils .ensures) (c .before .before .before .loop .inv) _ (c .before .before .peek .ensures) (c .before .if1 .taken)
-
--- src/read.rt:73:44
-ands-add-untils-2 : (t : ℕ) → ands-lts.Need-add-untils-2 (ands-claims t) (ands-at t) ands.Post ands-Inv-loop ands-μ-loop
-ands-add-untils-2 t c = search ands-laws
+ands-add-next : (t : ℕ) → ands-lts.Need-add-next (ands-claims t) (ands-at t) ands.Post ands-Inv-loop ands-μ-loop
+ands-add-next t c = search ands-index
 
 -- src/read.rt:73:13
 ands-untils-requires-2 : (t : ℕ) → ands-lts.Need-untils-requires-2 (ands-claims t) (ands-at t) ands.Post ands-Inv-loop ands-μ-loop
-ands-untils-requires-2 t c κs = (ands-falls _ _ _ _ _ _ _ _ _ _ _ (c .before .before .before .before .before .before .before .before .before .before .before .pre .1) (c .before .before .before .before .before .before .before .untils .ensures) (c .before .before .before .before .loop .inv) _ (c .before .before .before .peek .ensures) (c .before .before .if1 .taken) t (c .before .before .before .before .before .before .before .before .before .before .before .pre .0), ands-ready _ _ _ _ _ _ _ _ _ _ _ (c .before .before .before .before .before .before .before .before .before .before .before .pre .1) (c .before .before .before .before .before .before .before .untils .ensures) (c .before .before .before .before .loop .inv) _ (c .before .before .before .peek .ensures) (c .before .before .if1 .taken) _ (c .before .not .ensures))
+ands-untils-requires-2 t c κs = (ands-falls _ _ _ _ _ _ _ _ _ _ _ (c .before .before .before .before .before .before .before .before .pre .1 .1) (c .before .before .before .before .before .before .untils .ensures) (c .before .before .before .before .before .loop .inv) _ (c .before .before .before .before .peek .ensures) (c .before .before .before .if1 .taken) t (c .before .before .before .before .before .before .before .before .pre .0), (search needs, ands-ready _ _ _ _ _ _ _ _ _ _ _ (c .before .before .before .before .before .before .before .before .pre .1 .1) (c .before .before .before .before .before .before .untils .ensures) (c .before .before .before .before .before .loop .inv) _ (c .before .before .before .before .peek .ensures) (c .before .before .before .if1 .taken) _ _ (c .before .not .ensures)))
 
 -- src/read.rt:75:31
 ands-or-requires : (t : ℕ) → ands-lts.Need-or-requires (ands-claims t) (ands-at t) ands.Post ands-Inv-loop ands-μ-loop
-ands-or-requires t c κs = ands-low-after _ _ _ _ _ _ _ _ _ _ _ (c .before .before .before .before .before .before .before .before .before .before .before .before .before .before .pre .1) (c .before .before .before .before .before .before .before .before .before .before .untils .ensures) (c .before .before .before .before .before .before .before .loop .inv) _ (c .before .before .before .before .before .before .peek .ensures) (c .before .before .before .before .before .if1 .taken) _ (c .before .before .before .before .not .ensures) _ _ _ (c .before .before .untils2 .ensures)
+ands-or-requires t c κs = (search ands-low-first, search ands-low-second)
 
 -- src/read.rt:75:13
 ands-dual-requires : (t : ℕ) → ands-lts.Need-dual-requires (ands-claims t) (ands-at t) ands.Post ands-Inv-loop ands-μ-loop
-ands-dual-requires t c κs = ands-dual _ _ _ _ _ _ _ _ _ _ _ (c .before .before .before .before .before .before .before .before .before .before .before .before .before .before .before .before .pre .1) (c .before .before .before .before .before .before .before .before .before .before .before .before .untils .ensures) (c .before .before .before .before .before .before .before .before .before .loop .inv) _ (c .before .before .before .before .before .before .before .before .peek .ensures) (c .before .before .before .before .before .before .before .if1 .taken) _ (c .before .before .before .before .before .before .not .ensures) _ _ _ (c .before .before .before .before .untils2 .ensures)
+ands-dual-requires t c κs = ands-dual _ _ _ _ _ _ _ _ _ _ _ (c .before .before .before .before .before .before .before .before .before .before .before .pre .1 .1) (c .before .before .before .before .before .before .before .before .before .untils .ensures) (c .before .before .before .before .before .before .before .before .loop .inv) _ (c .before .before .before .before .before .before .before .peek .ensures) (c .before .before .before .before .before .before .if1 .taken) _ _ (c .before .before .before .before .not .ensures) _ _ _ (c .before .before .untils2 .ensures)
 
 -- src/read.rt:71:5
 ands-loop-less : (t : ℕ) → ands-lts.Need-loop-less (ands-claims t) (ands-at t) ands.Post ands-Inv-loop ands-μ-loop
-ands-loop-less t c = ands-less _ _ _ _ _ _ _ _ _ _ _ (c .before .before .before .before .before .before .before .before .before .before .before .before .before .before .before .before .before .before .before .pre .1) (c .before .before .before .before .before .before .before .before .before .before .before .before .before .before .before .untils .ensures) (c .before .before .before .before .before .before .before .before .before .before .before .before .loop .inv) _ (c .before .before .before .before .before .before .before .before .before .before .before .peek .ensures) (c .before .before .before .before .before .before .before .before .before .before .if1 .taken) _ (c .before .before .before .before .before .before .before .before .before .not .ensures) _ _ _ (c .before .before .before .before .before .before .before .untils2 .ensures)
+ands-loop-less t c = search ands-less
 
 -- src/read.rt:71:5
 ands-loop-again : (t : ℕ) → ands-lts.Need-loop-again (ands-claims t) (ands-at t) ands.Post ands-Inv-loop ands-μ-loop
-ands-loop-again t c = ands-again _ _ _ _ _ _ _ _ _ _ _ (c .before .before .before .before .before .before .before .before .before .before .before .before .loop .inv) (c .before .before .before .before .before .before .before .before .before .before .before .peek .ensures) (c .before .before .before .before .before .before .before .before .before .before .if1 .taken) _ (ands-write _ _ _ _ _ _ _ _ _ _ _ (c .before .before .before .before .before .before .before .before .before .before .before .before .before .before .before .before .before .before .before .pre .1) (c .before .before .before .before .before .before .before .before .before .before .before .before .before .before .before .untils .ensures) (c .before .before .before .before .before .before .before .before .before .before .before .before .loop .inv) _ (c .before .before .before .before .before .before .before .before .before .before .before .peek .ensures) (c .before .before .before .before .before .before .before .before .before .before .if1 .taken)) (c .before .before .before .before .before .before .before .before .before .not .ensures) _ _ _ _ _ _ (c .before .before .before .before .before .before .before .untils2 .ensures) (c .before .before .before .before .or .ensures) (c .before .before .dual .ensures)
-
--- src/read.rt:64:1
-ands-same-length : (t : ℕ) → ands-lts.Need-same-length (ands-claims t) (ands-at t) ands.Post ands-Inv-loop ands-μ-loop
-ands-same-length t c = search ands-laws
+ands-loop-again t c = search ands-again
 
 -- src/read.rt:64:1
 ands-returns : (t : ℕ) → ands-lts.Need-returns (ands-claims t) (ands-at t) ands.Post ands-Inv-loop ands-μ-loop
-ands-returns t c = search ands-laws
+ands-returns t c = search ands-stop
 
 -- src/read.rt:29:9
 arrows-ors-requires : (t : ℕ) → arrows-lts.Need-ors-requires (arrows-claims t) (arrows-at t) arrows.Post
-arrows-ors-requires t c κs = search arrows-laws
+arrows-ors-requires t c κs = (search arrows-falling, (search needs, search arrows-ready))
 
 -- src/read.rt:32:8
 arrows-peek-requires : (t : ℕ) → arrows-lts.Need-peek-requires (arrows-claims t) (arrows-at t) arrows.Post
-arrows-peek-requires t c κs = search arrows-laws
-
--- src/read.rt:33:30
-arrows-sub-not : (t : ℕ) → arrows-lts.Need-sub-not (arrows-claims t) (arrows-at t) arrows.Post
-arrows-sub-not t c = search arrows-laws
+arrows-peek-requires t c κs = search needs
 
 -- src/read.rt:33:20
 arrows-not-requires : (t : ℕ) → arrows-lts.Need-not-requires (arrows-claims t) (arrows-at t) arrows.Post
-arrows-not-requires t c κs = search arrows-laws
+arrows-not-requires t c κs = search arrows-not
 
 -- src/read.rt:33:9
 arrows-mul-nodes : (t : ℕ) → arrows-lts.Need-mul-nodes (arrows-claims t) (arrows-at t) arrows.Post
 arrows-mul-nodes t c = search arrows-laws
 
 -- src/read.rt:33:9
-arrows-slice-write-nodes : (t : ℕ) → arrows-lts.Need-slice-write-nodes (arrows-claims t) (arrows-at t) arrows.Post
-arrows-slice-write-nodes t c = search arrows-laws
+arrows-element-write-nodes : (t : ℕ) → arrows-lts.Need-element-write-nodes (arrows-claims t) (arrows-at t) arrows.Post
+arrows-element-write-nodes t c = search arrows-write-after
 
 -- src/read.rt:34:31
-arrows-add-arrows : (t : ℕ) → arrows-lts.Need-add-arrows (arrows-claims t) (arrows-at t) arrows.Post
-arrows-add-arrows t c = arrows-index _ _ _ _ _ _ _ _ _ (c .before .before .before .before .before .before .before .before .before .pre .1) (c .before .before .before .before .before .ors .ensures) (c .before .before .peek .ensures) (c .before .if1 .taken)
-
--- src/read.rt:34:44
-arrows-add-arrows-2 : (t : ℕ) → arrows-lts.Need-add-arrows-2 (arrows-claims t) (arrows-at t) arrows.Post
-arrows-add-arrows-2 t c = search arrows-laws
+arrows-add-next : (t : ℕ) → arrows-lts.Need-add-next (arrows-claims t) (arrows-at t) arrows.Post
+arrows-add-next t c = search arrows-index
 
 -- src/read.rt:34:13
 arrows-arrows-requires : (t : ℕ) → arrows-lts.Need-arrows-requires (arrows-claims t) (arrows-at t) arrows.Post
-arrows-arrows-requires t c κs = (arrows-falls _ _ _ _ _ _ _ _ _ (c .before .before .before .before .before .before .before .before .before .before .pre .1) (c .before .before .before .before .before .before .ors .ensures) (c .before .before .before .peek .ensures) (c .before .before .if1 .taken) t (c .before .before .before .before .before .before .before .before .before .before .pre .0), arrows-ready _ _ _ _ _ _ _ _ _ (c .before .before .before .before .before .before .before .before .before .before .pre .1) (c .before .before .before .before .before .before .ors .ensures) (c .before .before .before .peek .ensures) (c .before .before .if1 .taken) _ (c .before .not .ensures))
+arrows-arrows-requires t c κs = (search arrows-falling, (search needs, search arrows-ready))
 
 -- src/read.rt:36:32
 arrows-sub-or : (t : ℕ) → arrows-lts.Need-sub-or (arrows-claims t) (arrows-at t) arrows.Post
@@ -221,41 +194,25 @@ arrows-sub-or t c = search arrows-laws
 
 -- src/read.rt:36:20
 arrows-or-requires : (t : ℕ) → arrows-lts.Need-or-requires (arrows-claims t) (arrows-at t) arrows.Post
-arrows-or-requires t c κs = arrows-low-after _ _ _ _ _ _ _ _ _ (c .before .before .before .before .before .before .before .before .before .before .before .before .before .pre .1) (c .before .before .before .before .before .before .before .before .before .ors .ensures) (c .before .before .before .before .before .before .peek .ensures) (c .before .before .before .before .before .if1 .taken) _ (c .before .before .before .before .not .ensures) _ _ _ (c .before .before .arrows .ensures)
-
--- src/read.rt:36:9
-arrows-mul-nodes-2 : (t : ℕ) → arrows-lts.Need-mul-nodes-2 (arrows-claims t) (arrows-at t) arrows.Post
-arrows-mul-nodes-2 t c = search arrows-laws
-
--- src/read.rt:36:9
-arrows-slice-write-nodes-2 : (t : ℕ) → arrows-lts.Need-slice-write-nodes-2 (arrows-claims t) (arrows-at t) arrows.Post
-arrows-slice-write-nodes-2 t c = arrows-write-after _ _ _ _ _ _ _ _ _ (c .before .before .before .before .before .before .before .before .before .before .before .before .before .before .pre .1) (c .before .before .before .before .before .before .before .before .before .before .ors .ensures) (c .before .before .before .before .before .before .before .peek .ensures) (c .before .before .before .before .before .before .if1 .taken) _ (c .before .before .before .before .before .not .ensures) _ _ _ (c .before .before .before .arrows .ensures)
+arrows-or-requires t c κs = (search arrows-low-first, search arrows-low-second)
 
 -- src/read.rt:39:19
-arrows-add-t17 : (t : ℕ) → arrows-lts.Need-add-t17 (arrows-claims t) (arrows-at t) arrows.Post
-arrows-add-t17 t c = search arrows-laws
-
--- src/read.rt:37:9
-arrows-same-length : (t : ℕ) → arrows-lts.Need-same-length (arrows-claims t) (arrows-at t) arrows.Post
-arrows-same-length t c = search arrows-laws
+arrows-add-end : (t : ℕ) → arrows-lts.Need-add-end (arrows-claims t) (arrows-at t) arrows.Post
+arrows-add-end t c = search arrows-laws
 
 -- src/read.rt:37:9
 arrows-returns : (t : ℕ) → arrows-lts.Need-returns (arrows-claims t) (arrows-at t) arrows.Post
-arrows-returns t c = arrows-read _ _ _ _ _ _ _ _ _ (c .before .before .before .before .before .before .before .before .before .before .before .before .before .before .pre .1) (c .before .before .before .before .before .before .before .before .before .before .ors .ensures) (c .before .before .before .before .before .before .before .peek .ensures) (c .before .before .before .before .before .before .if1 .taken) _ (c .before .before .before .before .before .not .ensures) _ _ _ (c .before .before .before .arrows .ensures) _ (c .or .ensures)
-
--- src/read.rt:25:1
-arrows-same-length-2 : (t : ℕ) → arrows-lts.Need-same-length-2 (arrows-claims t) (arrows-at t) arrows.Post
-arrows-same-length-2 t c = search arrows-laws
+arrows-returns t c = search arrows-read
 
 -- src/read.rt:25:1
 arrows-returns-2 : (t : ℕ) → arrows-lts.Need-returns-2 (arrows-claims t) (arrows-at t) arrows.Post
-arrows-returns-2 t c = search arrows-laws
+arrows-returns-2 t c = search arrows-stop
 
 abbrev ors-Inv-loop : ors-lts.InvT-loop
-ors-Inv-loop codes at left made nodes₀ a₀ m₀ nodes a m = Turn Ors 3 left codes at made a₀ m₀ nodes₀ a m nodes
+ors-Inv-loop codes count at left made nodes₀ a₀ m₀ nodes a m = Turn Ors 3 left (take count codes) at made a₀ m₀ nodes₀ a m nodes
 
 abbrev ors-μ-loop : ors-lts.MeasureT-loop
-ors-μ-loop codes at left made nodes₀ a₀ m₀ nodes a m = length codes - a
+ors-μ-loop codes count at left made nodes₀ a₀ m₀ nodes a m = length (take count codes) - a
 
 -- src/read.rt:50:9
 ors-ands-requires : (t : ℕ) → ors-lts.Need-ands-requires (ors-claims t) (ors-at t) ors.Post ors-Inv-loop ors-μ-loop
@@ -271,11 +228,11 @@ ors-peek-requires t c κs = search ors-laws
 
 -- src/read.rt:54:29
 ors-add-ands : (t : ℕ) → ors-lts.Need-add-ands (ors-claims t) (ors-at t) ors.Post ors-Inv-loop ors-μ-loop
-ors-add-ands t c = search ors-laws
+ors-add-ands t c = search ors-index
 
 -- src/read.rt:54:13
 ors-ands-requires-2 : (t : ℕ) → ors-lts.Need-ands-requires-2 (ors-claims t) (ors-at t) ors.Post ors-Inv-loop ors-μ-loop
-ors-ands-requires-2 t c κs = (ors-falls _ _ _ _ _ _ _ _ _ _ _ (c .before .before .before .before .before .before .before .before .before .before .pre .1) (c .before .before .before .before .before .before .ands .ensures) (c .before .before .before .loop .inv) _ (c .before .before .peek .ensures) (c .before .if1 .taken) t (c .before .before .before .before .before .before .before .before .before .before .pre .0), ors-ready _ _ _ _ _ _ _ _ _ _ _ (c .before .before .before .before .before .before .before .before .before .before .pre .1) (c .before .before .before .before .before .before .ands .ensures) (c .before .before .before .loop .inv) _ (c .before .before .peek .ensures) (c .before .if1 .taken))
+ors-ands-requires-2 t c κs = (search ors-falls, (search needs, search ors-ready))
 
 -- src/read.rt:56:29
 ors-sub-or : (t : ℕ) → ors-lts.Need-sub-or (ors-claims t) (ors-at t) ors.Post ors-Inv-loop ors-μ-loop
@@ -287,15 +244,15 @@ ors-sub-or-2 t c = search ors-laws
 
 -- src/read.rt:56:20
 ors-or-requires : (t : ℕ) → ors-lts.Need-or-requires (ors-claims t) (ors-at t) ors.Post ors-Inv-loop ors-μ-loop
-ors-or-requires t c κs = ors-low-after _ _ _ _ _ _ _ _ _ _ _ (c .before .before .before .before .before .before .before .before .before .before .before .before .before .pre .1) (c .before .before .before .before .before .before .before .before .before .ands .ensures) (c .before .before .before .before .before .before .loop .inv) _ (c .before .before .before .before .before .peek .ensures) (c .before .before .before .before .if1 .taken) _ _ _ (c .before .before .ands2 .ensures)
+ors-or-requires t c κs = (search ors-low-first, search ors-low-second)
 
 -- src/read.rt:56:9
 ors-mul-nodes : (t : ℕ) → ors-lts.Need-mul-nodes (ors-claims t) (ors-at t) ors.Post ors-Inv-loop ors-μ-loop
 ors-mul-nodes t c = search ors-laws
 
 -- src/read.rt:56:9
-ors-slice-write-nodes : (t : ℕ) → ors-lts.Need-slice-write-nodes (ors-claims t) (ors-at t) ors.Post ors-Inv-loop ors-μ-loop
-ors-slice-write-nodes t c = ors-write-after _ _ _ _ _ _ _ _ _ _ _ (c .before .before .before .before .before .before .before .before .before .before .before .before .before .before .pre .1) (c .before .before .before .before .before .before .before .before .before .before .ands .ensures) (c .before .before .before .before .before .before .before .loop .inv) _ (c .before .before .before .before .before .before .peek .ensures) (c .before .before .before .before .before .if1 .taken) _ _ _ (c .before .before .before .ands2 .ensures)
+ors-element-write-nodes : (t : ℕ) → ors-lts.Need-element-write-nodes (ors-claims t) (ors-at t) ors.Post ors-Inv-loop ors-μ-loop
+ors-element-write-nodes t c = search ors-write-after
 
 -- src/read.rt:58:13
 ors-add-m : (t : ℕ) → ors-lts.Need-add-m (ors-claims t) (ors-at t) ors.Post ors-Inv-loop ors-μ-loop
@@ -303,19 +260,15 @@ ors-add-m t c = search ors-laws
 
 -- src/read.rt:53:5
 ors-loop-less : (t : ℕ) → ors-lts.Need-loop-less (ors-claims t) (ors-at t) ors.Post ors-Inv-loop ors-μ-loop
-ors-loop-less t c = ors-less _ _ _ _ _ _ _ _ _ _ _ (c .before .before .before .before .before .before .before .before .before .before .before .before .before .before .pre .1) (c .before .before .before .before .before .before .before .before .before .before .ands .ensures) (c .before .before .before .before .before .before .before .loop .inv) _ (c .before .before .before .before .before .before .peek .ensures) (c .before .before .before .before .before .if1 .taken) _ _ _ (c .before .before .before .ands2 .ensures)
+ors-loop-less t c = search ors-less
 
 -- src/read.rt:53:5
 ors-loop-again : (t : ℕ) → ors-lts.Need-loop-again (ors-claims t) (ors-at t) ors.Post ors-Inv-loop ors-μ-loop
-ors-loop-again t c = ors-again _ _ _ _ _ _ _ _ _ _ _ (c .before .before .before .before .before .before .before .loop .inv) (c .before .before .before .before .before .before .peek .ensures) (c .before .before .before .before .before .if1 .taken) _ _ _ _ (c .before .before .before .ands2 .ensures) (ors-write-after _ _ _ _ _ _ _ _ _ _ _ (c .before .before .before .before .before .before .before .before .before .before .before .before .before .before .pre .1) (c .before .before .before .before .before .before .before .before .before .before .ands .ensures) (c .before .before .before .before .before .before .before .loop .inv) _ (c .before .before .before .before .before .before .peek .ensures) (c .before .before .before .before .before .if1 .taken) _ _ _ (c .before .before .before .ands2 .ensures)) (c .or .ensures)
-
--- src/read.rt:46:1
-ors-same-length : (t : ℕ) → ors-lts.Need-same-length (ors-claims t) (ors-at t) ors.Post ors-Inv-loop ors-μ-loop
-ors-same-length t c = search ors-laws
+ors-loop-again t c = search (ors-again, ors-fits)
 
 -- src/read.rt:46:1
 ors-returns : (t : ℕ) → ors-lts.Need-returns (ors-claims t) (ors-at t) ors.Post ors-Inv-loop ors-μ-loop
-ors-returns t c = search ors-laws
+ors-returns t c = search ors-stop
 
 -- src/read.rt:111:9
 prefixes-peek-requires : (t : ℕ) → prefixes-lts.Need-peek-requires (prefixes-claims t) (prefixes-at t) prefixes.Post
@@ -326,20 +279,12 @@ prefixes-primaries-requires : (t : ℕ) → prefixes-lts.Need-primaries-requires
 prefixes-primaries-requires t c κs = search prefixes-laws
 
 -- src/read.rt:113:9
-prefixes-same-length : (t : ℕ) → prefixes-lts.Need-same-length (prefixes-claims t) (prefixes-at t) prefixes.Post
-prefixes-same-length t c = search prefixes-laws
-
--- src/read.rt:113:9
 prefixes-returns : (t : ℕ) → prefixes-lts.Need-returns (prefixes-claims t) (prefixes-at t) prefixes.Post
 prefixes-returns t c = search prefixes-primary
 
 -- src/read.rt:116:9
 prefixes-primaries-requires-2 : (t : ℕ) → prefixes-lts.Need-primaries-requires-2 (prefixes-claims t) (prefixes-at t) prefixes.Post
 prefixes-primaries-requires-2 t c κs = search prefixes-laws
-
--- src/read.rt:116:9
-prefixes-same-length-2 : (t : ℕ) → prefixes-lts.Need-same-length-2 (prefixes-claims t) (prefixes-at t) prefixes.Post
-prefixes-same-length-2 t c = search prefixes-laws
 
 -- src/read.rt:116:9
 prefixes-returns-2 : (t : ℕ) → prefixes-lts.Need-returns-2 (prefixes-claims t) (prefixes-at t) prefixes.Post
@@ -355,15 +300,11 @@ prefixes-add-next t c = search prefixes-laws
 
 -- src/read.rt:119:9
 prefixes-prefixes-requires : (t : ℕ) → prefixes-lts.Need-prefixes-requires (prefixes-claims t) (prefixes-at t) prefixes.Post
-prefixes-prefixes-requires t c κs = (search prefixes-falling, search prefixes-ready)
+prefixes-prefixes-requires t c κs = (search prefixes-falling, (search needs, search prefixes-ready))
 
 -- src/read.rt:121:9
 prefixes-close-prefix-requires : (t : ℕ) → prefixes-lts.Need-close-prefix-requires (prefixes-claims t) (prefixes-at t) prefixes.Post
-prefixes-close-prefix-requires t c κs = prefixes-last _ _ _ _ _ _ (c .before .before .before .before .before .before .before .before .before .before .before .before .before .before .pre .1) (c .before .before .before .before .before .before .before .before .before .before .before .peek .ensures) (c .before .before .before .before .before .before .before .before .before .before .if1 .left) (c .before .before .before .before .before .before .before .before .before .if2 .left) _ _ (c .before .before .before .before .before .before .before .open-prefix .ensures) _ _ _ _ _ (c .before .before .before .prefixes .ensures)
-
--- src/read.rt:107:1
-prefixes-same-length-3 : (t : ℕ) → prefixes-lts.Need-same-length-3 (prefixes-claims t) (prefixes-at t) prefixes.Post
-prefixes-same-length-3 t c = search prefixes-laws
+prefixes-close-prefix-requires t c κs = search prefixes-last
 
 -- src/read.rt:107:1
 prefixes-returns-3 : (t : ℕ) → prefixes-lts.Need-returns-3 (prefixes-claims t) (prefixes-at t) prefixes.Post
@@ -386,12 +327,8 @@ primaries-arrows-requires : (t : ℕ) → primaries-lts.Need-arrows-requires (pr
 primaries-arrows-requires t c κs = search primaries-laws
 
 -- src/read.rt:137:17
-primaries-add-t9 : (t : ℕ) → primaries-lts.Need-add-t9 (primaries-claims t) (primaries-at t) primaries.Post
-primaries-add-t9 t c = search primaries-laws
-
--- src/read.rt:136:9
-primaries-same-length : (t : ℕ) → primaries-lts.Need-same-length (primaries-claims t) (primaries-at t) primaries.Post
-primaries-same-length t c = search primaries-laws
+primaries-add-t10 : (t : ℕ) → primaries-lts.Need-add-t10 (primaries-claims t) (primaries-at t) primaries.Post
+primaries-add-t10 t c = search primaries-laws
 
 -- src/read.rt:136:9
 primaries-returns : (t : ℕ) → primaries-lts.Need-returns (primaries-claims t) (primaries-at t) primaries.Post
@@ -406,20 +343,16 @@ primaries-mul-nodes : (t : ℕ) → primaries-lts.Need-mul-nodes (primaries-clai
 primaries-mul-nodes t c = search primaries-laws
 
 -- src/read.rt:142:9
-primaries-slice-write-nodes : (t : ℕ) → primaries-lts.Need-slice-write-nodes (primaries-claims t) (primaries-at t) primaries.Post
-primaries-slice-write-nodes t c = search primaries-laws
+primaries-element-write-nodes : (t : ℕ) → primaries-lts.Need-element-write-nodes (primaries-claims t) (primaries-at t) primaries.Post
+primaries-element-write-nodes t c = search primaries-laws
 
 -- src/read.rt:144:17
 primaries-add-t14 : (t : ℕ) → primaries-lts.Need-add-t14 (primaries-claims t) (primaries-at t) primaries.Post
 primaries-add-t14 t c = search primaries-laws
 
 -- src/read.rt:145:19
-primaries-add-t16 : (t : ℕ) → primaries-lts.Need-add-t16 (primaries-claims t) (primaries-at t) primaries.Post
-primaries-add-t16 t c = search primaries-laws
-
--- src/read.rt:143:9
-primaries-same-length-2 : (t : ℕ) → primaries-lts.Need-same-length-2 (primaries-claims t) (primaries-at t) primaries.Post
-primaries-same-length-2 t c = search primaries-laws
+primaries-add-t17 : (t : ℕ) → primaries-lts.Need-add-t17 (primaries-claims t) (primaries-at t) primaries.Post
+primaries-add-t17 t c = search primaries-laws
 
 -- src/read.rt:143:9
 primaries-returns-2 : (t : ℕ) → primaries-lts.Need-returns-2 (primaries-claims t) (primaries-at t) primaries.Post
@@ -442,20 +375,16 @@ primaries-mul-nodes-2 : (t : ℕ) → primaries-lts.Need-mul-nodes-2 (primaries-
 primaries-mul-nodes-2 t c = search primaries-laws
 
 -- src/read.rt:148:5
-primaries-slice-write-nodes-2 : (t : ℕ) → primaries-lts.Need-slice-write-nodes-2 (primaries-claims t) (primaries-at t) primaries.Post
-primaries-slice-write-nodes-2 t c = search primaries-laws
+primaries-element-write-nodes-2 : (t : ℕ) → primaries-lts.Need-element-write-nodes-2 (primaries-claims t) (primaries-at t) primaries.Post
+primaries-element-write-nodes-2 t c = search primaries-laws
 
 -- src/read.rt:150:13
-primaries-add-t19 : (t : ℕ) → primaries-lts.Need-add-t19 (primaries-claims t) (primaries-at t) primaries.Post
-primaries-add-t19 t c = search primaries-laws
-
--- src/read.rt:151:15
 primaries-add-t20 : (t : ℕ) → primaries-lts.Need-add-t20 (primaries-claims t) (primaries-at t) primaries.Post
 primaries-add-t20 t c = search primaries-laws
 
--- src/read.rt:129:1
-primaries-same-length-3 : (t : ℕ) → primaries-lts.Need-same-length-3 (primaries-claims t) (primaries-at t) primaries.Post
-primaries-same-length-3 t c = search primaries-laws
+-- src/read.rt:151:15
+primaries-add-t21 : (t : ℕ) → primaries-lts.Need-add-t21 (primaries-claims t) (primaries-at t) primaries.Post
+primaries-add-t21 t c = search primaries-laws
 
 -- src/read.rt:129:1
 primaries-returns-3 : (t : ℕ) → primaries-lts.Need-returns-3 (primaries-claims t) (primaries-at t) primaries.Post
@@ -463,23 +392,15 @@ primaries-returns-3 t c = search primaries-laws
 
 -- src/read.rt:87:9
 untils-prefixes-requires : (t : ℕ) → untils-lts.Need-prefixes-requires (untils-claims t) (untils-at t) untils.Post
-untils-prefixes-requires t c κs = (search untils-falling, search untils-ready)
+untils-prefixes-requires t c κs = (search untils-falling, (search needs, search untils-ready))
 
 -- src/read.rt:90:9
 untils-peek-requires : (t : ℕ) → untils-lts.Need-peek-requires (untils-claims t) (untils-at t) untils.Post
 untils-peek-requires t c κs = search untils-laws
 
 -- src/read.rt:92:9
-untils-same-length : (t : ℕ) → untils-lts.Need-same-length (untils-claims t) (untils-at t) untils.Post
-untils-same-length t c = search untils-laws
-
--- src/read.rt:92:9
 untils-returns : (t : ℕ) → untils-lts.Need-returns (untils-claims t) (untils-at t) untils.Post
 untils-returns t c = search untils-stop-low
-
--- src/read.rt:95:9
-untils-same-length-2 : (t : ℕ) → untils-lts.Need-same-length-2 (untils-claims t) (untils-at t) untils.Post
-untils-same-length-2 t c = search untils-laws
 
 -- src/read.rt:95:9
 untils-returns-2 : (t : ℕ) → untils-lts.Need-returns-2 (untils-claims t) (untils-at t) untils.Post
@@ -491,7 +412,7 @@ untils-add-next t c = search untils-index
 
 -- src/read.rt:97:9
 untils-untils-requires : (t : ℕ) → untils-lts.Need-untils-requires (untils-claims t) (untils-at t) untils.Post
-untils-untils-requires t c κs = (search untils-falling, search untils-ready)
+untils-untils-requires t c κs = (search untils-falling, (search needs, search untils-ready))
 
 -- src/read.rt:99:31
 untils-sub-until : (t : ℕ) → untils-lts.Need-sub-until (untils-claims t) (untils-at t) untils.Post
@@ -510,16 +431,12 @@ untils-mul-nodes : (t : ℕ) → untils-lts.Need-mul-nodes (untils-claims t) (un
 untils-mul-nodes t c = search untils-laws
 
 -- src/read.rt:99:5
-untils-slice-write-nodes : (t : ℕ) → untils-lts.Need-slice-write-nodes (untils-claims t) (untils-at t) untils.Post
-untils-slice-write-nodes t c = search untils-write-after
+untils-element-write-nodes : (t : ℕ) → untils-lts.Need-element-write-nodes (untils-claims t) (untils-at t) untils.Post
+untils-element-write-nodes t c = search untils-write-after
 
 -- src/read.rt:102:15
 untils-add-end : (t : ℕ) → untils-lts.Need-add-end (untils-claims t) (untils-at t) untils.Post
 untils-add-end t c = search untils-laws
-
--- src/read.rt:83:1
-untils-same-length-3 : (t : ℕ) → untils-lts.Need-same-length-3 (untils-claims t) (untils-at t) untils.Post
-untils-same-length-3 t c = search untils-laws
 
 -- src/read.rt:83:1
 untils-returns-3 : (t : ℕ) → untils-lts.Need-returns-3 (untils-claims t) (untils-at t) untils.Post
@@ -534,38 +451,27 @@ pub +ands+arrows+ors+prefixes+primaries+untils-spec : {M : Type 1} → statement
     (ands-untils-requires t)
     (ands-loop-holds t)
     (ands-peek-requires t)
-    (ands-sub-not t)
     (ands-not-requires t)
-    (ands-mul-nodes t)
-    (ands-slice-write-nodes t)
-    (ands-add-untils t)
-    (ands-add-untils-2 t)
+    (ands-add-next t)
     (ands-untils-requires-2 t)
     (ands-or-requires t)
     (ands-dual-requires t)
     (ands-loop-less t)
     (ands-loop-again t)
-    (ands-same-length t)
     (ands-returns t))
     (λ t. arrows-lts.spec (arrows-claims t) (arrows-at t)
     arrows.Post
     (arrows-ors-requires t)
     (arrows-peek-requires t)
-    (arrows-sub-not t)
     (arrows-not-requires t)
-    (arrows-mul-nodes t)
-    (arrows-slice-write-nodes t)
-    (arrows-add-arrows t)
-    (arrows-add-arrows-2 t)
+    (arrows-add-next t)
     (arrows-arrows-requires t)
+    (arrows-add-end t)
     (arrows-sub-or t)
     (arrows-or-requires t)
-    (arrows-mul-nodes-2 t)
-    (arrows-slice-write-nodes-2 t)
-    (arrows-add-t17 t)
-    (arrows-same-length t)
+    (arrows-mul-nodes t)
+    (arrows-element-write-nodes t)
     (arrows-returns t)
-    (arrows-same-length-2 t)
     (arrows-returns-2 t))
     (λ t. ors-lts.spec (ors-claims t) (ors-at t)
     ors.Post
@@ -580,26 +486,22 @@ pub +ands+arrows+ors+prefixes+primaries+untils-spec : {M : Type 1} → statement
     (ors-sub-or-2 t)
     (ors-or-requires t)
     (ors-mul-nodes t)
-    (ors-slice-write-nodes t)
+    (ors-element-write-nodes t)
     (ors-add-m t)
     (ors-loop-less t)
     (ors-loop-again t)
-    (ors-same-length t)
     (ors-returns t))
     (λ t. prefixes-lts.spec (prefixes-claims t) (prefixes-at t)
     prefixes.Post
     (prefixes-peek-requires t)
     (prefixes-primaries-requires t)
-    (prefixes-same-length t)
     (prefixes-returns t)
     (prefixes-primaries-requires-2 t)
-    (prefixes-same-length-2 t)
     (prefixes-returns-2 t)
     (prefixes-open-prefix-requires t)
     (prefixes-add-next t)
     (prefixes-prefixes-requires t)
     (prefixes-close-prefix-requires t)
-    (prefixes-same-length-3 t)
     (prefixes-returns-3 t))
     (λ t. primaries-lts.spec (primaries-claims t) (primaries-at t)
     primaries.Post
@@ -607,32 +509,27 @@ pub +ands+arrows+ors+prefixes+primaries+untils-spec : {M : Type 1} → statement
     (primaries-add-arrows t)
     (primaries-sub-arrows t)
     (primaries-arrows-requires t)
-    (primaries-add-t9 t)
-    (primaries-same-length t)
+    (primaries-add-t10 t)
     (primaries-returns t)
     (primaries-truth-requires t)
     (primaries-mul-nodes t)
-    (primaries-slice-write-nodes t)
+    (primaries-element-write-nodes t)
     (primaries-add-t14 t)
-    (primaries-add-t16 t)
-    (primaries-same-length-2 t)
+    (primaries-add-t17 t)
     (primaries-returns-2 t)
     (primaries-sub-atom t)
     (primaries-cast-atom t)
     (primaries-atom-requires t)
     (primaries-mul-nodes-2 t)
-    (primaries-slice-write-nodes-2 t)
-    (primaries-add-t19 t)
+    (primaries-element-write-nodes-2 t)
     (primaries-add-t20 t)
-    (primaries-same-length-3 t)
+    (primaries-add-t21 t)
     (primaries-returns-3 t))
     λ t. untils-lts.spec (untils-claims t) (untils-at t)
     untils.Post
     (untils-prefixes-requires t)
     (untils-peek-requires t)
-    (untils-same-length t)
     (untils-returns t)
-    (untils-same-length-2 t)
     (untils-returns-2 t)
     (untils-add-next t)
     (untils-untils-requires t)
@@ -641,6 +538,5 @@ pub +ands+arrows+ors+prefixes+primaries+untils-spec : {M : Type 1} → statement
     (untils-sub-until-2 t)
     (untils-until-requires t)
     (untils-mul-nodes t)
-    (untils-slice-write-nodes t)
-    (untils-same-length-3 t)
+    (untils-element-write-nodes t)
     (untils-returns-3 t)

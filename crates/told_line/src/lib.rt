@@ -1,4 +1,4 @@
-// Where a refused line stands, on standard error.
+// Where a refused line stands, told on standard error.
 use libc::STDERR_FILENO;
 use refused_line::find;
 
