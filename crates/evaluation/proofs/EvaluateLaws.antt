@@ -21,7 +21,7 @@ use Rattle.rows.proofs.StoredLaws.{loaded, pairs-length, weak-words, strong-wor
 use Rattle.evaluation.specs.declared.pair.Pair.{Pair}
 use Rattle.evaluation.specs.Traced.{traceOf}
 use Rattle.evaluation.specs.Nodes.{isLeaf, slots, again, Fit, LeafReady, Evaluable, Ready, rowsTo, rowsAt}
-use Rattle.evaluation.specs.Pairs.{rowsIn, PairMade, Counted, Operable, operated, pairAt, pairOfNode, Operands, operandPlaces, operatorRows}
+use Rattle.evaluation.specs.Pairs.{rowsIn, PairMade, Counted, Operable, operated, pairAt, pairOfNode, Operands, operatorRows}
 use Rattle.evaluation.proofs.KindLaws.{leaf-is}
 use Rattle.evaluation.proofs.TableLaws.{rows-more, rows-length, rows-sized, nodes-more, nodes-length, operated-is, leaf-rows, rows-at}
 
@@ -76,20 +76,20 @@ unfolding again
 again-late nodes i j h = rw (le-ltb j i h)
 
 -- the operands of an operator, as they were loaded
-module _ (kind first second : ℕ) (rows : List ℕ) (p q : Pair) (e : p ≡ pairOfNode rows first) (g : q ≡ pairOfNode rows second) where
-  pub first-counted : Operands kind first second rows → Counted (p .weak .count) p
-  first-counted o = record { weak = refl; strong = rw e (o .laid .firstEven) }
+module _ (kind first second n : ℕ) (rows : List ℕ) (p q : Pair) (e : p ≡ pairOfNode rows first) (g : q ≡ pairOfNode rows second) where
+  pub first-counted : Operands kind first second n rows → Counted n p
+  first-counted o = record { weak = rw e (o .places); strong = rw e (o .laid .firstEven ∙ o .places) }
 
-  pub second-counted : Operands kind first second rows → Counted (p .weak .count) q
-  second-counted o = record { weak = rw (e, g) (o .laid .secondFirst); strong = rw (e, g) (o .laid .secondEven) }
+  pub second-counted : Operands kind first second n rows → Counted n q
+  second-counted o = record { weak = rw g (o .laid .secondFirst ∙ o .places); strong = rw g (o .laid .secondEven ∙ o .places) }
 
   module _ (p′ q′ : Pair) (f : p′ ≡ p) (h : q′ ≡ q) where
-    pub operands-even : Operands kind first second rows → Operable p′ q′
+    pub operands-even : Operands kind first second n rows → Operable p′ q′
     operands-even o = rw (f, h, e, g) (o .laid)
 
-    pub operator-rows : (r : Pair) → PairMade r (p′ .weak .count) (operated (kindOf kind) (p′ .weak .count) (rowsIn p′) (rowsIn q′))
-        → PairMade r (operandPlaces first rows) (operatorRows kind first second rows)
-    operator-rows r m = rw (f, h, e, g) at m
+    pub operator-rows : Operands kind first second n rows → (r : Pair) → PairMade r (p′ .weak .count) (operated (kindOf kind) (p′ .weak .count) (rowsIn p′) (rowsIn q′))
+        → PairMade r n (operatorRows kind first second n rows)
+    operator-rows o r m = rw (f, h, e, g, o .places) at m
 
 module _ (nodes : List ℕ) (i : ℕ) (states : List ℕ) (n c own : ℕ) (rows : List ℕ) (ready : Ready nodes i states n c own rows) where
   abbrev before : List Rows
@@ -146,20 +146,21 @@ module _ (nodes : List ℕ) (i : ℕ) (states : List ℕ) (n c own : ℕ) (rows 
         second-made : PairMade (pairOfNode rows (x .second)) n (getD before (x .second) noRows)
         second-made = pair-loaded (x .second) (pairOfNode rows (x .second)) refl (fit-of .second (sym tested ∙ f))
 
-        pub operands-laid : Operands (x .kind) (x .first) (x .second) rows
+        pub operands-laid : Operands (x .kind) (x .first) (x .second) n rows
         operands-laid = record {
           operator = sym tested ∙ f;
           firstRoom = omega (arith, fit-of .first (sym tested ∙ f), ready .room);
           secondRoom = omega (arith, fit-of .second (sym tested ∙ f), ready .room);
           laid = both-made (pairOfNode rows (x .first)) (pairOfNode rows (x .second)) n (getD before (x .first) noRows) (getD before (x .second) noRows) first-made second-made;
+          places = first-made .weak .count;
         }
 
-        pub operator-turn : (r : Pair) → PairMade r (operandPlaces (x .first) rows) (operatorRows (x .kind) (x .first) (x .second) rows) → PairMade r n (rowsAt nodes i states n c own)
+        pub operator-turn : (r : Pair) → PairMade r n (operatorRows (x .kind) (x .first) (x .second) n rows) → PairMade r n (rowsAt nodes i states n c own)
         operator-turn r m =
             let ps = rows-in (pairOfNode rows (x .first)) n (getD before (x .first) noRows) first-made in
             let qs = rows-in (pairOfNode rows (x .second)) n (getD before (x .second) noRows) second-made in
             pair-same r n (operated (kindOf (x .kind)) n (getD before (x .first) noRows) (getD before (x .second) noRows)) (rowsAt nodes i states n c own)
-            (rw (ps, qs, first-made .weak .count) at m)
+            (rw (ps, qs) at m)
             (operated-is states n c own before (kindOf (x .kind)) (x .first) (x .second) (sym tested ∙ f) ∙ ap (nodeRows (traceOf states n c own) before) (word .meant))
 
   pub turn-laid : (p : Pair) (l′ l″ : List ℕ) → PairMade p n (rowsAt nodes i states n c own)

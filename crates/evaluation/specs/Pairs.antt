@@ -49,17 +49,14 @@ pairAt l at = record { weak = rowAt l at; strong = rowAt l (at + 3) }
 abbrev pub pairOfNode : List ℕ → ℕ → Pair
 pairOfNode rows k = pairAt rows (k * pairWords)
 
--- an operator whose operands' rows are laid
-pub record Operands (kind first second : ℕ) (rows : List ℕ) : Type 0 where
+-- an operator whose operands' rows are laid, n places each
+pub record Operands (kind first second n : ℕ) (rows : List ℕ) : Type 0 where
   pub operator : isLeaf (kindOf kind) ≡ false
   pub firstRoom : first * pairWords + pairWords ≤ length rows
   pub secondRoom : second * pairWords + pairWords ≤ length rows
   pub laid : Operable (pairOfNode rows first) (pairOfNode rows second)
-
--- how many places the first operand's rows cover
-abbrev pub operandPlaces : ℕ → List ℕ → ℕ
-operandPlaces first rows = pairOfNode rows first .weak .count
+  pub places : pairOfNode rows first .weak .count ≡ n
 
 -- the rows of an operator over the rows that are laid
-abbrev pub operatorRows : ℕ → ℕ → ℕ → List ℕ → Rows
-operatorRows kind first second rows = operated (kindOf kind) (operandPlaces first rows) (rowsIn (pairOfNode rows first)) (rowsIn (pairOfNode rows second))
+abbrev pub operatorRows : ℕ → ℕ → ℕ → ℕ → List ℕ → Rows
+operatorRows kind first second n rows = operated (kindOf kind) n (rowsIn (pairOfNode rows first)) (rowsIn (pairOfNode rows second))

@@ -7,7 +7,7 @@ ghost use Rattle.definitions.specs.Limits.{pairWords};
 ghost use Rattle.definitions.specs.Nodes.{kindOf};
 ghost use Rattle.definitions.specs.Readings.{pairsWords};
 ghost use Rattle.evaluation.specs.Nodes.{isLeaf, slots, again, Ready, Evaluable, rowsTo, rowsAt};
-ghost use Rattle.evaluation.specs.Pairs.{PairMade, pairOfNode, Operands, operandPlaces, operatorRows};
+ghost use Rattle.evaluation.specs.Pairs.{PairMade, pairOfNode, Operands, operatorRows};
 use super::leaf::leaf;
 use super::pair::Pair;
 use super::pair::counted;
@@ -59,15 +59,13 @@ pub fn pair_of_node(rows: &[u64], j: usize) -> Pair
     load_pair(rows, j * Limits::PAIR_WORDS)
 }
 
-// An unused operand is 0, which is a node before it too.
-fn operator(kind: u8, first: usize, second: usize, rows: &[u64]) -> Pair
-    requires { ⌜ Operands kind first second (now rows) ⌝ }
-    ensures { λ r. ⌜ PairMade r (operandPlaces first (now (rows .entry))) (operatorRows kind first second (now (rows .entry))) ⌝ }
+// An unused operand is 0, which is a node before it too. The count is told, not read: what depends on it is then made once for all nodes.
+fn operator(kind: u8, first: usize, second: usize, n: usize, rows: &[u64]) -> Pair
+    requires { ⌜ Operands kind first second n (now rows) ⌝ }
+    ensures { λ r. ⌜ PairMade r n (operatorRows kind first second n (now (rows .entry))) ⌝ }
 {
     let p = pair_of_node(rows, first);
     let q = pair_of_node(rows, second);
-    let weak = p.weak;
-    let n = weak.count;
     operate(kind, counted(p, n), counted(q, n))
 }
 
@@ -97,7 +95,7 @@ fn node_rows(
         }
         return leaf(kind, first, states, n, c, own);
     }
-    operator(kind, first, node.second as usize, rows)
+    operator(kind, first, node.second as usize, n, rows)
 }
 
 fn evaluate_node(

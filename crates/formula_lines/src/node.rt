@@ -107,7 +107,7 @@ pub fn next_node(i: usize, t: &[u8], len: usize) -> NodeRead
     let NodeForm::Formed(n) = node_form(&t[..len]) else {
         return NodeRead::Refused(Refusal::RULE_FORM);
     };
-    let refusal = node_refusal(false, i, n);
+    let refusal = node_refusal(false, i as u16, n);
     if refusal != Refusal::NONE {
         return NodeRead::Refused(refusal);
     }

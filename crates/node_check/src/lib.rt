@@ -7,7 +7,6 @@ ghost use Rattle.definitions.specs.Tables.{nodeRefusal};
 ghost use Rattle.formulas.specs.Meaning.{meaning};
 ghost use Rattle.node_check.specs.Fits.{takesNodes, unusedClear, nodeFits};
 use formulas::choice::pick;
-use formulas::choice::pick_index;
 use formulas::kind::takes_two;
 use formulas::limits::Limits;
 use formulas::limits::Refusal;
@@ -28,15 +27,14 @@ fn unused_clear(n: Node) -> bool
 }
 
 // A kind that the table may hold; operands that are nodes are earlier ones; others are below their limits. No test is a
-// branch that the kinds of a table decide.
-pub fn node_fits(rewritten: bool, i: usize, n: Node) -> bool
+// branch that the kinds of a table decide, and none is wider than an operand.
+pub fn node_fits(rewritten: bool, i: u16, n: Node) -> bool
     ensures { λ r. ⌜ r ≡ nodeFits rewritten i (meaning n) ⌝ }
 {
     let known = n.kind <= pick(rewritten, Node::END, Node::SINCE);
     let nodes = takes_nodes(n.kind);
-    let first = n.first as usize;
-    let early = (first < i) & ((n.second as usize) < i);
-    let within = first < pick_index(n.kind == Node::ATOM, Limits::ATOMS, 1);
+    let early = (n.first < i) & (n.second < i);
+    let within = n.first < pick(n.kind == Node::ATOM, Limits::ATOMS as u8, 1) as u16;
     known & unused_clear(n) & ((nodes & early) | (!nodes & within))
 }
 
@@ -52,7 +50,7 @@ fn misfit_refusal(n: Node) -> u8
 }
 
 // Node i of a rule's table, or (rewritten) of the judge's; few tests accept a node that fits.
-pub fn node_refusal(rewritten: bool, i: usize, n: Node) -> u8
+pub fn node_refusal(rewritten: bool, i: u16, n: Node) -> u8
     ensures { λ r. ⌜ r ≡ nodeRefusal rewritten i (meaning n) ⌝ }
 {
     if node_fits(rewritten, i, n) {

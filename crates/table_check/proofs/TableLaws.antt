@@ -6,8 +6,8 @@ use Prim.Native.Nat.{ℕ, suc, _+_, _-_, _<_, _≤_}
 use native.Mathlib.Nat.{sub-zero}
 use native.Mathlib.Omega.{arith}
 use borrow.Author.Needs.{needs}
-use borrow.Author.Tests.{ne-eqb}
-use lib.Dec.{ltb}
+use borrow.Author.Tests.{ne-eqb, leb-true}
+use lib.Dec.{ltb, leb}
 use lib.ListN.{length, drop, getD, drop-of-length-le}
 use lib.Seq.{drop-cons}
 use native.Mathlib.Numerals.{add-one}
@@ -15,7 +15,8 @@ use Rattle.definitions.specs.Limits.{maxTableNodes, accepted, ruleLimits, ruleL
 use Rattle.definitions.specs.Bounded.{pick, within, orElse}
 use Rattle.definitions.specs.Nodes.{nodeOf}
 use Rattle.definitions.specs.Tables.{nodeRefusal, nodesRefusal, ruleHeadingRefusal, ruleRefusal, topsRefusal, tableRefusal, ruleOf, tableOf}
-use Rattle.theorems.proofs.Choice.{both-true}
+use Rattle.theorems.proofs.Choice.{both-true, accept-yes}
+use Rattle.theorems.proofs.NodeLaws.{accepted-heading}
 use Rattle.formulas.specs.Meaning.{meaning, OfWord}
 use Rattle.formulas.specs.declared.node.Node.{Node}
 use Rattle.node_check.specs.Fits.{nodeFits}
@@ -98,18 +99,24 @@ module _ (controller count : ℕ) (ws : List ℕ) where
   unfolding ruleRefusal
   rule-heading k e z = rw (← e) (sym (or-first k _ z))
 
+  pub rule-few : (k : ℕ) → k ≡ ruleHeadingRefusal controller count → k ≡ 0 → count ≤ maxTableNodes
+  rule-few k e z = omega (arith, accepted-heading controller count (sym e ∙ z) .1 .1)
+
   pub rule-nodes : (k r : ℕ) → k ≡ ruleHeadingRefusal controller count → k ≡ 0 → r ≡ nodesRefusal false 0 count ws →
       r ≡ ruleRefusal (ruleOf controller count ws)
   unfolding ruleRefusal
   rule-nodes k r e z n = rw (← e) (n ∙ sym (or-second k _ z))
 
-pub ruleset rule-laws = (needs, rule-heading, rule-nodes)
+pub ruleset rule-laws = (needs, rule-heading, rule-few, rule-nodes)
 
 module _ (count : ℕ) (ws : List ℕ) (weak strong : ℕ) where
   pub table-heading : (k : ℕ) → k ≡ pick (within 1 maxTableNodes count) accepted ruleLimits → (k ≡ 0 → ⊥) →
       k ≡ tableRefusal (tableOf count ws weak strong)
   unfolding tableRefusal
   table-heading k e z = rw (← e) (sym (or-first k _ z))
+
+  pub table-few : (k : ℕ) → k ≡ pick (within 1 maxTableNodes count) accepted ruleLimits → k ≡ 0 → count ≤ maxTableNodes
+  table-few k e z = leb-true count maxTableNodes ((both-true (leb 1 count) (leb count maxTableNodes) (accept-yes (within 1 maxTableNodes count) ruleLimits (omega arith) (sym e ∙ z))) .1)
 
   pub table-nodes : (k r : ℕ) → k ≡ pick (within 1 maxTableNodes count) accepted ruleLimits → k ≡ 0 → r ≡ nodesRefusal true 0 count ws → (r ≡ 0 → ⊥) →
       r ≡ tableRefusal (tableOf count ws weak strong)
@@ -122,4 +129,4 @@ module _ (count : ℕ) (ws : List ℕ) (weak strong : ℕ) where
   unfolding tableRefusal topsRefusal
   table-tops k r t e z n y h = rw (← e, ← n) (h ∙ sym (or-second k _ z ∙ or-second r _ y))
 
-pub ruleset table-laws = (needs, table-heading, table-nodes, table-tops)
+pub ruleset table-laws = (needs, table-heading, table-few, table-nodes, table-tops)

@@ -3,7 +3,7 @@ ghost use mathlib.Core.Bool.{true};
 ghost use mathlib.Core.Path.{_≡_};
 ghost use Prim.Native.Nat.{_≤_};
 ghost use lib.ListN.{length};
-ghost use Rattle.definitions.specs.Limits.{accepted};
+ghost use Rattle.definitions.specs.Limits.{maxTableNodes, accepted};
 ghost use Rattle.definitions.specs.Tables.{nodesRefusal, ruleHeadingRefusal, ruleRefusal, tableRefusal, ruleOf, tableOf};
 use formulas::choice::pick;
 use formulas::limits::Limits;
@@ -14,18 +14,19 @@ use node_check::node_refusal;
 
 // Each node fits: one pass without a branch, for the tables that are accepted.
 fn all_fit(rewritten: bool, count: usize, nodes: &[u32]) -> bool
-    requires { ⌜ count ≤ length (now nodes) ⌝ }
+    requires { ⌜ (count ≤ maxTableNodes) × (count ≤ length (now nodes)) ⌝ }
     ensures { λ r. ⌜ (r ≡ true → nodesRefusal rewritten 0 count (now (nodes .entry)) ≡ accepted) ⌝ }
 {
     let mut fit = true;
     for i in 0..count {
-        fit = fit & node_fits(rewritten, i, Node::of_word(nodes[i]));
+        fit = fit & node_fits(rewritten, i as u16, Node::of_word(nodes[i]));
     }
     fit
 }
 
 // The nodes that are there, in order, then a node missing.
 fn first_refusal(rewritten: bool, count: usize, nodes: &[u32]) -> u8
+    requires { ⌜ count ≤ maxTableNodes ⌝ }
     ensures { λ r. ⌜ r ≡ nodesRefusal rewritten 0 count (now (nodes .entry)) ⌝ }
 {
     let mut i = 0;
@@ -33,7 +34,7 @@ fn first_refusal(rewritten: bool, count: usize, nodes: &[u32]) -> u8
         if nodes.len() <= i {
             return Refusal::RULE_LINES;
         }
-        let refusal = node_refusal(rewritten, i, Node::of_word(nodes[i]));
+        let refusal = node_refusal(rewritten, i as u16, Node::of_word(nodes[i]));
         if refusal != Refusal::NONE {
             return refusal;
         }
@@ -43,6 +44,7 @@ fn first_refusal(rewritten: bool, count: usize, nodes: &[u32]) -> u8
 }
 
 fn nodes_refusal(rewritten: bool, count: usize, nodes: &[u32]) -> u8
+    requires { ⌜ count ≤ maxTableNodes ⌝ }
     ensures { λ r. ⌜ r ≡ nodesRefusal rewritten 0 count (now (nodes .entry)) ⌝ }
 {
     if count <= nodes.len() {

@@ -236,6 +236,11 @@ pub fn evidence(
     weak: bool,
     pairs: &mut [u32],
 ) -> (u8, [usize; 1]) {
+    evidence_by(rule, recording, weak as u8, pairs)
+}
+
+/// `evidence` by the byte that the library takes.
+fn evidence_by(rule: Rule, recording: Recording, weak: u8, pairs: &mut [u32]) -> (u8, [usize; 1]) {
     let mut values = [usize::MAX; 1];
     // SAFETY: as in `read_rule`.
     let number = unsafe {
@@ -250,7 +255,7 @@ pub fn evidence(
             recording.masks.len(),
             recording.states.as_ptr(),
             recording.states.len(),
-            weak as u8,
+            weak,
             pairs.as_mut_ptr(),
             pairs.len(),
             &mut values,
@@ -308,4 +313,26 @@ pub fn judge_recording(
         )
     };
     (number, values)
+}
+
+#[cfg(test)]
+mod tests {
+    use super::*;
+
+    /// Behind a weak yes of `a0 U a1` at a lone place stands atom 0, behind the strong no atom 1.
+    #[test]
+    fn every_byte_but_0_asks_for_the_weak_readings() {
+        let mut nodes = [0; full::RULE_NODES];
+        let (number, [controller, count]) =
+            read_rule(b"rule\t0\t3\natom\t0\natom\t1\nuntil\t0\t1\n", &mut nodes);
+        assert_eq!(number, ACCEPTED);
+        let rule = Rule { controller, count, nodes: &nodes };
+        let recording = Recording { controllers: 1, count: 1, masks: &[u32::MAX], states: &[1] };
+        for weak in 0..=u8::MAX {
+            let mut pairs = [7; full::PAIRS];
+            assert_eq!(evidence_by(rule, recording, weak, &mut pairs), (ACCEPTED, [1]));
+            assert_eq!(pairs[0], u32::from(weak == 0));
+            assert!(pairs[1..].iter().all(|&pair| pair == 0));
+        }
+    }
 }

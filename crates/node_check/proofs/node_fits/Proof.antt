@@ -9,14 +9,14 @@ pick-requires c κs = search fit-laws
 takes-nodes-requires : tie.Need-takes-nodes-requires
 takes-nodes-requires c κs = search fit-laws
 
-cast-first : tie.Need-cast-first
-cast-first c = search fit-laws
+cast-pick : tie.Need-cast-pick
+cast-pick c = search fit-laws
 
-cast-early : tie.Need-cast-early
-cast-early c = search fit-laws
+pick-requires-2 : tie.Need-pick-requires-2
+pick-requires-2 c κs = search fit-laws
 
-pick-index-requires : tie.Need-pick-index-requires
-pick-index-requires c κs = search fit-laws
+cast-within : tie.Need-cast-within
+cast-within c = search fit-laws
 
 unused-clear-requires : tie.Need-unused-clear-requires
 unused-clear-requires c κs = search fit-laws
@@ -30,8 +30,8 @@ node-fits-spec =
     (tie.spec
     pick-requires
     takes-nodes-requires
-    cast-first
-    cast-early
-    pick-index-requires
+    cast-pick
+    pick-requires-2
+    cast-within
     unused-clear-requires
     returns)

@@ -13,6 +13,9 @@ abbrev μ-loop : tie.MeasureT-loop
 loop-holds : tie.Need-loop-holds Inv-loop μ-loop
 loop-holds c = search fit-laws
 
+cast-node-fits : tie.Need-cast-node-fits Inv-loop μ-loop
+cast-node-fits c = search fit-laws
+
 mul-of-word : tie.Need-mul-of-word Inv-loop μ-loop
 mul-of-word c = search fit-laws
 
@@ -37,7 +40,7 @@ loop-again c =
     let l = turn .before .loop in
     let start = turn .before .before .before in
     fit-next (start .args .rewritten) (start .args .count) (start .args .nodes .now) (l .fit) (l .i) (l .inv) (c .node-fits .result) (c .before .of-word .result)
-    (turn .loop-test .taken) (start .pre) (c .before .of-word .ensures) (c .node-fits .ensures)
+    (turn .loop-test .taken) (start .pre .1) (c .before .of-word .ensures) (c .node-fits .ensures)
 
 returns : tie.Need-returns Inv-loop μ-loop
 returns c = search fit-laws
@@ -49,6 +52,7 @@ all-fit-spec =
     Inv-loop
     μ-loop
     loop-holds
+    cast-node-fits
     mul-of-word
     shared-slice-read-of-word
     of-word-requires

@@ -16,6 +16,9 @@ loop-holds c = search node-laws
 returns : tie.Need-returns Inv-loop μ-loop
 returns c = search node-laws
 
+cast-node-refusal : tie.Need-cast-node-refusal Inv-loop μ-loop
+cast-node-refusal c = search node-laws
+
 mul-of-word : tie.Need-mul-of-word Inv-loop μ-loop
 mul-of-word c = search node-laws
 
@@ -51,6 +54,7 @@ first-refusal-spec =
     μ-loop
     loop-holds
     returns
+    cast-node-refusal
     mul-of-word
     shared-slice-read-of-word
     of-word-requires

@@ -11,7 +11,7 @@ returns : tie.Need-returns
 returns c = search rule-laws
 
 nodes-refusal-requires : tie.Need-nodes-refusal-requires
-nodes-refusal-requires c κs = search needs
+nodes-refusal-requires c κs = search rule-laws
 
 returns-2 : tie.Need-returns-2
 returns-2 c = search rule-laws

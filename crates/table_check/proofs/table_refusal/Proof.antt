@@ -11,7 +11,7 @@ returns : tie.Need-returns
 returns c = search table-laws
 
 nodes-refusal-requires : tie.Need-nodes-refusal-requires
-nodes-refusal-requires c κs = search needs
+nodes-refusal-requires c κs = search table-laws
 
 returns-2 : tie.Need-returns-2
 returns-2 c = search table-laws

@@ -25,6 +25,9 @@ enum-told c = search needs
 returns-2 : tie.Need-returns-2
 returns-2 c = search node-laws
 
+cast-node-refusal : tie.Need-cast-node-refusal
+cast-node-refusal c = search needs
+
 node-refusal-requires : tie.Need-node-refusal-requires
 node-refusal-requires c κs = search needs
 
@@ -48,6 +51,7 @@ next-node-spec =
     enum-known-n
     enum-told
     returns-2
+    cast-node-refusal
     node-refusal-requires
     returns-3
     word-requires
