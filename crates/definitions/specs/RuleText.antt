@@ -1,4 +1,4 @@
--- "Rule: `rule`, controller (0 to 10, by document 02), node count; then a line per node": reading and writing.
+-- "Rule: `rule`, controller .., node count; then a line per node", the controller 0 to 10 by document 02: reading and writing.
 use Prim.Native.Nat.{ℕ, zero, suc, _+_}
 use mathlib.Core.Bool.{false, not, _||_}
 use mathlib.Core.List.{List, [], _∷_, _++_}

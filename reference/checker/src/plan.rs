@@ -77,7 +77,7 @@ impl Plan {
                 every_recording_states: 3,
                 larger_views: 16,
                 larger_states: 0,
-                past_views: 200,
+                past_views: 64,
                 schedules: 2,
                 larger_places: 2,
                 larger_walks: 8,
