@@ -6,12 +6,11 @@ use native.Mathlib.Numerals.{add-one}
 use mathlib.Core.Bool.{Bool, true, false}
 use mathlib.Core.List.{List, [], _∷_, _++_, append-assoc}
 use lib.Bits.{bitAnd}
-use lib.Dec.{eqb}
 use lib.ListN.{length, take, drop, getD, set, replicate, length-append, getD-replicate}
 use lib.Seq.{length-take-le, getD-take, take-at, set-split, take-suc-set, take-set-le, drop-set-lt, drop-drop}
 use borrow.Author.Needs.{needs}
-use Rattle.definitions.specs.Limits.{maxStates, atomCount}
-use Rattle.definitions.specs.Bounded.{pick, bit, bitOf, tabulate}
+use Rattle.definitions.specs.Limits.{maxStates}
+use Rattle.definitions.specs.Bounded.{pick, bit, tabulate}
 use Rattle.definitions.specs.Recordings.{Recording, recordingOf, firstStates, atomsOf, marked, maskOf, stateAt, runsAt}
 use Rattle.definitions.specs.Projection.{localTrace}
 use Rattle.theorems.proofs.Choice.{by-test, pick-true, pick-false}
@@ -19,7 +18,6 @@ use Rattle.theorems.proofs.LastMarks.{last-adds-none}
 use Rattle.theorems.proofs.OneStateMore.{OneMore, first-states-more, longer-idle, longer-ran, longer-runs}
 use Rattle.lent.specs.Space.{laid}
 use Rattle.mark_words.specs.Marks.{yesMarks}
-use Rattle.mark_words.proofs.WordLaws.{bit-shr}
 use Rattle.rows.specs.Marks.{marks, Whole, Made}
 use Rattle.rows.specs.declared.row.Row.{Row}
 use Rattle.rows.proofs.PackedLaws.{marks-length}
@@ -27,11 +25,6 @@ use Rattle.projection.specs.declared.pass.Pass.{Pass}
 use Rattle.projection.specs.Passes.{Holds, Ready, Passed, Closed, Counted}
 use Rattle.projection.specs.Places.{Projectable}
 use Rattle.projection.proofs.LengthLaws.{yes-snoc, yes-few, run-marks, trace-length}
-
--- the run mark as a bit of the state's word
-pub marked-shifted : (c s : ℕ) → eqb (s / 2 ^ (atomCount + c) % 2) 1 ≡ marked c s
-unfolding bitOf
-marked-shifted c s = sym (bit-shr c atomCount s)
 
 -- ---- what is held, and its bounds
 module _ (S : Recording) (c : ℕ) (entry : List ℕ) (p : Pass) (places : List ℕ) (H : Holds S c entry p places) where

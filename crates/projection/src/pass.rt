@@ -3,25 +3,16 @@ ghost use mathlib.Core.List.{List};
 ghost use mathlib.Core.Path.{_≡_};
 ghost use Prim.Native.Nat.{ℕ, _<_};
 ghost use lib.ListN.{length};
-ghost use Rattle.definitions.specs.Limits.{atomCount};
-ghost use Rattle.definitions.specs.Recordings.{Recording, stateAt, maskOf, marked};
+ghost use Rattle.definitions.specs.Recordings.{Recording, stateAt, maskOf};
 ghost use Rattle.theorems.proofs.OneStateMore.{OneMore};
 ghost use Rattle.rows.specs.Marks.{Whole};
 ghost use Rattle.projection.specs.Passes.{Holds, Ready, Passed, Closed, Counted};
 ghost use Rattle.projection.specs.Places.{Projectable};
 use formulas::choice::pick_index;
 use formulas::choice::pick_word;
-use formulas::limits::Limits;
 use rows::row::Row;
 use traces::state::atoms_of;
-
-// The run mark of component c, as one shift: the pass asks for it in each state, and nothing else of the marks.
-fn marked(c: usize, state: u64) -> bool
-    requires { ⌜ c < atomCount ⌝ }
-    ensures { λ r. ⌜ r ≡ marked c state ⌝ }
-{
-    (state >> (Limits::ATOMS + c)) % 2 == 1
-}
+use traces::state::runs;
 
 // What is held beside the lent places: the run marks of all states but the last, how many places stand before the last place, the word
 // of the last place, and the state taken last. Whether that one is a run is told by the next.
@@ -51,7 +42,7 @@ impl Pass {
         requires { ⌜ Ready c self (now places) ⌝ }
         ensures { λ r. ⌜ ((S R : Recording) (entry : List ℕ) → OneMore S R state → maskOf R c ≡ mask → Holds S c entry self (now (places .entry)) → Holds R c entry r (now (places .exit))) ⌝ }
     {
-        let ran = marked(c, self.last);
+        let ran = runs(c, self.last);
         let at = self.placed;
         places[at] = atoms_of(self.last);
         let marks = self.run;

@@ -13,9 +13,10 @@ use lib.ListN.{length, take, drop, getD, drop-of-length-le, List·getD-eq-defaul
 use lib.Seq.{drop-cons, getD-take, take-nil}
 use borrow.Author.Needs.{needs}
 use borrow.Author.Tests.{ne-eqb, lt-ltb, le-ltb, leb-true, leb-false, lt-leb, le-leb}
-use Rattle.definitions.specs.Limits.{maxControllers, maxStates, recordingLimits, masksMeet, recordingLines, outputRule, noController, accepted}
+use Rattle.definitions.specs.Limits.{atomCount, maxControllers, maxStates, recordingLimits, masksMeet, recordingLines, outputRule, noController, accepted}
 use Rattle.definitions.specs.Bounded.{pick, bitOf, within, orElse}
 use Rattle.definitions.specs.Recordings.{Recording, stateOf, atomsOf, marksOf, marked, maskOf, outputBroken, stateRefusal, recordingHeadingRefusal, masksRefusal, statesRefusal, recordingLinesRefusal, recordingRefusal, controllerRefusal, recordingOf}
+use Rattle.mark_words.proofs.WordLaws.{bit-shr}
 use Rattle.theorems.proofs.Choice.{accept-yes, both-true, refuse-no}
 use Rattle.theorems.proofs.Recursions.{some-cong}
 use Rattle.traces.specs.Joining.{traceRefusal}
@@ -128,9 +129,10 @@ mask-none masks c h = sym (List·getD-eq-default masks 0 h)
 pub own-mask : (R : Recording) (c : ℕ) → c < R .controllers → getD (R .masks) c 0 ≡ maskOf R c
 own-mask R c h = sym (getD-take (R .controllers) (R .masks) c 0 h)
 
-pub marked-is : (c s marks : ℕ) → marks ≡ marksOf s → eqb (marks / 2 ^ c % 2) 1 ≡ marked c s
+-- the run mark as a bit of the state's word
+pub marked-shifted : (c s : ℕ) → eqb (s / 2 ^ (atomCount + c) % 2) 1 ≡ marked c s
 unfolding bitOf
-marked-is c s marks e = rw e
+marked-shifted c s = sym (bit-shr c atomCount s)
 
 -- ---- one state
 -- the code's shift loses nothing
@@ -184,16 +186,16 @@ module _ (C N : ℕ) (masks states : List ℕ) (prior held k there : ℕ) (inv :
 
   module _ (h : k < there) (limit r : ℕ) (changed : Bool) (l : limit ≡ stateOf (2 ^ C) 0)
       (d : changed ≡ heldChanged held prior (getD states k 0)) (e : r ≡ stepRefusal limit (getD states k 0) changed) where
+    here : r ≡ stepRefusal (stateOf (2 ^ C) 0) (getD states k 0) (ltb 0 k && outputBroken C masks prior (getD states k 0))
+    here = e ∙ rw (d, inv .rule (getD states k 0), l)
+
     one-left : statesRefusal C masks 0 0 (take N states)
         ≡ orElse r (statesRefusal C masks (k + 1) (getD states k 0) (take (N - (k + 1)) (drop (k + 1) states)))
     unfolding statesRefusal
-    one-left =
-        let g : r ≡ stepRefusal (stateOf (2 ^ C) 0) (getD states k 0) (ltb 0 k && outputBroken C masks prior (getD states k 0)) =
-        e ∙ rw (d, inv .rule (getD states k 0), l) in
-        inv .left ∙ rw (from-next N states k (omega arith) (omega arith), state-step C masks k prior (getD states k 0), ← g)
+    one-left = inv .left ∙ rw (from-next N states k (omega arith) (omega arith), state-step C masks k prior (getD states k 0), ← here)
 
-    pub states-refused : (r ≡ 0 → ⊥) → r ≡ statesRefusal C masks 0 0 (take N states)
-    states-refused z = sym (one-left ∙ rw (or-else-stop r _ z))
+    pub states-refused : (r ≡ 0 → ⊥) → (number : ℕ) → number ≡ stateRefusal C masks k prior (getD states k 0) → number ≡ statesRefusal C masks 0 0 (take N states)
+    states-refused z number n = n ∙ (state-step C masks k prior (getD states k 0) ∙ (sym here ∙ sym (one-left ∙ rw (or-else-stop r _ z))))
 
     pub states-next : r ≡ 0 → C ≤ maxControllers → (low high top : List ℕ) →
         low ≡ heldGroup (take C masks) 0 → high ≡ heldGroup (take C masks) 4 → top ≡ heldGroup (take C masks) 8 →
@@ -253,7 +255,7 @@ pub ruleset test-laws = (pick-yes, pick-no, or-else-is, heading-is, mask-is)
 
 pub ruleset mask-laws = (masks-start, masks-missing, masks-end, masks-refused, masks-next)
 
-pub ruleset output-laws = (mask-none, marked-is)
+pub ruleset output-laws = (mask-none, marked-shifted)
 
 pub ruleset state-laws = (needs, limit-is, step-is, state-is, states-start, states-end, states-refused, states-next)
 

@@ -9,7 +9,7 @@ use mathlib.Core.List.{List, [], _∷_}
 use lib.Arith.{bin-ind}
 use lib.Dec.{eqb, leb}
 use lib.Bits.{bitAnd, bitOr, bitXor, differ, and-step, xor-step, and-zero-l, or-zero-r, and-comm, xor-zero-l, xor-self, and-shr, xor-shr, and-mod, xor-mod, xor-add-and, and-le-l, and-le-r}
-use lib.ListN.{length, take, getD, length-take, List·getD-eq-default}
+use lib.ListN.{length, take, getD, replicate, length-take, List·getD-eq-default}
 use lib.Seq.{getD-take, take-all, take-length}
 use borrow.Author.Needs.{needs}
 use borrow.Author.Tests.{eq-eqb, ne-eqb, leb-true, le-leb, lt-leb}
@@ -153,6 +153,13 @@ module _ (C : ℕ) (masks : List ℕ) (n : ℕ) (there : n ≡ min C (length mas
   group-is first a b c d r p q s t e =
       let o : take n masks ≡ take C masks = rw there (own-part C masks) in
       e ∙ rw (p, q, s, t, o)
+
+-- no controller from `first` on
+pub group-none : (C : ℕ) (masks : List ℕ) (first : ℕ) → C ≤ first → replicate 16 0 ≡ heldGroup (take C masks) first
+unfolding heldGroup
+group-none C masks first h =
+    let past : (c : ℕ) → C ≤ c → getD (take C masks) c 0 ≡ 0 = λ c k. List·getD-eq-default (take C masks) 0 (omega (arith, length-take C masks)) in
+    rw (past first h, past (first + 1) (omega arith), past (first + 2) (omega arith), past (first + 3) (omega arith)) (table-is 0 0 0 0)
 
 entry-at : (n marks : ℕ) (masks : List ℕ) (i : ℕ) → i < n → getD (heldEntries n marks masks) i 0 ≡ heldBy 4 masks (marks + i)
 unfolding heldEntries
@@ -322,4 +329,4 @@ module _ (C : ℕ) (masks : List ℕ) (marks held c n : ℕ) (inv : HeldLeft C m
       go (yes l) = sym (inv .left ∙ none-held (C - c) c held masks marks (omega arith))
       go (no l) = all-held C masks marks held c inv (omega arith)
 
-pub ruleset held-laws = (needs, changed-is, table-is, part-length, group-is, at-few, at-many, broken-is, with-ran, with-held, by-start, by-next, by-end)
+pub ruleset held-laws = (needs, changed-is, table-is, part-length, group-is, group-none, at-few, at-many, broken-is, with-ran, with-held, by-start, by-next, by-end)

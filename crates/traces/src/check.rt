@@ -9,6 +9,7 @@ ghost use Rattle.traces.specs.Turns.{stepRefusal};
 use super::held::held_at;
 use super::held::held_changed;
 use super::held::held_group;
+use super::held::held_top;
 use super::held::least;
 use super::held::output_broken;
 use super::masks::masks_refusal;
@@ -61,14 +62,15 @@ pub fn state_refusal(controllers: usize, masks: &[u32], k: usize, prior: u64, st
     step_refusal(state_limit(controllers), state, broken)
 }
 
-// The states that are there, in order. `held` are the atoms that the prior state holds, none before the first.
+// The states that are there, in order. `held` are the atoms that the prior state holds, none before the first. The number of
+// a refused state is told once more after the loop, so that the loop needs nothing but whether there is one.
 pub fn states_refusal(controllers: usize, count: usize, masks: &[u32], states: &[u64]) -> u8
     requires { ⌜ controllers ≤ maxControllers ⌝ }
     ensures { λ r. ⌜ r ≡ statesRefusal controllers (now (masks .entry)) 0 0 (take count (now (states .entry))) ⌝ }
 {
     let low = held_group(controllers, masks, 0);
     let high = held_group(controllers, masks, 4);
-    let top = held_group(controllers, masks, 8);
+    let top = held_top(controllers, masks);
     let limit = state_limit(controllers);
     let there = least(count, states.len());
     let mut prior: u64 = 0;
@@ -77,7 +79,7 @@ pub fn states_refusal(controllers: usize, count: usize, masks: &[u32], states: &
         let state = states[k];
         let refusal = step_refusal(limit, state, held_changed(held, prior, state));
         if refusal != Refusal::NONE {
-            return refusal;
+            return state_refusal(controllers, masks, k, prior, state);
         }
         held = held_at(controllers, &low, &high, &top, marks_of(state));
         prior = state;

@@ -81,6 +81,16 @@ pub fn held_group(controllers: usize, masks: &[u32], first: usize) -> [u32; 16]
     held_table(a, b, c, d)
 }
 
+// The third table, of controllers 8 to 10: nothing where there are none.
+pub fn held_top(controllers: usize, masks: &[u32]) -> [u32; 16]
+    ensures { λ r. ⌜ r ≡ heldGroup (take controllers (now (masks .entry))) 8 ⌝ }
+{
+    if controllers <= TWO_TABLES {
+        return [0; 16];
+    }
+    held_group(controllers, masks, TWO_TABLES)
+}
+
 // Looked up by the marks of controllers 0 to 3, of 4 to 7 and of 8 to 10, so that no branch depends on them.
 pub fn held_at(controllers: usize, low: &[u32], high: &[u32], top: &[u32], marks: u64) -> u32
     requires { ⌜ (16 ≤ length (now low)) × (16 ≤ length (now high)) × (16 ≤ length (now top)) ⌝ }

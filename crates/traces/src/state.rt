@@ -20,10 +20,10 @@ pub fn marks_of(state: u64) -> u64
     state >> Limits::ATOMS
 }
 
-// Component c is scheduled in this state.
+// Component c is scheduled in this state: one shift, since a pass over the states asks nothing else of the marks.
 pub fn runs(c: usize, state: u64) -> bool
     requires { ⌜ c < atomCount ⌝ }
     ensures { λ r. ⌜ r ≡ marked c state ⌝ }
 {
-    (marks_of(state) >> c) % 2 == 1
+    (state >> (Limits::ATOMS + c)) % 2 == 1
 }

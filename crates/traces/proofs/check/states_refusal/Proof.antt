@@ -16,8 +16,8 @@ held-group-requires c κs = search state-laws
 held-group-requires-2 : tie.Need-held-group-requires-2 Inv-loop μ-loop
 held-group-requires-2 c κs = search state-laws
 
-held-group-requires-3 : tie.Need-held-group-requires-3 Inv-loop μ-loop
-held-group-requires-3 c κs = search state-laws
+held-top-requires : tie.Need-held-top-requires Inv-loop μ-loop
+held-top-requires c κs = search state-laws
 
 state-limit-requires : tie.Need-state-limit-requires Inv-loop μ-loop
 state-limit-requires c κs = search state-laws
@@ -39,6 +39,9 @@ held-changed-requires c κs = search state-laws
 
 step-refusal-requires : tie.Need-step-refusal-requires Inv-loop μ-loop
 step-refusal-requires c κs = search state-laws
+
+state-refusal-requires : tie.Need-state-refusal-requires Inv-loop μ-loop
+state-refusal-requires c κs = search state-laws
 
 returns : tie.Need-returns Inv-loop μ-loop
 returns c = search state-laws
@@ -82,7 +85,7 @@ loop-again c =
     states-next (a .controllers) (a .count) (a .masks .now) (a .states .now) (l .prior) (l .held) (l .k) (least .least .result) (l .inv) (least .least .ensures)
     (turn .loop-test .taken) (limit .state-limit .result) (step .step-refusal .result) (changed .held-changed .result)
     (limit .state-limit .ensures) (changed .held-changed .ensures) (step .step-refusal .ensures) (go .if1 .left) (start .pre)
-    (low .held-group .result) (high .held-group2 .result) (top .held-group3 .result) (low .held-group .ensures) (high .held-group2 .ensures) (top .held-group3 .ensures)
+    (low .held-group .result) (high .held-group2 .result) (top .held-top .result) (low .held-group .ensures) (high .held-group2 .ensures) (top .held-top .ensures)
     (met .marks-of .result) (c .held-at .result) (met .marks-of .ensures) (c .held-at .ensures)
 
 returns-2 : tie.Need-returns-2 Inv-loop μ-loop
@@ -96,7 +99,7 @@ states-refusal-spec =
     μ-loop
     held-group-requires
     held-group-requires-2
-    held-group-requires-3
+    held-top-requires
     state-limit-requires
     least-requires
     loop-holds
@@ -104,6 +107,7 @@ states-refusal-spec =
     shared-slice-read-state
     held-changed-requires
     step-refusal-requires
+    state-refusal-requires
     returns
     slice-aggregate-held-at
     slice-aggregate-held-at-2

@@ -4,8 +4,8 @@ use Rattle.traces.proofs.CheckLaws.{output-laws}
 use Rattle.traces.proofs.state.runs.Statement.{statement}
 use Rattle.traces.proofs.state.runs.Tie as tie
 
-marks-of-requires : tie.Need-marks-of-requires
-marks-of-requires c κs = search needs
+add-result : tie.Need-add-result
+add-result c = search needs
 
 shr-result : tie.Need-shr-result
 shr-result c = search needs
@@ -14,4 +14,4 @@ returns : tie.Need-returns
 returns c = search output-laws
 
 pub runs-spec : {M : Type 1} → statement M
-runs-spec = tie.close (tie.spec marks-of-requires shr-result returns)
+runs-spec = tie.close (tie.spec add-result shr-result returns)
