@@ -4,15 +4,14 @@
 use reference::generate::exhaustive;
 use reference::generate::random::Random;
 use reference::generate::traces::{self, RecordingTable};
-use reference::model::{self, limits};
+use reference::model::limits;
+
+mod common;
 
 /// The local trace of the first states of an accepted recording.
 fn places(recording: &RecordingTable, length: usize, controller: usize) -> Vec<u32> {
-    let RecordingTable { controllers, masks, states, .. } = recording;
-    let mut places = vec![1; limits::PLACES];
-    let count = model::project(*controllers, length, masks, states, controller, &mut places);
-    places.truncate(count.expect("a beginning is accepted"));
-    places
+    let lowered = RecordingTable { length, ..recording.clone() };
+    common::places(&lowered, controller).expect("a beginning is accepted")
 }
 
 #[test]

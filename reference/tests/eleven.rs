@@ -7,6 +7,10 @@ use reference::generate::texts::{recording_text, recording_text_with};
 use reference::generate::traces::{self, RecordingTable};
 use reference::model::{self, limits, Verdict};
 
+mod common;
+
+use common::places;
+
 /// C and N of a recording text, and what it leaves in so many lent masks.
 fn read(text: &[u8], lent: usize) -> (Result<(usize, usize), u8>, Vec<u32>, Vec<u64>) {
     let (mut masks, mut states) = (vec![1; lent], vec![1; limits::STATES]);
@@ -27,15 +31,6 @@ fn among(controllers: usize, states: &[(u64, u64)]) -> RecordingTable {
     let masks = (0..controllers).map(|c| 1 << c).collect();
     let words = states.iter().map(|(runs, word)| (runs << 32) + word).collect();
     RecordingTable { controllers, length: states.len(), masks, states: words }
-}
-
-/// The places of a controller's local trace, or the refusal.
-fn places(recording: &RecordingTable, controller: usize) -> Result<Vec<u32>, u8> {
-    let RecordingTable { controllers, length, masks, states } = recording;
-    let mut places = vec![1; limits::PLACES];
-    let count = model::project(*controllers, *length, masks, states, controller, &mut places)?;
-    places.truncate(count);
-    Ok(places)
 }
 
 /// The verdict of a rule on its local trace, rewritten plain and rewritten short.

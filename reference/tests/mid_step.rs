@@ -9,14 +9,9 @@ use reference::generate::traces::{self, RecordingTable};
 use reference::model::formula::{Node, END, RUN};
 use reference::model::{self, limits, Verdict};
 
-/// The local trace of a controller: its places, or the refusal.
-fn places(recording: &RecordingTable, controller: usize) -> Result<Vec<u32>, u8> {
-    let RecordingTable { controllers, length, masks, states } = recording;
-    let mut places = vec![1; limits::PLACES];
-    let count = model::project(*controllers, *length, masks, states, controller, &mut places)?;
-    places.truncate(count);
-    Ok(places)
-}
+mod common;
+
+use common::places;
 
 /// The verdict and all rows of a table over a recording.
 fn judged(
