@@ -157,8 +157,12 @@ struct Chart<'a> {
 }
 
 impl Chart<'_> {
-    /// The trees of the signs from `start` to `end` as a phrase of the level.
+    /// The trees of the signs from `start` to `end` as a phrase of the level; no
+    /// phrase is empty.
     fn trees(&mut self, level: Level, start: usize, end: usize) -> Vec<Rc<Tree>> {
+        if start == end {
+            return Vec::new();
+        }
         if end - start <= FEW {
             return self.derived(level, start, end);
         }
