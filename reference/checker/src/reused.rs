@@ -39,7 +39,8 @@ impl<T: Entry + PartialEq> Reused<T> {
         let pattern = found.entries()[..block].to_vec();
         fill(found.entries_mut(), &pattern);
         let (zeros, expected) = (vec![T::of(0); block], found.clone());
-        Reused { full, pattern, zeros, found, expected, unused: Vec::new() }
+        let unused = vec![false; found.entries().len().div_ceil(block)];
+        Reused { full, pattern, zeros, found, expected, unused }
     }
 
     /// The space to lend to the library, as it is before each call: what it
@@ -71,8 +72,9 @@ impl<T: Entry + PartialEq> Reused<T> {
             }
         }
         let blocks = self.expected.entries().chunks(self.zeros.len());
-        self.unused.clear();
-        self.unused.extend(blocks.map(|block| *block == self.zeros[..block.len()]));
+        for (unused, block) in self.unused.iter_mut().zip(blocks) {
+            *unused = *block == self.zeros[..block.len()];
+        }
     }
 
     /// What is expected, and after [`Reused::require`] also what the library left.
@@ -95,8 +97,7 @@ impl<T: Entry + PartialEq> Reused<T> {
         for (((number, found), expected), unused) in found.zip(expected).zip(&self.unused).rev() {
             let expected = if *unused { &self.zeros[..found.len()] } else { expected };
             if found != expected {
-                let after = (number + 1) * block;
-                self.put_back(after);
+                self.put_back((number + 1) * block);
                 return false;
             }
             found.copy_from_slice(&self.pattern[..found.len()]);
