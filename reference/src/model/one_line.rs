@@ -65,7 +65,8 @@ impl Sign {
 /// numbers that the digits after `a` begin with, too.
 fn signs_at(bytes: &[u8]) -> Vec<(Sign, usize)> {
     // The first byte tells most words apart.
-    let begins = |(_, word): &&(Sign, &[u8])| bytes[0] == word[0] && bytes.starts_with(word);
+    let begins =
+        |(_, word): &&(Sign, &[u8])| bytes.first() == word.first() && bytes.starts_with(word);
     let mut found: Vec<(Sign, usize)> =
         WORDS.iter().filter(begins).map(|(sign, word)| (*sign, word.len())).collect();
     if bytes.first() == Some(&b'a') {
