@@ -434,10 +434,11 @@ fn check_demand_3(rule: &RuleTable, own: u32, recordings: &[RecordingTable], row
     }
 }
 
-/// A rule of every controller with its rewritings for every mask of 2 atoms.
+/// A rule of every controller with its rewritings for every mask of 2 atoms: the
+/// plain one, then the short one where it is another.
 struct SmallRule {
     nodes: Vec<u32>,
-    tables: Vec<[(Vec<Node>, Rewriting); 2]>,
+    tables: Vec<Vec<(Vec<Node>, Rewriting)>>,
 }
 
 impl SmallRule {
@@ -448,8 +449,12 @@ impl SmallRule {
             let words = table[..answer.count].iter();
             (words.map(|word| Node::of_word(*word)).collect(), answer)
         };
-        let tables = (0..4).map(|own| [table(false, own), table(true, own)]);
-        let tables = tables.collect();
+        let both = |own| {
+            let mut tables = vec![table(false, own), table(true, own)];
+            tables.dedup();
+            tables
+        };
+        let tables = (0..4).map(both).collect();
         SmallRule { nodes, tables }
     }
 }

@@ -1,7 +1,7 @@
 // What the first line of the input of the program `why` asks for. The texts after it are not read here.
 ghost use Rattle.asked_reading.specs.Asking.{AskedIs};
-use fields::scan;
 use lines::next::first_line;
+use scanning::scan;
 
 // A reading, weak or strong, of the texts that begin at this byte; or nothing, in a first line of so many bytes.
 pub enum Asked {

@@ -2,7 +2,7 @@
 use mathlib.Core.Path.{_≡_, refl, sym, ap, ap₂, _∙_}
 use mathlib.Core.Bool.{Bool}
 use mathlib.Core.List.{List, map}
-use Prim.Native.Nat.{ℕ, _+_, _-_, _≤_}
+use Prim.Native.Nat.{ℕ, _+_, _≤_}
 use native.Mathlib.Omega.{arith}
 use lib.ListN.{length, take, drop, getD, length-map, length-take}
 use lib.Seq.{take-at, drop-at}
@@ -17,8 +17,8 @@ use Rattle.definitions.specs.Why.{verdictText, behindText}
 use Rattle.theorems.proofs.LentSpace.{left-accepted}
 use Rattle.theorems.proofs.ScheduleIndependence.{Accepted}
 use Rattle.lent.specs.Space.{laid}
-use Rattle.traces.proofs.CheckLaws.{own-mask}
-use Rattle.projection.specs.Places.{placesIn, Projectable}
+use Rattle.state_words.proofs.WordLaws.{own-mask}
+use Rattle.passes.specs.Places.{placesIn, Projectable}
 use Rattle.projection.proofs.PlaceLaws.{projectable, local-places}
 use Rattle.printing.specs.Printing.{Printed}
 use Rattle.printing.proofs.PrintLaws.{printed-seq}

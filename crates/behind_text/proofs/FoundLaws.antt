@@ -23,8 +23,8 @@ use Rattle.theorems.proofs.ScheduleIndependence.{Accepted}
 use Rattle.theorems.proofs.EvidencePairs.{Each, AtomAt, evidence-atoms}
 use Rattle.theorems.proofs.EvidenceJudged.{pairs-few, pairs-low}
 use Rattle.mark_words.proofs.WordLaws.{bit-few}
-use Rattle.projection.specs.Places.{statesOnly, Countable}
-use Rattle.projection.proofs.LengthLaws.{length-of}
+use Rattle.passes.specs.Places.{statesOnly, Countable}
+use Rattle.passes.proofs.LengthLaws.{length-of}
 use Rattle.projection.proofs.PlaceLaws.{countable, local-places}
 use Rattle.theorems.proofs.RunStates.{few-runs}
 use Rattle.walk.proofs.WalkLaws.{node-at}

@@ -9,10 +9,10 @@ use evidence_text::line::put_pairs;
 use formulas::limits::Limits;
 use judges::headings::RecordingHeading;
 use judges::headings::RuleHeading;
-use judges::local::judge_accepted;
+use local_judge::local::judge_accepted;
 use printing::put;
 use projection::places::project_into;
-use traces::masks::mask_at;
+use state_words::masks::mask_at;
 
 // The bytes of the longest line of a reading.
 const PAIR_BYTES: usize = 40;

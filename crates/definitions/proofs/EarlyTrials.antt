@@ -67,7 +67,7 @@ because longer mask marks words ownLast refusals before after = record {
   after = after;
 }
 
--- "always the own atom", "at some step the own atom": one can only be broken, the other only be kept
+-- always the own atom, and at some step the own atom: one can only be broken, the other only be kept
 abbrev always : List Node
 always = node Atom 0 0 ∷ node Not 0 0 ∷ node True 0 0 ∷ node Until 2 1 ∷ node Not 3 0 ∷ []
 

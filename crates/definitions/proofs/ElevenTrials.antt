@@ -5,7 +5,7 @@ use Prim.Native.String.{String}
 use mathlib.Core.List.{List, [], _∷_, _++_}
 use lib.ListN.{replicate}
 use Rattle.definitions.specs.Limits.{maxRuleNodes, maxStates}
-use Rattle.definitions.specs.Nodes.{Node, Atom, True, Next, node}
+use Rattle.definitions.specs.Nodes.{Atom, True, Next, node}
 use Rattle.definitions.specs.Tables.{ruleRefusal}
 use Rattle.definitions.specs.Recordings.{Recording, recordingRefusal, stateOf}
 use Rattle.definitions.specs.Projection.{localTrace}

@@ -2,10 +2,10 @@
 use mathlib.Core.Path.{_≡_, refl}
 use Prim.Native.Nat.{ℕ, zero, suc}
 use mathlib.Core.List.{List, [], _∷_, _++_, map}
-use lib.ListN.{length, replicate}
+use lib.ListN.{replicate}
 use Rattle.definitions.specs.Limits.{maxRuleNodes}
 use Rattle.definitions.specs.Bounded.{pick}
-use Rattle.definitions.specs.Nodes.{Kind, True, Atom, Not, Or, Next, Until, Prev, Since, Node, node, nodeWord, kindOf}
+use Rattle.definitions.specs.Nodes.{True, Atom, Not, Or, Next, Until, Prev, Since, node, nodeWord, kindOf}
 use Rattle.definitions.specs.Lines as lines
 use Rattle.definitions.specs.Lines.{bytes, onParsed, decimalOn, decimal, digitsBy, digits}
 use Rattle.definitions.specs.RuleText.{nodeText, nodesText, ruleText}
@@ -13,7 +13,7 @@ use Rattle.definitions.specs.Operations.{answer, left}
 use Rattle.definitions.specs.LinePrograms.{inputRefusal, refusalText, refusalOr}
 use Rattle.definitions.specs.OneLineSigns as sign
 use Rattle.definitions.specs.OneLineSigns.{Sign, atom, before, between, opening, closing, Spells, last, next, spaced}
-use Rattle.definitions.specs.OneLineGrammar.{Tree, reading, one, two, Sentence, arrow, noArrow, or, noOr, and, noAnd, until, since, noUntil, prefix, noPrefix, isAtom, bracketed, larger, mostOpen}
+use Rattle.definitions.specs.OneLineGrammar.{reading, one, two, Sentence, arrow, noArrow, or, noOr, and, noAnd, until, since, noUntil, prefix, noPrefix, isAtom, bracketed, larger, mostOpen}
 use Rattle.definitions.specs.OneLineNodes.{formulaOf, size, nodesFrom, largestAtom}
 use Rattle.definitions.specs.OneLineReading.{past, signAmong, digitsAhead, atomFirst, signFirst, afterSpace, signsBy, signsOf, closed, operandBy, whole, treeOf}
 use Rattle.definitions.specs.OneLine.{sentenceRefusal, lineRefusal, lineNodes, readLineNumber, readLineAnswer, readLineNodes, lineOutput, typedOutput, ruleOutput}

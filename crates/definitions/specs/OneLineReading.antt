@@ -5,7 +5,7 @@ use lib.ListN.{length, take, drop}
 use lib.Dec.{eqb, leb}
 use Rattle.definitions.specs.Bounded.{pick, within}
 use Rattle.definitions.specs.Lines.{bytes, isEmpty, Parsed, formed, malformed, onParsed, decimal}
-use Rattle.definitions.specs.OneLineSigns.{Prefix, Not, Next, Prev, Future, Always, Infix, Implies, Or, And, Until, Since, Sign, truth, atom, before, between, opening, closing, signBytes, space}
+use Rattle.definitions.specs.OneLineSigns.{Not, Next, Prev, Future, Always, Infix, Implies, Or, And, Until, Since, Sign, truth, atom, before, between, opening, closing, signBytes, space}
 use Rattle.definitions.specs.OneLineGrammar.{Tree, always, reading, one, two}
 
 -- what follows a word with which a text begins

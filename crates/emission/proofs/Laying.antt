@@ -1,19 +1,18 @@
 -- Laws of words laid one after another, and of the functions that lay them.
 use mathlib.Core.Path.{_≡_, refl, ap, sym, _∙_}
-use Prim.Native.Nat.{ℕ, zero, suc, _+_, _-_, _<_, _≤_}
+use Prim.Native.Nat.{ℕ, _+_, _-_, _<_, _≤_}
 use mathlib.Core.List.{List, [], _∷_, _++_}
 use lib.ListN.{length, set, length-set}
 use native.Mathlib.Omega.{arith}
 use lib.Dec.{eqb}
 use borrow.Author.Needs.{needs}
-use mathlib.Core.Bool.{Bool, true, false}
 use borrow.Author.Tests.{eqb-false}
 use Rattle.theorems.proofs.Choice.{by-test}
 use Rattle.definitions.specs.Limits.{maxRuleNodes}
 use Rattle.definitions.specs.Bounded.{pick}
 use Rattle.definitions.specs.Nodes as table
 use Rattle.definitions.specs.Nodes.{node, nodeWord}
-use Rattle.definitions.specs.OneLineSigns.{Prefix, Not, Next, Prev, Future, Always}
+use Rattle.definitions.specs.OneLineSigns.{Not}
 use Rattle.printing.specs.Printing.{Printed}
 use Rattle.printing.proofs.PrintLaws as print
 use Rattle.emission.specs.Nodes.{words, prefixOf, untilKind, prefixFirst, prefixLast, prefixNode, notWords, dualWords}

@@ -1,5 +1,4 @@
 // Several nodes written one after another.
-ghost use mathlib.Core.Path.{_≡_};
 ghost use Rattle.emission.specs.Nodes.{prefixOf, prefixFirst, prefixLast, notWords, dualWords, words};
 ghost use Rattle.emission.specs.Laying.{Laid, SpaceBehind, SpaceFirst, SpaceLast};
 use super::word;

@@ -17,12 +17,12 @@ use Rattle.theorems.proofs.Choice.{both-true}
 use Rattle.formulas.specs.Meaning.{meaning, OfWord}
 use Rattle.formulas.specs.declared.node.Node as code
 use Rattle.rows.specs.Marks.{marks}
-use Rattle.rows.proofs.StoredLaws.{loaded, pairs-length, weak-words, strong-words, pair-laid}
-use Rattle.evaluation.specs.declared.pair.Pair.{Pair}
-use Rattle.evaluation.specs.Traced.{traceOf}
-use Rattle.evaluation.specs.Nodes.{isLeaf, slots, again, Fit, LeafReady, Evaluable, Ready, rowsTo, rowsAt}
-use Rattle.evaluation.specs.Pairs.{rowsIn, PairMade, Counted, Operable, operated, pairAt, pairOfNode, Operands, operatorRows}
-use Rattle.evaluation.proofs.KindLaws.{leaf-is}
+use Rattle.stored_rows.proofs.StoredLaws.{loaded, pairs-length, weak-words, strong-words, pair-laid}
+use Rattle.row_pairs.specs.declared.pair.Pair.{Pair}
+use Rattle.evaluation.specs.Nodes.{slots, again, Fit, Evaluable, Ready, rowsTo, rowsAt}
+use Rattle.row_pairs.specs.Pairs.{isLeaf, rowsIn, PairMade, Counted, Operable, operated, pairAt, pairOfNode, Operands, operatorRows}
+use Rattle.leaf_rows.specs.Traced.{LeafReady, traceOf}
+use Rattle.row_pairs.proofs.KindLaws.{leaf-is}
 use Rattle.evaluation.proofs.TableLaws.{rows-more, rows-length, rows-sized, nodes-more, nodes-length, operated-is, leaf-rows, rows-at}
 
 -- ---- pairs

@@ -1,5 +1,2 @@
-pub mod KindLaws
-pub mod LeafLaws
-pub mod PairLaws
 pub mod TableLaws
 pub mod EvaluateLaws

@@ -1,29 +1,16 @@
 -- What the evaluator asks of a node, and of the lent rows when its turn comes.
-use mathlib.Core.Bool.{Bool, true, false, _&&_}
+use mathlib.Core.Bool.{Bool, false, _&&_}
 use mathlib.Core.List.{List}
 use mathlib.Core.Path.{_≡_}
 use Prim.Native.Nat.{ℕ, _+_, _*_, _<_, _≤_}
 use lib.Dec.{eqb, ltb}
 use lib.ListN.{length, getD, take}
 use Rattle.definitions.specs.Limits.{atomCount, maxStates, maxControllers, pairWords}
-use Rattle.definitions.specs.Nodes.{Kind, True, Atom, Not, Or, Next, Until, Prev, Since, Run, End, Unknown, Node, nodeOf, kindOf}
+use Rattle.definitions.specs.Nodes.{Atom, Unknown, Node, nodeOf}
 use Rattle.definitions.specs.Tables.{nodesIn}
 use Rattle.definitions.specs.Readings.{Rows, nodeRows, rowsOf, pairsWords}
-use Rattle.evaluation.specs.Traced.{traceOf}
-
--- a kind that has no operand nodes
-abbrev pub isLeaf : Kind → Bool
-isLeaf True = true
-isLeaf Atom = true
-isLeaf Not = false
-isLeaf Or = false
-isLeaf Next = false
-isLeaf Until = false
-isLeaf Prev = false
-isLeaf Since = false
-isLeaf Run = true
-isLeaf End = true
-isLeaf Unknown = true
+use Rattle.row_pairs.specs.Pairs.{isLeaf}
+use Rattle.leaf_rows.specs.Traced.{traceOf}
 
 -- node i of an accepted table: its atom is an atom, its operands are earlier nodes (an unused one is 0)
 pub record Fit (i : ℕ) (n : Node) : Type 0 where
@@ -39,20 +26,6 @@ slots = 64
 -- node j is a node before node i with the same word
 unfoldable pub again : List ℕ → ℕ → ℕ → Bool
 again nodes i j = ltb j i && eqb (getD nodes j 0) (getD nodes i 0)
-
--- what a leaf's rows are gathered from
-pub record Gathered (states : List ℕ) (n : ℕ) : Type 0 where
-  pub few : n ≤ maxStates
-  pub there : n ≤ length states
-
--- a leaf with its states
-pub record LeafReady (kind a : ℕ) (states : List ℕ) (n c : ℕ) : Type 0 where
-  pub leaf : isLeaf (kindOf kind) ≡ true
-  pub known : kindOf kind ≡ Unknown → ⊥
-  pub atom : kindOf kind ≡ Atom → a < atomCount
-  pub few : n ≤ maxStates
-  pub there : n ≤ length states
-  pub controller : c < maxControllers
 
 -- a table that can be evaluated over states into lent rows
 pub record Evaluable (nodes : List ℕ) (count : ℕ) (states : List ℕ) (n c : ℕ) (rows : List ℕ) : Type 0 where

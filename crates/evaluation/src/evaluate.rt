@@ -6,16 +6,16 @@ ghost use lib.ListN.{length, drop};
 ghost use Rattle.definitions.specs.Limits.{pairWords};
 ghost use Rattle.definitions.specs.Nodes.{kindOf};
 ghost use Rattle.definitions.specs.Readings.{pairsWords};
-ghost use Rattle.evaluation.specs.Nodes.{isLeaf, slots, again, Ready, Evaluable, rowsTo, rowsAt};
-ghost use Rattle.evaluation.specs.Pairs.{PairMade, pairOfNode, Operands, operatorRows};
-use super::leaf::leaf;
-use super::pair::Pair;
-use super::pair::counted;
-use super::pair::load_pair;
-use super::pair::operate;
+ghost use Rattle.evaluation.specs.Nodes.{slots, again, Ready, Evaluable, rowsTo, rowsAt};
+ghost use Rattle.row_pairs.specs.Pairs.{isLeaf, PairMade, pairOfNode, Operands, operatorRows};
 use formulas::limits::Limits;
 use formulas::node::Node;
-use rows::stored::store;
+use leaf_rows::leaf::leaf;
+use row_pairs::pair::Pair;
+use row_pairs::pair::counted;
+use row_pairs::pair::load_pair;
+use row_pairs::pair::operate;
+use stored_rows::stored::store;
 
 // The leaves seen so far: a slot holds the number of the last node whose leaf fell into it.
 pub struct Seen {}

@@ -1,4 +1,2 @@
 // The evaluator of a table over a trace: a weak and a strong row for each node.
 pub mod evaluate;
-pub mod leaf;
-pub mod pair;

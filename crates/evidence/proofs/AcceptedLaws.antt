@@ -17,8 +17,8 @@ use Rattle.definitions.specs.Operations.{evidenceOf}
 use Rattle.theorems.proofs.NodeLaws.{accepted-rule}
 use Rattle.theorems.proofs.RuleNodes.{rule-some, rule-few, rule-length, rule-nodes}
 use Rattle.theorems.proofs.ScheduleIndependence.{Accepted}
-use Rattle.traces.proofs.CheckLaws.{own-mask}
-use Rattle.evaluation.specs.Pairs.{pairOfNode}
+use Rattle.state_words.proofs.WordLaws.{own-mask}
+use Rattle.row_pairs.specs.Pairs.{pairOfNode}
 use Rattle.evaluation.proofs.EvaluateLaws.{rows-in, pair-of-rows}
 use Rattle.walk.specs.Wanted.{Held}
 use Rattle.walk.specs.Walking.{wordNode, Walkable, Walked}
@@ -26,7 +26,7 @@ use Rattle.walk.proofs.WalkLaws.{held-laid, node-at}
 use Rattle.evidence_pairs.specs.Finding.{foundBy, placesOf, pairsOf}
 use Rattle.evidence_pairs.specs.Laying.{PairsReady, PairsLaid}
 use Rattle.evidence_pairs.proofs.LayLaws.{found-same}
-use Rattle.judges.specs.Local.{ownTrace, OwnReady, OwnRows}
+use Rattle.local_judge.specs.Local.{ownTrace, OwnReady, OwnRows}
 use Rattle.judges.proofs.CheckedNodes.{nodes-fit, nodes-there}
 use Rattle.evidence.specs.Accepted.{OwnWanted, EvidenceReady, EvidenceLaid}
 

@@ -1,13 +1,13 @@
 // The readings behind a verdict of what is accepted.
 ghost use Rattle.judges.specs.Headings.{ruleIn, recordingIn};
-ghost use Rattle.judges.specs.Local.{OwnReady};
+ghost use Rattle.local_judge.specs.Local.{OwnReady};
 ghost use Rattle.evidence.specs.Accepted.{OwnWanted, EvidenceReady, EvidenceLaid};
 use evidence_pairs::lay::lay;
 use formulas::limits::Limits;
 use judges::headings::RecordingHeading;
 use judges::headings::RuleHeading;
-use judges::local::local_rows;
-use traces::masks::mask_at;
+use local_judge::local::local_rows;
+use state_words::masks::mask_at;
 use walk::walk::walk;
 
 // The places to which the walk from the rule comes, of an accepted rule on its local trace; answers how many places that has.

@@ -10,8 +10,8 @@ use formulas::limits::Limits;
 use formulas::limits::Refusal;
 use judges::headings::RecordingHeading;
 use judges::headings::RuleHeading;
-use judges::local::local_refusal;
 use lent::clear_u32;
+use local_judge::local::local_refusal;
 
 pub enum Explanation {
     Pairs(usize),

@@ -9,28 +9,27 @@ use lib.Dec.{ltb}
 use lib.ListN.{length, take, drop, getD}
 use borrow.Author.Needs.{needs}
 use borrow.Author.Tests.{eq-eqb, ne-eqb}
-use Rattle.definitions.specs.Limits.{atomCount, maxStates, pairWords}
+use Rattle.definitions.specs.Limits.{atomCount}
 use Rattle.definitions.specs.Bounded.{pick, bitOf, tabulate}
-use Rattle.definitions.specs.Nodes.{Kind, Atom, Node, nodeOf, kindOf}
+use Rattle.definitions.specs.Nodes.{Node, nodeOf, kindOf}
 use Rattle.definitions.specs.Tables.{isAtom}
-use Rattle.definitions.specs.Readings.{Rows, rowWords}
-use Rattle.theorems.proofs.Choice.{by-test}
+use Rattle.definitions.specs.Readings.{rowWords}
 use Rattle.theorems.proofs.Tabulations.{tabulate-at, tabulate-same}
 use Rattle.mark_words.specs.Marks.{markAt, lastAt}
 use Rattle.formulas.specs.Meaning.{meaning, OfWord}
 use Rattle.formulas.specs.declared.node.Node as code
 use Rattle.formulas.proofs.KindLaws.{kind-cases}
 use Rattle.rows.specs.Marks.{marks, Whole, Made}
-use Rattle.rows.specs.Stored.{rowAt}
+use Rattle.stored_rows.specs.Stored.{rowAt}
 use Rattle.rows.specs.declared.row.Row.{Row}
 use Rattle.rows.proofs.PackedLaws.{retold, recounted}
 use Rattle.rows.proofs.RowLaws.{last-on}
-use Rattle.rows.proofs.StoredLaws.{row-here, row-before}
-use Rattle.evaluation.specs.declared.pair.Pair.{Pair}
+use Rattle.stored_rows.proofs.StoredLaws.{row-here, row-before}
+use Rattle.row_pairs.specs.declared.pair.Pair.{Pair}
 use Rattle.evaluation.specs.Nodes.{Fit}
-use Rattle.evaluation.specs.Pairs.{rowsIn, PairMade, pairOfNode}
-use Rattle.evaluation.proofs.KindLaws.{kind-atom}
-use Rattle.evidence_pairs.specs.Finding.{foundBy, placesOf, NodeReady, Findable, FoundRows}
+use Rattle.row_pairs.specs.Pairs.{rowsIn, PairMade, pairOfNode}
+use Rattle.row_pairs.proofs.KindLaws.{kind-atom}
+use Rattle.evidence_pairs.specs.Finding.{placesOf, NodeReady, Findable, FoundRows}
 
 no-atom : (k : ℕ) → (k ≡ 1 → ⊥) → isAtom (kindOf k) ≡ false
 no-atom = kind-cases (λ k K. (k ≡ 1 → ⊥) → isAtom K ≡ false)

@@ -4,15 +4,14 @@ use mathlib.Core.Bool.{Bool, true, false}
 use mathlib.Core.List.{List, [], _∷_, _++_, map, append-assoc, append-nil, map-append}
 use mathlib.Core.Logic.{⊎-elim}
 use Prim.Native.Nat.{ℕ, zero, suc, _+_, _-_, _*_, _/_, _%_, _^_, _<_, _≤_}
-use native.Mathlib.Numerals.{add-one}
 use native.Mathlib.Omega.{arith}
 use lib.ListN.{length, take, drop, getD, set, length-map, length-set}
 use lib.Seq.{length-take-le, take-set-le, take-suc-set, drop-set-lt}
 use mir.Val.{Fits}
 use mir.Syntax.{w64}
 use borrow.Author.Needs.{needs}
-use Rattle.definitions.specs.Limits.{maxStates, maxRuleNodes, maxPairs, wordMarks}
-use Rattle.definitions.specs.Bounded.{pick, bitOf, bit, tabulate}
+use Rattle.definitions.specs.Limits.{maxStates, maxRuleNodes, maxPairs}
+use Rattle.definitions.specs.Bounded.{pick, bitOf, bit}
 use Rattle.definitions.specs.Evidence.{Found, found as pairOf, foundAt, foundFrom, pairWord}
 use Rattle.theorems.proofs.Tabulations.{tabulate-at}
 use Rattle.lent.specs.Space.{cleared}
@@ -20,8 +19,7 @@ use Rattle.lent.proofs.LeftLaws.{left-filled}
 use Rattle.mark_words.specs.Marks.{markAt}
 use Rattle.mark_words.proofs.OperatorLaws.{lt-or-le}
 use Rattle.mark_words.proofs.WordLaws.{bit-few, bit-number}
-use Rattle.rows.specs.Marks.{bitAt, marks, Made}
-use Rattle.rows.specs.Stored.{rowAt}
+use Rattle.stored_rows.specs.Stored.{rowAt}
 use Rattle.rows.proofs.PackedLaws.{mark-is}
 use Rattle.evidence_pairs.specs.Finding.{placesOf, pairsOf, Findable, FoundRows}
 use Rattle.evidence_pairs.specs.Laying.{foundIn, PlaceReady, PlaceLaid, PlacesReady, PlacesLaid, PairsReady, PairsLaid}

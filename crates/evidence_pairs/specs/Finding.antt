@@ -1,5 +1,4 @@
 -- Which nodes are found at which places, from the wanted places in lent space.
-use mathlib.Core.Path.{_≡_}
 use mathlib.Core.Bool.{Bool, _&&_, _||_}
 use mathlib.Core.List.{List}
 use Prim.Native.Nat.{ℕ, suc, _+_, _*_, _<_, _≤_}
@@ -13,9 +12,9 @@ use Rattle.definitions.specs.Readings.{Rows}
 use Rattle.definitions.specs.Evidence.{Found, foundFrom}
 use Rattle.mark_words.specs.Marks.{markAt}
 use Rattle.rows.specs.Marks.{Made}
-use Rattle.rows.specs.Stored.{rowAt}
+use Rattle.stored_rows.specs.Stored.{rowAt}
 use Rattle.evaluation.specs.Nodes.{Fit}
-use Rattle.evaluation.specs.Pairs.{rowsIn, PairMade, pairOfNode}
+use Rattle.row_pairs.specs.Pairs.{rowsIn, PairMade, pairOfNode}
 
 -- node x, wanted at the places of the rows r, is found at place k: `decides` of the definitions over rows
 abbrev pub foundBy : (x : Node) (own n : ℕ) (r : Rows) (k : ℕ) → Bool

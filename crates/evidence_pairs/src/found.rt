@@ -1,12 +1,11 @@
 // The places at which a node is found, as a row for each node.
-ghost use mathlib.Core.Path.{_≡_};
 ghost use Rattle.definitions.specs.Bounded.{tabulate};
 ghost use Rattle.rows.specs.Marks.{Made};
 ghost use Rattle.evidence_pairs.specs.Finding.{NodeReady, placesOf, Findable, FoundRows};
 use evaluation::evaluate::pair_of_node;
 use formulas::node::Node;
 use rows::row::Row;
-use rows::stored::store;
+use stored_rows::stored::store;
 
 pub struct Found {}
 

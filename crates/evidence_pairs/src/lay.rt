@@ -4,7 +4,7 @@ ghost use Prim.Native.Nat.{_+_, _*_, _<_, _≤_};
 ghost use lib.ListN.{length};
 ghost use Rattle.definitions.specs.Limits.{maxStates};
 ghost use Rattle.definitions.specs.Bounded.{bit};
-ghost use Rattle.evidence_pairs.specs.Finding.{Findable, pairsOf};
+ghost use Rattle.evidence_pairs.specs.Finding.{pairsOf};
 ghost use Rattle.evidence_pairs.specs.Laying.{foundIn, PlaceReady, PlaceLaid, PlacesReady, PlacesLaid, PairsReady, PairsLaid};
 use super::found::Found;
 use super::found::found_rows;

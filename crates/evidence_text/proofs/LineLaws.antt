@@ -1,7 +1,7 @@
 -- Laws of the lines of pairs: one for each call that wants room, each turn and each return, and how long a line is.
 use mathlib.Core.Path.{_≡_, refl, sym, ap, _∙_}
 use mathlib.Core.List.{List, [], _∷_, _++_, append-assoc, append-nil}
-use Prim.Native.Nat.{ℕ, _+_, _-_, _/_, _%_, _^_, _<_, _≤_}
+use Prim.Native.Nat.{ℕ, _+_, _/_, _%_, _^_, _<_, _≤_}
 use native.Mathlib.Omega.{arith}
 use native.Mathlib.Numerals.{add-one}
 use lib.ListN.{length, take, drop, getD, length-append, take-append-drop}
@@ -11,7 +11,7 @@ use mir.Val.{Fits}
 use borrow.Author.Needs.{needs}
 use Rattle.definitions.specs.Lines.{bytes, tab, newline, digits}
 use Rattle.definitions.specs.Why.{stateOfPlace, named, pairText}
-use Rattle.projection.specs.Places.{statesOnly, Countable}
+use Rattle.passes.specs.Places.{statesOnly, Countable}
 use Rattle.mark_words.proofs.WordLaws.{bit-number}
 use Rattle.formulas.specs.Meaning.{OfWord}
 use Rattle.formulas.specs.declared.node.Node as code

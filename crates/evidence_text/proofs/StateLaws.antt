@@ -18,7 +18,7 @@ use Rattle.definitions.specs.Projection.{runStates, afterLast}
 use Rattle.definitions.specs.Why.{stateOfPlace}
 use Rattle.theorems.proofs.Choice.{by-test, both-true}
 use Rattle.theorems.proofs.LastMarks.{last-adds-none}
-use Rattle.projection.specs.Places.{statesOnly, Countable}
+use Rattle.passes.specs.Places.{statesOnly, Countable}
 use Rattle.theorems.proofs.RunStates.{runs-on, runs-off, few-runs, after-snoc, after-near}
 
 -- ---- the states in which a component runs

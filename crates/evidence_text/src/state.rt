@@ -1,9 +1,9 @@
 // The state of the recording that a place of the local trace is.
 ghost use mathlib.Core.Path.{_≡_};
 ghost use Rattle.definitions.specs.Why.{stateOfPlace};
-ghost use Rattle.projection.specs.Places.{statesOnly, Countable};
+ghost use Rattle.passes.specs.Places.{statesOnly, Countable};
 use formulas::choice::pick_index;
-use traces::state::runs;
+use state_words::state::runs;
 
 // "place i < m is state r(i)"; "place m is state r(m-1)+1, or state 0 if m = 0". The last state's mark is not asked.
 pub fn state_of_place(count: usize, c: usize, states: &[u64], k: usize) -> usize

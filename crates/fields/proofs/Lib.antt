@@ -1,4 +1,2 @@
-pub mod ScanLaws
-pub mod PartLaws
 pub mod FieldLaws
 pub mod HexLaws

@@ -18,14 +18,14 @@ use Rattle.definitions.specs.Lines.{tab, before, carriageReturn, isEmpty, has, 
 use Rattle.definitions.specs.RuleText.{wordKind, unknownForm, operandsForm, nodeForm}
 use Rattle.theorems.proofs.NodeWords.{kind-of-number}
 use Rattle.fields.specs.Fields.{cap, capped}
-use Rattle.lines.specs.Forms.{cappedPair}
+use Rattle.line_forms.specs.Forms.{cappedPair}
 use Rattle.fields.specs.declared.number.Field.{Field}
 use Rattle.fields.specs.declared.number.Field.the-variants as field
-use Rattle.lines.specs.declared.form.Pair.{Pair}
-use Rattle.lines.specs.declared.form.Pair.the-variants as pair
-use Rattle.fields.proofs.PartLaws.{part-laws, part-counts, empty-yes, empty-no, has-yes, has-no, up-to-part, after-part}
+use Rattle.line_forms.specs.declared.form.Pair.{Pair}
+use Rattle.line_forms.specs.declared.form.Pair.the-variants as pair
+use Rattle.scanning.proofs.PartLaws.{part-laws, part-counts, empty-yes, empty-no, has-yes, has-no, up-to-part, after-part}
 use Rattle.fields.proofs.FieldLaws.{cap-le, cap-within, capped-read, capped-malformed}
-use Rattle.lines.proofs.FormLaws.{made, two-made, pair-read, pair-malformed}
+use Rattle.line_forms.proofs.FormLaws.{made, two-made, pair-read, pair-malformed}
 use Rattle.formulas.specs.Meaning.{meaning, Built, OfWord}
 use Rattle.formulas.specs.declared.node.Node.{Node}
 use Rattle.formulas.proofs.KindLaws.{unknown-of}

@@ -4,8 +4,8 @@ ghost use Rattle.definitions.specs.Lines.{lineLength};
 ghost use Rattle.definitions.specs.RuleText.{ruleHeadingLine};
 ghost use Rattle.formula_lines.specs.NextLines.{headingAnswer};
 use formulas::limits::Refusal;
-use lines::form;
-use lines::form::Pair;
+use line_forms::form;
+use line_forms::form::Pair;
 use lines::next::end_refusal;
 use table_check::rule_heading_refusal;
 

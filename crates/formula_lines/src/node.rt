@@ -5,21 +5,21 @@ ghost use Rattle.definitions.specs.Limits.{maxRuleNodes};
 ghost use Rattle.definitions.specs.Nodes.{kindOf, kindNumber, End};
 ghost use Rattle.definitions.specs.Lines.{tab, before, lineLength};
 ghost use Rattle.definitions.specs.RuleText.{unknownForm, operandsForm, nodeForm, nodeLine};
-ghost use Rattle.lines.specs.Forms.{cappedPair};
+ghost use Rattle.line_forms.specs.Forms.{cappedPair};
 ghost use Rattle.formula_lines.specs.NextLines.{meant, cappedForm, operandFields, nodeAnswer};
 use fields::number;
 use fields::number::Field;
-use fields::scan;
 use formulas::kind::is_unknown;
 use formulas::kind::operand_count;
 use formulas::limits::Refusal;
 use formulas::node::Node;
 use kind_words::UNKNOWN;
 use kind_words::kind_of_word;
-use lines::form;
-use lines::form::Pair;
+use line_forms::form;
+use line_forms::form::Pair;
 use lines::next::end_refusal;
 use node_check::node_refusal;
+use scanning::scan;
 
 // A line as a node, its operands read up to the largest number of a field.
 pub enum NodeForm {

@@ -22,7 +22,7 @@ use Rattle.theorems.proofs.NextLines.{on-next, next-number, next-some}
 use Rattle.theorems.proofs.RuleTextSteps.{nodes-stop, nodes-step}
 use Rattle.lines.specs.Reading.{FirstLine, LinesScanned}
 use Rattle.lines.specs.declared.next.Line.{Line}
-use Rattle.fields.proofs.PartLaws.{part-to-end, empty-yes, empty-no}
+use Rattle.scanning.proofs.PartLaws.{part-to-end, empty-yes, empty-no}
 use Rattle.lines.proofs.LoopLaws.{Lines, lines-none, lines-stop, lines-next, after-line, line-inside, Counted, counted-more, counted-stop, counted-end}
 use Rattle.formula_lines.specs.NextLines.{nodeAnswer}
 use Rattle.formula_lines.specs.declared.node.NodeRead.{NodeRead}

@@ -8,7 +8,6 @@ ghost use Rattle.definitions.specs.RuleText.{kindWord, nodeText, nodesText};
 ghost use Rattle.printing.specs.Printing.{Printed};
 ghost use Rattle.formulas.specs.Meaning.{meaning};
 ghost use Rattle.formula_writer.specs.Writing.{headingLine, headingSize, WroteRule};
-use fields::scan;
 use formulas::kind::operand_count;
 use formulas::limits::Limits;
 use formulas::limits::Refusal;
@@ -17,6 +16,7 @@ use kind_words::word_of;
 use printing::put;
 use printing::put_byte;
 use printing::put_field;
+use scanning::scan;
 use table_check::rule_refusal;
 
 // The length of the text, or the refusal.

@@ -1,5 +1,5 @@
 -- The images of one node of a rule: one law for each return.
-use mathlib.Core.Bool.{Bool, true, false, not, _&&_, _||_}
+use mathlib.Core.Bool.{Bool, true, false, _&&_, _||_}
 use mathlib.Core.List.{List, [], _∷_, _++_, map}
 use mathlib.Core.Path.{_≡_, refl, sym, ap, _∙_}
 use Prim.Native.Nat.{ℕ, zero, suc, _+_, _-_, _<_, _≤_}
@@ -18,13 +18,13 @@ use Rattle.definitions.specs.Nodes.{Kind, node, nodeOf, nodeWord, kindOf, opera
 use Rattle.definitions.specs.Rewriting as table
 use Rattle.definitions.specs.Rewriting.{Emit, emitted, opening, closing}
 use Rattle.formulas.proofs.KindLaws.{kind-cases}
-use Rattle.images.specs.Emission.{Room, Emitted, Follows, Holds}
-use Rattle.images.specs.Blocks.{dot, Lists, rowsOf, forms, formOf, closingLists, FineRows, rowsIn, IsBlock, naming, SmallNames, laid}
+use Rattle.blocks.specs.Emission.{Room, Emitted, Follows, Holds}
+use Rattle.blocks.specs.Blocks.{dot, Lists, rowsOf, forms, formOf, closingLists, FineRows, rowsIn, IsBlock, naming, SmallNames, laid}
 use Rattle.images.specs.Images.{meant, Small, Begun, Named, partOf, formBy, tolerantBy, Stepped, ClosedBy}
-use Rattle.images.specs.declared.blocks.Block.{Block}
+use Rattle.blocks.specs.declared.blocks.Block.{Block}
 use Rattle.images.specs.declared.image.Image.{Image}
-use Rattle.images.proofs.EmitLaws.{emitted-follows}
-use Rattle.images.proofs.BlockLaws.{fine-rows}
+use Rattle.blocks.proofs.EmitLaws.{emitted-follows}
+use Rattle.blocks.proofs.BlockLaws.{fine-rows}
 
 -- every name stands for a small number
 data Low : List ℕ → Type 0 where

@@ -1,3 +1,1 @@
-pub mod EmitLaws
-pub mod BlockLaws
 pub mod ImageLaws

@@ -1,4 +1,2 @@
-// The images of a rule's nodes, opening and closing: the documents' lists as data, and one loop that lays them into the table.
-mod blocks;
+// The images of a rule's nodes, opening and closing: which of the documents' lists are laid into the table.
 pub mod image;
-mod lay;

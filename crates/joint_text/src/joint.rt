@@ -1,95 +1,14 @@
 // The joint reading: the rule text, then the recording text, then the two together.
-ghost use mathlib.Core.Path.{_≡_};
 ghost use Prim.Native.Nat.{_≤_, _+_};
-ghost use lib.ListN.{length, drop};
-ghost use Rattle.definitions.specs.Lines.{lineLength};
-ghost use Rattle.joint_text.specs.Joining.{IsPart, Room, isShort, Clearable, Cleared, refusedAt, JointScanned, Joined, ReadJoint};
-use formula_reader::scan_rule;
-use formulas::limits::Limits;
+ghost use lib.ListN.{length};
+ghost use Rattle.joint_space.specs.Room.{Room};
+ghost use Rattle.joint_text.specs.Joining.{IsPart, Joined, ReadJoint};
 use formulas::limits::Refusal;
-use lines::next::first_line;
-use trace_reader::scan_recording;
-
-// The number and, accepted, controller, node count, C and N; and the part handed back: of which text, from where, how long.
-pub struct Found {
-    pub number: u8,
-    pub controller: u32,
-    pub count: u32,
-    pub controllers: u32,
-    pub states: u32,
-    pub of_rule: bool,
-    pub from: usize,
-    pub len: usize,
-}
-
-// Zeroes what lent space holds past its used entries.
-fn clear_past(
-    nodes: &mut [u32],
-    masks: &mut [u32],
-    states: &mut [u64],
-    count: usize,
-    controllers: usize,
-    length: usize,
-)
-    requires { ⌜ Clearable count controllers length (now nodes) (now masks) (now states) ⌝ }
-    ensures { λ _. ⌜ Cleared count controllers length (now (nodes .entry)) (now (masks .entry)) (now (states .entry)) (now (nodes .exit)) (now (masks .exit)) (now (states .exit)) ⌝ }
-{
-    lent::clear_u32(nodes, count, Limits::RULE_NODES);
-    lent::clear_u32(masks, controllers, Limits::CONTROLLERS);
-    lent::clear_u64(states, length, Limits::STATES);
-}
-
-// A refusal with the line that begins at `at`, without its ending.
-fn refused_at(number: u8, of_rule: bool, text: &[u8], at: usize) -> Found
-    requires { ⌜ at ≤ length (now text) ⌝ }
-    ensures { λ r. ⌜ r ≡ refusedAt number «of_rule» at (lineLength (drop at (now (text .entry)))) ⌝ }
-{
-    let line = first_line(&text[at..]);
-    Found {
-        number: number,
-        controller: 0,
-        count: 0,
-        controllers: 0,
-        states: 0,
-        of_rule: of_rule,
-        from: at,
-        len: line.len,
-    }
-}
-
-// Reads both texts into lent space of full size, up to the first refusal.
-fn scan_joint(
-    rule: &[u8],
-    recording: &[u8],
-    nodes: &mut [u32],
-    masks: &mut [u32],
-    states: &mut [u64],
-) -> Found
-    requires { ⌜ Room (now nodes) (now masks) (now states) ⌝ }
-    ensures { λ r. ⌜ JointScanned (now (rule .entry)) (now (recording .entry)) (now (nodes .entry)) (now (masks .entry)) (now (states .entry)) r (now (nodes .exit)) (now (masks .exit)) (now (states .exit)) ⌝ }
-{
-    let ruled = scan_rule(rule, nodes);
-    if ruled.number != Refusal::NONE {
-        return refused_at(ruled.number, true, rule, ruled.rest_at);
-    }
-    let recorded = scan_recording(recording, masks, states);
-    if recorded.number != Refusal::NONE {
-        return refused_at(recorded.number, false, recording, recorded.rest_at);
-    }
-    if ruled.controller < recorded.controllers {
-        return Found {
-            number: Refusal::NONE,
-            controller: ruled.controller as u32,
-            count: ruled.count as u32,
-            controllers: recorded.controllers as u32,
-            states: recorded.count as u32,
-            of_rule: false,
-            from: recording.len(),
-            len: 0,
-        };
-    }
-    refused_at(Refusal::NO_CONTROLLER, true, rule, 0)
-}
+use joint_scan::scan::Found;
+use joint_scan::scan::refused_at;
+use joint_scan::scan::scan_joint;
+use joint_space::space::clear_past;
+use joint_space::space::is_short;
 
 // Reads both texts into lent space of full size, and zeroes its unused entries: after a refusal, all.
 fn join_whole(
@@ -112,19 +31,6 @@ fn join_whole(
         found.states as usize,
     );
     found
-}
-
-// Whether any of lent space is shorter than its full size.
-fn is_short(nodes: &[u32], masks: &[u32], states: &[u64]) -> bool
-    ensures { λ r. ⌜ r ≡ isShort (now (nodes .entry)) (now (masks .entry)) (now (states .entry)) ⌝ }
-{
-    if nodes.len() < Limits::RULE_NODES {
-        return true;
-    }
-    if masks.len() < Limits::CONTROLLERS {
-        return true;
-    }
-    states.len() < Limits::STATES
 }
 
 // Reads both texts, where lent space is of full size.

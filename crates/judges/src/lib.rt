@@ -1,5 +1,4 @@
-// The two judges: a rule on its local trace, and a table over the whole recording.
+// The judge of a table over the whole recording, and what both judges share: headings and verdicts.
 pub mod headings;
-pub mod local;
 pub mod verdicts;
 pub mod whole;

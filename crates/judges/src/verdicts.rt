@@ -1,9 +1,9 @@
 // The answer of a judge.
 ghost use mathlib.Core.Path.{_≡_};
 ghost use Rattle.judges.specs.Verdicts.{Topped, topsIn};
-use evaluation::pair::Pair;
 use formulas::limits::Limits;
-use rows::stored::load;
+use row_pairs::pair::Pair;
+use stored_rows::stored::load;
 
 pub struct Verdicts {
     pub weak: bool,

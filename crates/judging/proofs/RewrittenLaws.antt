@@ -8,7 +8,7 @@ use lib.ListN.{length, drop, getD, replicate}
 use lib.Dec.{ltb}
 use borrow.Author.Needs.{needs}
 use borrow.Author.Tests.{ltb-false, ne-eqb}
-use Rattle.definitions.specs.Limits.{accepted, lentShort, maxTableNodes, maxRowWords}
+use Rattle.definitions.specs.Limits.{lentShort, maxTableNodes, maxRowWords}
 use Rattle.definitions.specs.Bounded.{pick, orElse}
 use Rattle.definitions.specs.Nodes.{nodeWord}
 use Rattle.definitions.specs.Tables.{Rule, ruleRefusal, tableRefusal, nodesIn, ruleOf, tableOf}
@@ -23,17 +23,17 @@ use Rattle.theorems.proofs.LentSpace.{left-short, left-accepted, left-refused}
 use Rattle.theorems.proofs.RuleNodes.{rule-nodes, rule-length, rule-some}
 use Rattle.theorems.proofs.RewrittenAccepted.{rewritten-nodes, rewritten-accepted}
 use Rattle.theorems.proofs.ScheduleIndependence.{Accepted, verdict-agrees}
-use Rattle.traces.proofs.CheckLaws.{own-mask}
+use Rattle.state_words.proofs.WordLaws.{own-mask}
 use Rattle.lent.specs.Space.{cleared}
 use Rattle.judges.specs.Verdicts.{ownVerdicts}
 use Rattle.judges.specs.Whole.{WholeReady, WholeVerdicts}
 use Rattle.judges.specs.declared.verdicts.Verdicts.{Verdicts}
 use Rattle.judges.proofs.WholeLaws.{accepted-controller, whole-ready}
-use Rattle.rewriting.specs.Drafts.{Ruled}
+use Rattle.drafts.specs.Drafts.{Ruled}
 use Rattle.rewriting.specs.Answers.{TableOf}
 use Rattle.images.specs.declared.image.Tops.{Tops}
 use Rattle.rewriting.proofs.AnswerLaws.{ruled}
-use Rattle.judging.specs.Rewritten.{answerOf, Judgeable, rewrittenFor, localValues, Lent, JudgedLocally, numberOf, Judgements}
+use Rattle.judging.specs.Rewritten.{answerOf, Judgeable, rewrittenFor, JudgedLocally, numberOf, Judgements}
 use Rattle.judging.specs.declared.rewritten.Rewritten.{Rewritten}
 use Rattle.judging.specs.declared.rewritten.RewrittenJudgement.the-variants.{Judged, Refused}
 

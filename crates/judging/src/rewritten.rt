@@ -6,13 +6,13 @@ use formulas::limits::Refusal;
 use judges::headings::RecordingHeading;
 use judges::headings::RuleHeading;
 use judges::headings::TableHeading;
-use judges::local::local_refusal;
 use judges::verdicts::Verdicts;
 use judges::whole;
 use lent::clear_u32;
 use lent::clear_u64;
+use local_judge::local::local_refusal;
 use rewriting::rewrite::rewrite_accepted;
-use traces::masks::mask_at;
+use state_words::masks::mask_at;
 
 // The node count of a rewritten rule, and its verdicts.
 pub struct Rewritten {

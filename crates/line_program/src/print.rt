@@ -6,10 +6,10 @@ ghost use Rattle.definitions.specs.Tables.{ruleOf};
 ghost use Rattle.definitions.specs.LinePrograms.{refusalText};
 ghost use Rattle.printing.specs.Printing.{Printed};
 ghost use Rattle.line_program.specs.Printing.{Prints, writtenOutput};
-use fields::scan;
 use formula_writer::RuleWritten;
 use formula_writer::write_rule;
 use formulas::limits::Limits;
+use scanning::scan;
 
 // The word `refused` and the number.
 fn put_refusal(number: u8, text: &mut [u8]) -> usize

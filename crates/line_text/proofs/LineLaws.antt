@@ -4,27 +4,25 @@ use Prim.Native.Nat.{ℕ, zero, suc, _+_, _-_, _<_, _≤_}
 use native.Mathlib.Nat.{sub-zero, suc-sub-suc, zero-add}
 use native.Mathlib.Numerals.{add-one}
 use native.Mathlib.Omega.{arith}
-use mathlib.Core.Bool.{Bool, true, false}
+use mathlib.Core.Bool.{true}
 use mathlib.Core.List.{List, [], _∷_, _++_, map, append-assoc}
 use lib.ListN.{length, take, drop, getD, set, replicate, length-append, length-map, length-take, length-drop, length-replicate}
 use lib.Seq.{length-take-le, take-length, paste-suc}
-use lib.Dec.{eqb, ltb}
+use lib.Dec.{eqb}
 use borrow.Author.Needs.{needs}
-use borrow.Author.Tests.{ne-eqb, lt-ltb, le-ltb, ltb-true}
+use borrow.Author.Tests.{ne-eqb, lt-ltb, le-ltb}
 use Rattle.definitions.specs.Limits.{accepted, atomCount, maxRuleNodes, maxLineBytes, maxOpenBrackets, lentShort, lineForm}
-use Rattle.definitions.specs.Bounded.{pick}
 use Rattle.definitions.specs.Nodes.{nodeWord}
-use Rattle.definitions.specs.Lines.{formed, malformed, onParsed}
-use Rattle.definitions.specs.Operations.{answer, tooShort, left}
+use Rattle.definitions.specs.Lines.{onParsed}
+use Rattle.definitions.specs.Operations.{tooShort, left}
 use Rattle.definitions.specs.OneLineSigns.{Sign}
-use Rattle.definitions.specs.OneLineGrammar.{Tree, Arrows, Phrase, Sentence, mostOpen}
-use Rattle.definitions.specs.OneLineNodes.{nodesOf, largestAtom}
-use Rattle.definitions.specs.OneLineReading.{signsOf}
+use Rattle.definitions.specs.OneLineGrammar.{Arrows, Phrase, Sentence}
+use Rattle.definitions.specs.OneLineNodes.{largestAtom}
 use Rattle.definitions.specs.OneLine.{lineRefusal, lineNodes, readLineNumber, readLineAnswer, readLineNodes}
 use Rattle.theorems.proofs.Choice.{pick-true, pick-false}
 use Rattle.theorems.proofs.Inversions.{formed-same}
 use Rattle.theorems.proofs.LentSpace.{refused-answer, accepted-answer, left-accepted}
-use Rattle.theorems.proofs.Phrases.{flat, operand, operator, weight, lowAtoms, tight, phrase-flat}
+use Rattle.theorems.proofs.Phrases.{flat, operand, lowAtoms, phrase-flat}
 use Rattle.theorems.proofs.PhraseUnique.{unique}
 use Rattle.theorems.proofs.SentenceTrees.{sentence-flat, ends}
 use Rattle.theorems.proofs.FlatRefusal.{flatRefusal, flat-refusal, sentence-weight, sentence-low}
@@ -40,7 +38,6 @@ use Rattle.signs.proofs.CodeLaws.{ahead-all, capped-flat, capped-most, capped-w
 use Rattle.printing.specs.Printing.{laidAt}
 use Rattle.emission.specs.Laying.{Laid}
 use Rattle.phrases.specs.Reading.{Ready, Read}
-use Rattle.formula_reader.specs.Reading.{readAnswer}
 use Rattle.formula_reader.specs.declared.RuleRead.the-variants as rule
 use Rattle.line_text.specs.Reading.{LineChecked, ReadLine}
 

@@ -1,4 +1,2 @@
-pub mod FormLaws
 pub mod NextLaws
-pub mod HeadingLaws
 pub mod LoopLaws

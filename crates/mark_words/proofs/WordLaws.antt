@@ -4,7 +4,7 @@ use mathlib.Core.List.{List, [], _∷_, map}
 use mathlib.Core.Logic.{⊎-elim}
 use mathlib.Core.Path.{_≡_, refl, sym, ap, ap₂, _∙_}
 use Prim.Native.Nat.{ℕ, zero, suc, _+_, _-_, _*_, _/_, _%_, _^_, _<_, _≤_, min, max}
-use native.Mathlib.Nat.{pow-suc, div-div-eq-div-mul, zero-div, mul-comm, not-suc-le-zero, le-of-suc-le-suc, one-mul, mod-eq-of-lt, zero-add, suc-add, div-add-mod', div-one, lt-of-lt-of-le, lt-of-le-of-lt}
+use native.Mathlib.Nat.{pow-suc, div-div-eq-div-mul, zero-div, mul-comm, one-mul, mod-eq-of-lt, zero-add, suc-add, div-add-mod', div-one, lt-of-lt-of-le, lt-of-le-of-lt}
 use lib.Pow.{pow-lt, pow-mono, shr-shr}
 use lib.Count.{ones, onesIn, ones-step}
 use native.Mathlib.Omega.{arith}
@@ -12,8 +12,8 @@ use lib.Dec.{eqb}
 use borrow.Author.Needs.{needs}
 use mir.Val.{Fits}
 use mir.Syntax.{w64}
-use lib.Bits.{bitAnd, bitOr, bitXor, differ, and-step, or-step, xor-step, and-zero-r, or-zero-r, or-shr, and-shr, and-mod, xor-mod, and-le-l, and-mask}
-use lib.ListN.{length, take, drop, getD, set, replicate, getD-replicate, List·getD-eq-default}
+use lib.Bits.{bitAnd, bitOr, bitXor, differ, and-step, or-step, xor-step, and-zero-r, or-shr, and-shr, and-mod, xor-mod, and-le-l, and-mask}
+use lib.ListN.{length, take, drop, getD, replicate, getD-replicate, List·getD-eq-default}
 use Rattle.definitions.specs.Limits.{wordMarks}
 use Rattle.definitions.specs.Bounded.{bit, bitOf, tabulateFrom}
 use Rattle.definitions.specs.Readings.{marksWord}

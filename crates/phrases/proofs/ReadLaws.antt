@@ -1,26 +1,26 @@
 -- Laws of the reader's cycle: a law for each call and each return.
 use mathlib.Core.Path.{_≡_, refl, ap, sym, _∙_}
-use Prim.Native.Nat.{ℕ, zero, suc, _+_, _-_, _*_, _<_, _≤_}
+use Prim.Native.Nat.{ℕ, suc, _+_, _-_, _*_, _<_, _≤_}
 use native.Mathlib.Omega.{arith}
 use native.Mathlib.Numerals.{add-one}
 use native.Mathlib.Decide.{decLt}
-use mathlib.Core.Bool.{Bool, true, false, true≢false}
-use mathlib.Core.List.{List, [], _∷_, _++_, map, append-assoc}
-use lib.ListN.{length, getD, set, take, length-append, length-map, length-take, List·getD-eq-default}
+use mathlib.Core.Bool.{true, false, true≢false}
+use mathlib.Core.List.{List, [], _∷_, _++_, append-assoc}
+use lib.ListN.{length, getD, set, take, length-map, length-take, List·getD-eq-default}
 use lib.Seq.{getD-take}
 use lib.Dec.{eqb}
 use mir.Syntax.{w64}
 use mir.Val.{Fits}
 use borrow.Author.Needs.{needs}
-use Rattle.definitions.specs.Limits.{maxRuleNodes, maxLineBytes}
+use Rattle.definitions.specs.Limits.{maxRuleNodes}
 use Rattle.definitions.specs.Bounded.{pick}
 use Rattle.definitions.specs.Nodes as table
 use Rattle.definitions.specs.Nodes.{Node, node, nodeWord, operandSpan}
 use Rattle.definitions.specs.OneLineSigns.{Sign, truth, atom, before, between, opening, closing, Prefix, Not, Next, Prev, Future, Always, Infix, Implies, Or, And, Until, Since}
 use Rattle.definitions.specs.OneLineGrammar.{Tree, always, reading, one, two, Level, Arrows, Ors, Ands, Untils, Prefixes, Primaries, Phrase, arrow, noArrow, or, noOr, and, noAnd, until, since, noUntil, prefix, noPrefix, isTrue, isAtom, bracketed, larger, mostOpen}
-use Rattle.definitions.specs.OneLineNodes.{Formula, formulaOf, size, nodesFrom}
+use Rattle.definitions.specs.OneLineNodes.{formulaOf, size, nodesFrom}
 use Rattle.theorems.proofs.Choice.{by-test}
-use Rattle.theorems.proofs.Phrases.{flat, operand, operator, tight, signStrength, tight-most, prefixNodes, infixNodes, signNodes, weight, phrase-flat, phrase-shorter, phrase-weight, larger-second, most-grows, Opened, phrase-opened}
+use Rattle.theorems.proofs.Phrases.{flat, operand, operator, tight, signStrength, tight-most, prefixNodes, infixNodes, signNodes, weight, phrase-flat, phrase-shorter, phrase-weight, larger-second, most-grows, phrase-opened}
 use Rattle.theorems.proofs.OneLineTables.{nodes-size, size-some}
 use Rattle.signs.specs.Codes.{signOf, ahead}
 use Rattle.signs.proofs.CodeLaws.{by-code, atom-sign, ahead-cons, ahead-none, ahead-length, code-inside}

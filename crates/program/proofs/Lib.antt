@@ -1,4 +1,3 @@
-pub mod SplitLaws
 pub mod TableLaws
 pub mod RecordingAccepted
 pub mod OutputLaws

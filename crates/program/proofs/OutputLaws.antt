@@ -25,16 +25,16 @@ use Rattle.theorems.proofs.RoundTrips.{read-count, read-accepted}
 use Rattle.theorems.proofs.ScheduleIndependence.{Accepted}
 use Rattle.printing.specs.Printing.{laidAt, Printed}
 use Rattle.printing.proofs.PrintLaws.{digits-fit}
-use Rattle.fields.proofs.PartLaws.{part-to-end}
+use Rattle.scanning.proofs.PartLaws.{part-to-end}
 use Rattle.formula_reader.proofs.ReadLaws.{rule-low}
 use Rattle.trace_reader.proofs.ScanLaws.{recording-low}
 use Rattle.joint_text.specs.Joining.{ReadJoint}
 use Rattle.report.specs.Reporting.{maxOutputBytes, reportText}
 use Rattle.program.specs.Judged.{ReportIs}
-use Rattle.program.specs.Splitting.{SplitAt}
+use Rattle.input_split.specs.Splitting.{SplitAt}
 use Rattle.program.specs.Output.{TextsRoom, foundRule, foundRecording, Found, OutputIs}
 use Rattle.report.specs.declared.Report.{Report}
-use Rattle.program.specs.declared.split.Parts.{Parts}
+use Rattle.input_split.specs.declared.split.Parts.{Parts}
 use Rattle.program.proofs.RecordingAccepted.{TextsAccepted, texts-accepted, recording-fine, masks-count, states-count}
 
 -- ---- how long a refusal is

@@ -19,9 +19,9 @@ use Rattle.definitions.specs.Lines.{tab, newline, digits}
 use Rattle.definitions.specs.Program.{yesNo, localWord, ownWord, plainWord, shortWord, localText, verdictsText, ownText, rewrittenText, judgedText}
 use Rattle.theorems.proofs.RewrittenAccepted.{rewritten-size}
 use Rattle.theorems.proofs.ScheduleIndependence.{Accepted}
-use Rattle.projection.specs.Places.{runsIn, Projectable, Countable}
+use Rattle.passes.specs.Places.{runsIn, Projectable, Countable}
 use Rattle.projection.proofs.PlaceLaws.{projectable, countable, local-places, few-local}
-use Rattle.projection.proofs.LengthLaws.{length-of}
+use Rattle.passes.proofs.LengthLaws.{length-of}
 use Rattle.printing.proofs.PrintLaws.{digits-fit}
 use Rattle.judges.specs.Verdicts.{meant, ownVerdicts}
 use Rattle.judges.specs.declared.verdicts.Verdicts.{Verdicts}

@@ -1,3 +1,2 @@
-pub mod Splitting
 pub mod Judged
 pub mod Output

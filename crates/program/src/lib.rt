@@ -1,4 +1,3 @@
 // The program as a function: from the bytes of its input to the bytes that it prints.
 pub mod judge;
-pub mod split;
 pub mod tables;

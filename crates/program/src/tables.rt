@@ -5,9 +5,9 @@ ghost use Rattle.program.specs.Judged.{RewrittenIs, ReportIs};
 use formulas::limits::Limits;
 use judges::headings::RecordingHeading;
 use judges::headings::RuleHeading;
-use judges::local;
 use judging::rewritten;
 use judging::rewritten::Rewritten;
+use local_judge::local;
 use projection::places::local_length;
 use report::Report;
 

@@ -1,4 +1,2 @@
-pub mod LengthLaws
-pub mod PassLaws
 pub mod PlaceLaws
 pub mod ProjectLaws

@@ -1,5 +1,5 @@
 -- What an accepted recording gives the pass, and what the pass gives of its local trace.
-use mathlib.Core.Path.{_≡_, refl, sym, ap, _∙_}
+use mathlib.Core.Path.{_≡_, refl, ap, _∙_}
 use Prim.Native.Nat.{ℕ, _+_, _-_, _≤_, _<_}
 use native.Mathlib.Omega.{arith}
 use mathlib.Core.List.{List}
@@ -11,11 +11,11 @@ use Rattle.theorems.proofs.RecordingLaws.{Checked, checked}
 use Rattle.theorems.proofs.LastMarks.{last-adds-none}
 use Rattle.theorems.proofs.RunStates.{few-runs}
 use Rattle.lent.specs.Space.{laid}
-use Rattle.projection.specs.declared.pass.Pass.{Pass}
-use Rattle.projection.specs.Passes.{Holds, Passed, Closed, Counted}
-use Rattle.projection.specs.Places.{statesOnly, runsIn, placesIn, Projectable, Countable}
-use Rattle.projection.proofs.LengthLaws.{length-of}
-use Rattle.projection.proofs.PassLaws.{sole, sole-mask, held-length}
+use Rattle.passes.specs.declared.pass.Pass.{Pass}
+use Rattle.passes.specs.Passes.{Holds, Passed, Closed, Counted}
+use Rattle.passes.specs.Places.{statesOnly, runsIn, placesIn, Projectable, Countable}
+use Rattle.passes.proofs.LengthLaws.{length-of}
+use Rattle.passes.proofs.PassLaws.{sole, sole-mask, held-length}
 
 module _ (N mask c : ℕ) (states entry : List ℕ) (held : Pass) (places : List ℕ) (H : Passed N mask c states entry held places) where
   abbrev R : Recording

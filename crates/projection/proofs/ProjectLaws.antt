@@ -1,5 +1,5 @@
 -- Projection as an operation: a law for each return.
-use mathlib.Core.Path.{_≡_, refl, sym, ap, _∙_}
+use mathlib.Core.Path.{_≡_, sym, _∙_}
 use Prim.Native.Nat.{ℕ, _+_, _≤_, _<_}
 use native.Mathlib.Omega.{arith}
 use mathlib.Core.List.{List}
@@ -11,16 +11,16 @@ use Rattle.definitions.specs.Limits.{accepted, maxStates, lentShort, noControll
 use Rattle.definitions.specs.Bounded.{pick, orElse}
 use Rattle.definitions.specs.Recordings.{Recording, recordingOf, recordingRefusal, controllerRefusal}
 use Rattle.definitions.specs.Projection.{localTrace}
-use Rattle.definitions.specs.Operations.{answer, tooShort, projectNumber, projectAnswer, projectPlaces}
+use Rattle.definitions.specs.Operations.{answer, projectNumber, projectAnswer, projectPlaces}
 use Rattle.theorems.proofs.Choice.{accept-yes, or-else-none}
 use Rattle.lent.specs.Space.{laid, cleared}
 use Rattle.lent.proofs.LeftLaws.{laid-past, laid-begins, left-filled, lent-number, lent-full, zeroed-within, zeroed-left}
 use Rattle.traces.specs.Joining.{traceRefusal}
-use Rattle.traces.proofs.CheckLaws.{own-mask}
-use Rattle.projection.specs.Places.{runsIn, placesIn, Projectable}
+use Rattle.state_words.proofs.WordLaws.{own-mask}
+use Rattle.passes.specs.Places.{runsIn, placesIn, Projectable}
 use Rattle.projection.specs.Answers.{answerOf, ProjectIs}
 use Rattle.projection.specs.declared.project.Projection.the-variants.{Places, Refused}
-use Rattle.projection.proofs.LengthLaws.{length-local}
+use Rattle.passes.proofs.LengthLaws.{length-local}
 use Rattle.projection.proofs.PlaceLaws.{projectable, local-places, few-local}
 
 module _ (C N : ℕ) (masks states : List ℕ) (c : ℕ) (entry : List ℕ) (short other r : ℕ) (s : short ≡ pick (ltb (length entry) maxStates) lentShort accepted)

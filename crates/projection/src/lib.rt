@@ -1,4 +1,3 @@
 // Projection: the local trace of one controller (component) of a recording.
-pub mod pass;
 pub mod places;
 pub mod project;

@@ -8,8 +8,8 @@ use formulas::choice::pick_index;
 use formulas::limits::Limits;
 use formulas::limits::Refusal;
 use lent::clear_u32;
+use state_words::masks::mask_at;
 use traces::check::trace_refusal;
-use traces::masks::mask_at;
 
 pub enum Projection {
     Places(usize),

@@ -107,7 +107,7 @@ pub fn judge_local(
 ) -> Judgement
     ensures { λ r. ⌜ judged r ≡ judgeLocalAnswer (ruleOf controller count (now (nodes .entry))) (recordingOf controllers «states_count» (now (masks .entry)) (now (states .entry))) ⌝ }
 {
-    judges::local::judge_local(
+    local_judge::local::judge_local(
         controller,
         count,
         nodes,

@@ -8,18 +8,16 @@ ghost use Rattle.definitions.specs.Operations.{readRuleAnswer, readRuleNodes, w
 ghost use Rattle.definitions.specs.Operations.{readJointHeading, readJointNodes, readJointMasks, readJointStates, readJointPart, projectAnswer, projectPlaces, judgeLocalAnswer};
 ghost use Rattle.definitions.specs.Operations.{evidenceAnswer, evidencePairs, rewriteAnswer, rewriteTable, judgeRecordingAnswer, judgeRecordingRows};
 ghost use Rattle.definitions.specs.OneLine.{readLineAnswer, readLineNodes};
-ghost use Rattle.ragyvosin_c.specs.Values.{heading, partValues, isSet};
+ghost use Rattle.c_values.specs.Values.{heading, partValues, isSet};
+use c_values::values::of_explanation;
+use c_values::values::of_judgement;
+use c_values::values::of_projection;
+use c_values::values::of_recording_read;
+use c_values::values::of_rewriting;
+use c_values::values::of_rule_read;
+use c_values::values::of_rule_written;
 use formulas::choice::pick_index;
 use joint_text::joint::join;
-use values::of_explanation;
-use values::of_judgement;
-use values::of_projection;
-use values::of_recording_read;
-use values::of_rewriting;
-use values::of_rule_read;
-use values::of_rule_written;
-
-mod values;
 
 // Which text a part lies in.
 const RULE_TEXT: usize = 0;

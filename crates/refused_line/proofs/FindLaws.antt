@@ -1,8 +1,8 @@
 -- Laws of the refused line: one for each return, and what its calls ask.
-use mathlib.Core.Path.{_≡_, refl, ap, sym, _∙_}
-use mathlib.Core.Bool.{Bool, true, false}
+use mathlib.Core.Path.{_≡_, ap, sym, _∙_}
+use mathlib.Core.Bool.{true, false}
 use mathlib.Core.List.{List}
-use Prim.Native.Nat.{ℕ, _+_, _-_, _<_, _≤_}
+use Prim.Native.Nat.{ℕ, _-_, _<_, _≤_}
 use native.Mathlib.Omega.{arith}
 use lib.ListN.{length, take, drop, getD, length-take, length-drop}
 use borrow.Author.Needs.{needs}
@@ -11,11 +11,12 @@ use Rattle.definitions.specs.Limits.{lentShort, maxInputBytes, maxRuleNodes, ma
 use Rattle.definitions.specs.Bounded.{pick}
 use Rattle.definitions.specs.RecordingText.{jointNumber, jointPart}
 use Rattle.definitions.specs.Operations.{readJointNumber, readJointHeading, readJointPart}
-use Rattle.fields.proofs.PartLaws.{part-to-end}
-use Rattle.joint_text.specs.Joining.{partOf, Joined}
-use Rattle.joint_text.specs.declared.joint.Found.{Found}
-use Rattle.program.specs.Splitting.{SplitAt}
-use Rattle.program.specs.declared.split.Parts.{Parts}
+use Rattle.scanning.proofs.PartLaws.{part-to-end}
+use Rattle.joint_scan.specs.Scanning.{partOf}
+use Rattle.joint_text.specs.Joining.{Joined}
+use Rattle.joint_scan.specs.declared.scan.Found.{Found}
+use Rattle.input_split.specs.Splitting.{SplitAt}
+use Rattle.input_split.specs.declared.split.Parts.{Parts}
 use Rattle.program.proofs.OutputLaws.{joint-low, rule-counted}
 use Rattle.refused_line.specs.Numbering.{lineNumber, LineStart}
 use Rattle.refused_line.specs.Finding.{Texts, Readable, partLine, textsLine, inputLine}

@@ -4,8 +4,8 @@ ghost use Rattle.refused_line.specs.Finding.{Texts, Readable, textsLine,
 use super::number::line_number;
 use formulas::limits::Limits;
 use formulas::limits::Refusal;
+use input_split::split::split;
 use joint_text::joint::join;
-use program::split::split;
 
 // The text that has the refused line and the line's number in it, or neither: the input is accepted or too long.
 pub enum Line {

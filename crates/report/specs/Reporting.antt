@@ -1,10 +1,10 @@
 -- What is printed of values, line by line.
 use Prim.Native.Nat.{ℕ, _+_, _≤_}
 use mathlib.Core.Path.{_≡_}
-use mathlib.Core.List.{List, [], _∷_, _++_}
+use mathlib.Core.List.{List, _∷_, _++_}
 use lib.ListN.{length, take}
 use Rattle.definitions.specs.Limits.{maxInputBytes}
-use Rattle.definitions.specs.Lines.{tab, newline, digits}
+use Rattle.definitions.specs.Lines.{tab, digits}
 use Rattle.definitions.specs.Program.{ownWord, plainWord, shortWord, localText, verdictsText}
 use Rattle.judges.specs.Verdicts.{meant}
 use Rattle.judges.specs.declared.verdicts.Verdicts.{Verdicts}

@@ -1,17 +1,15 @@
 // What the program prints, line by line: of a refusal, and of an accepted rule and recording. Nothing is decided here.
-ghost use mathlib.Core.List.{[], _∷_, _++_};
 ghost use Prim.Native.Nat.{_+_, _≤_};
 ghost use lib.ListN.{length};
-ghost use Rattle.definitions.specs.Lines.{newline};
-ghost use Rattle.definitions.specs.Program.{ownWord, refusedText};
+ghost use Rattle.definitions.specs.Program.{refusedText};
 ghost use Rattle.printing.specs.Printing.{Printed};
 ghost use Rattle.report.specs.Reporting.{verdictsEnd, Ends, countedLine, ownLine, rewrittenLine, reportText};
-use fields::scan;
 use judges::verdicts::Verdicts;
 use judging::rewritten::Rewritten;
 use printing::put;
 use printing::put_byte;
 use printing::put_field;
+use scanning::scan;
 
 // All that is printed of an accepted rule and recording.
 pub struct Report {

@@ -5,7 +5,7 @@ use mathlib.Core.Path.{_≡_}
 use Prim.Native.Nat.{ℕ, _≤_}
 use lib.ListN.{length}
 use Rattle.definitions.specs.Limits.{accepted, maxTableNodes}
-use Rattle.definitions.specs.Tables.{Rule, nodesIn, ruleOf}
+use Rattle.definitions.specs.Tables.{nodesIn, ruleOf}
 use Rattle.definitions.specs.Nodes.{nodeWord}
 use Rattle.definitions.specs.Rewriting as table
 use Rattle.definitions.specs.Rewriting.{rewriting}
@@ -13,7 +13,7 @@ use Rattle.definitions.specs.Operations.{Answer, left, rewriteAnswer, rewriteTa
 use Rattle.rewriting.specs.declared.rewrite.Rewriting.{Rewriting}
 use Rattle.rewriting.specs.declared.rewrite.Rewriting.the-variants.{Rewritten, Refused}
 use Rattle.images.specs.declared.image.Tops.{Tops}
-use Rattle.images.specs.Emission.{Holds}
+use Rattle.blocks.specs.Emission.{Holds}
 
 -- document 01's number and values for each case
 abbrev pub answerOf : Rewriting → Answer

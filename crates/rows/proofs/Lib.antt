@@ -1,3 +1,2 @@
 pub mod PackedLaws
 pub mod RowLaws
-pub mod StoredLaws

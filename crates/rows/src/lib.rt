@@ -1,3 +1,2 @@
-// Rows of marks and their operators, computed on whole words, and rows in lent space.
+// Rows of marks and their operators, computed on whole words.
 pub mod row;
-pub mod stored;

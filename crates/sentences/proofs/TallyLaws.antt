@@ -10,13 +10,13 @@ use lib.Dec.{eqb, ltb, leb}
 use borrow.Author.Needs.{needs}
 use mir.Syntax.{w64}
 use mir.Val.{Fits}
-use borrow.Author.Tests.{eq-eqb, ne-eqb, lt-ltb, le-ltb, ltb-true, ltb-false}
-use Rattle.definitions.specs.Limits.{accepted, atomCount, maxControllers, maxRuleNodes, maxOpenBrackets, maxLineBytes, ruleLimits, lineForm, bracketsDeep}
+use borrow.Author.Tests.{ne-eqb, lt-ltb, le-ltb}
+use Rattle.definitions.specs.Limits.{accepted, maxControllers, maxRuleNodes, maxOpenBrackets, maxLineBytes, ruleLimits, lineForm, bracketsDeep}
 use Rattle.definitions.specs.Bounded.{pick}
-use Rattle.definitions.specs.OneLineSigns.{Sign, truth, atom, before, between, opening, closing, Prefix, Not, Next, Prev, Future, Always, Infix, Implies, Or, And, Until, Since}
+use Rattle.definitions.specs.OneLineSigns.{Sign, truth, atom, before, between, opening, closing, Not, Next, Prev, Future, Always, Implies, Or, And, Until, Since}
 use Rattle.definitions.specs.OneLineGrammar.{larger, mostOpen, openAtOnce}
-use Rattle.theorems.proofs.Choice.{by-test, pick-true, pick-false}
-use Rattle.theorems.proofs.Phrases.{Due, operand, operator, flat, prefixNodes, infixNodes, signNodes, weight, signLow, lowAtoms, larger-first, larger-second}
+use Rattle.theorems.proofs.Choice.{pick-false}
+use Rattle.theorems.proofs.Phrases.{Due, operand, operator, flat, prefixNodes, infixNodes, signNodes, weight, signLow, lowAtoms, larger-second}
 use Rattle.theorems.proofs.FlatRefusal.{flatRefusal}
 use Rattle.signs.specs.Codes.{signOf, signs, ahead}
 use Rattle.signs.proofs.CodeLaws.{by-code, code-low, atom-sign, ahead-cons, ahead-none, ahead-all}

@@ -1,18 +1,17 @@
 -- Laws of the reader of a line's signs: one for each return and each turn.
 use mathlib.Core.Path.{_≡_, refl, sym, ap, _∙_}
-use Prim.Native.Nat.{ℕ, zero, suc, _+_, _-_, _<_, _≤_}
+use Prim.Native.Nat.{ℕ, suc, _+_, _-_, _<_, _≤_}
 use native.Mathlib.Omega.{arith}
-use native.Mathlib.Numerals.{add-one}
 use mathlib.Core.List.{List, [], _∷_, _++_, append-assoc}
 use lib.ListN.{length, take, drop, set, length-set, length-append, length-drop, drop-of-length-le}
 use lib.Seq.{set-split, take-at, length-take-le}
 use borrow.Author.Needs.{needs}
 use Rattle.definitions.specs.Lines.{Parsed, formed, malformed, onParsed}
 use Rattle.definitions.specs.OneLineSigns.{Sign}
-use Rattle.definitions.specs.OneLineReading.{taken, signFirst, afterSpace, signsOf}
+use Rattle.definitions.specs.OneLineReading.{afterSpace, signsOf}
 use Rattle.theorems.proofs.SignSpelling.{signs-none, signs-empty, signs-last, signs-on}
-use Rattle.signs.specs.Codes.{signOf, signs, capped, cappedSigns}
-use Rattle.signs.specs.Tokens.{Took, TakenAs, SignAt, AfterSpace}
+use Rattle.signs.specs.Codes.{signs, cappedSigns}
+use Rattle.signs.specs.Tokens.{SignAt, AfterSpace}
 use Rattle.signs.specs.Scanning.{Spelt, Scanned}
 use Rattle.signs.specs.declared.token.Token.{Token}
 use Rattle.signs.specs.declared.token.Token.the-variants as token

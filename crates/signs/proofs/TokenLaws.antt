@@ -1,27 +1,27 @@
 -- Laws of the reader of one sign: one for each return.
 use mathlib.Core.Path.{_≡_, refl, sym, ap, _∙_}
-use Prim.Native.Nat.{ℕ, zero, suc, _+_, _-_, _<_, _≤_}
+use Prim.Native.Nat.{ℕ, suc, _+_, _-_, _<_, _≤_}
 use native.Mathlib.Omega.{arith}
 use native.Mathlib.Numerals.{add-one}
-use mathlib.Core.Bool.{Bool, true, false, _&&_, true≢false}
-use mathlib.Core.List.{List, [], _∷_, _++_}
+use mathlib.Core.Bool.{Bool, true, false, true≢false}
+use mathlib.Core.List.{List, [], _∷_}
 use lib.ListN.{length, take, drop, getD, length-drop, drop-of-length-le}
 use lib.Seq.{drop-cons, drop-drop}
-use lib.Dec.{eqb, ltb, leb}
+use lib.Dec.{eqb, ltb}
 use borrow.Author.Needs.{needs}
 use borrow.Author.Tests.{eq-eqb, ne-eqb, eqb-true, eqb-false, le-leb, lt-leb, ltb-true}
 use Rattle.definitions.specs.Limits.{atomCount}
 use Rattle.definitions.specs.Bounded.{pick, within}
-use Rattle.definitions.specs.Lines.{bytes, Parsed, formed, malformed, onParsed, decimal, same}
+use Rattle.definitions.specs.Lines.{Parsed, formed, malformed, onParsed, decimal, same}
 use Rattle.definitions.specs.OneLineSigns.{Sign, truth, atom, between, Implies, space}
 use Rattle.definitions.specs.OneLineReading as reading
 use Rattle.definitions.specs.OneLineReading.{past, taken, wordSigns, signAmong, digitsAhead, atomFirst, signFirst, afterSpace}
-use Rattle.theorems.proofs.Choice.{by-test, pick-true, pick-false, both-true}
+use Rattle.theorems.proofs.Choice.{by-test, pick-true, pick-false}
 use Rattle.theorems.proofs.SignSpelling.{past-begins}
 use Rattle.fields.specs.Fields.{largest, cap, capped as cappedField}
 use Rattle.fields.specs.declared.number.Field.{Field}
 use Rattle.fields.specs.declared.number.Field.the-variants.{Number, Malformed}
-use Rattle.fields.proofs.FieldLaws.{Read, capped-read, capped-malformed}
+use Rattle.fields.proofs.FieldLaws.{capped-read, capped-malformed}
 use Rattle.signs.specs.Codes.{signOf, capAtom, atomCode, capped}
 use Rattle.signs.specs.Tokens.{NoSingle, Single, Begun, DigitsEnd, Took, TakenAs, AtomAt, SignAt, AfterSpace}
 use Rattle.signs.specs.declared.token.Token.{Token}

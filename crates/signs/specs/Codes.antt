@@ -5,7 +5,7 @@ use lib.Dec.{ltb}
 use lib.ListN.{drop}
 use Rattle.definitions.specs.Limits.{atomCount}
 use Rattle.definitions.specs.Bounded.{pick}
-use Rattle.definitions.specs.OneLineSigns.{Sign, truth, atom, before, between, opening, closing, Prefix, Not, Next, Prev, Future, Always, Infix, Implies, Or, And, Until, Since}
+use Rattle.definitions.specs.OneLineSigns.{Sign, truth, atom, before, between, opening, closing, Not, Next, Prev, Future, Always, Implies, Or, And, Until, Since}
 
 -- the sign of a code
 unfoldable pub signOf : ℕ → Sign

@@ -1,15 +1,14 @@
 // One sign of a line.
 ghost use mathlib.Core.Path.{_≡_};
 ghost use Prim.Native.Nat.{_+_, _≤_, _<_};
-ghost use mathlib.Core.List.{[], _∷_};
-ghost use lib.ListN.{length, drop};
+ghost use lib.ListN.{length};
 ghost use Rattle.signs.specs.Codes.{atomCode};
 ghost use Rattle.signs.specs.Tokens.{Single, Begun, DigitsEnd, AtomAt, SignAt, AfterSpace};
 use super::sign::Sign;
 use fields::number;
 use fields::number::Field;
-use fields::scan;
 use formulas::limits::Limits;
+use scanning::scan;
 
 // The code of a sign and the place after it, where one stands there.
 pub enum Token {

@@ -6,7 +6,6 @@ use lib.Dec.{ltb}
 use lib.Pow.{pow-mono}
 use borrow.Author.Tests.{ltb-false}
 use Rattle.definitions.specs.Limits.{accepted, maxControllers, twoDigitControllers}
-use Rattle.definitions.specs.Bounded.{pick}
 use Rattle.definitions.specs.Tables.{Rule, nodesIn}
 use Rattle.definitions.specs.Recordings.{Recording, maskOf}
 use Rattle.definitions.specs.RecordingText.{markDigits}

@@ -1,7 +1,7 @@
 -- The promise of the readings behind a verdict: every local trace with those bits gets the same verdict. A settled verdict (strong yes, weak no) stays
 -- even on every longer one.
 use mathlib.Core.Path.{_≡_, refl, sym, ap, _∙_}
-use Prim.Native.Nat.{ℕ, zero, suc, _+_, _-_, _≤_, _<_}
+use Prim.Native.Nat.{ℕ, zero, suc, _-_, _≤_, _<_}
 use native.Mathlib.Nat.{zero-add}
 use native.Mathlib.Omega.{arith}
 use mathlib.Core.Bool.{Bool, true, false, not, _||_, or-true, true≢false}

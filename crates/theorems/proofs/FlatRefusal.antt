@@ -1,23 +1,23 @@
 -- The refusal of a list of signs, found without its tree: by the flat reading, and by counting over the signs.
-use mathlib.Core.Path.{_≡_, refl, sym, ap, _∙_}
-use Prim.Native.Nat.{ℕ, _+_, _<_, _≤_}
+use mathlib.Core.Path.{_≡_, refl, sym, _∙_}
+use Prim.Native.Nat.{ℕ}
 use native.Mathlib.Omega.{arith}
 use mathlib.Core.Bool.{Bool, true, false, not, _&&_, _||_}
-use mathlib.Core.List.{List, []}
+use mathlib.Core.List.{List}
 use lib.ListN.{length}
 use lib.Dec.{ltb, leb}
 use borrow.Author.Tests.{ltb-true, ltb-false, le-leb, lt-leb}
 use Rattle.definitions.specs.Limits.{accepted, atomCount, maxControllers, maxRuleNodes, maxOpenBrackets, ruleLimits, lineForm, bracketsDeep}
 use Rattle.definitions.specs.Bounded.{pick}
-use Rattle.definitions.specs.Lines.{formed, malformed, onParsed}
+use Rattle.definitions.specs.Lines.{onParsed}
 use Rattle.definitions.specs.OneLineSigns.{Sign}
 use Rattle.definitions.specs.OneLineGrammar.{Tree, Sentence, openAtOnce}
-use Rattle.definitions.specs.OneLineNodes.{formulaOf, size, nodesOf, largestAtom}
+use Rattle.definitions.specs.OneLineNodes.{formulaOf, nodesOf, largestAtom}
 use Rattle.definitions.specs.OneLineReading.{treeOf}
 use Rattle.definitions.specs.OneLine.{sentenceRefusal}
 use Rattle.theorems.proofs.Choice.{by-test}
 use Rattle.theorems.proofs.Phrases.{flat, operand, weight, lowAtoms, phrase-weight, phrase-low}
-use Rattle.theorems.proofs.SentenceTrees.{flat-no-tree, Derived, flat-tree}
+use Rattle.theorems.proofs.SentenceTrees.{flat-no-tree, flat-tree}
 use Rattle.theorems.proofs.OneLineTables.{nodes-size}
 
 -- 15, 16, 2 or 0

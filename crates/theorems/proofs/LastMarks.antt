@@ -4,7 +4,7 @@ use mathlib.Core.Path.{_≡_, ap, _∙_, fun-ext}
 use Prim.Native.Nat.{ℕ, suc, _-_, _<_}
 use native.Mathlib.Omega.{arith}
 use native.Mathlib.Decide.{decLt}
-use mathlib.Core.Bool.{Bool, false, _&&_}
+use mathlib.Core.Bool.{Bool, false}
 use mathlib.Core.List.{List, append-nil}
 use lib.Dec.{ltb}
 use lib.ListN.{getD}

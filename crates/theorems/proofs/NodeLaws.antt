@@ -79,7 +79,7 @@ module _ (i : ℕ) (n : Node) (g : AcceptedNode i n) (few : i ≤ maxRuleNodes) 
       (λ a. omega (arith, below-where (ltb 1 (operands (n .kind))) i (n .second) (late-parts a .1) z)))
       (λ z. let o = ltb-false 1 (operands (n .kind)) z in omega (arith, second-unused n (g .unused) (omega arith)))
 
--- "a count, controller outside its limits" is not so of an accepted heading
+-- an accepted heading has its count and its controller within their limits
 pub accepted-heading : (c n : ℕ) → ruleHeadingRefusal c n ≡ 0 → (c < maxControllers) × ((1 ≤ n) × (n ≤ maxRuleNodes))
 unfolding ruleHeadingRefusal
 accepted-heading c n e =

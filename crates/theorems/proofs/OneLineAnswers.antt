@@ -4,25 +4,24 @@ use mathlib.Core.Path.{_≡_, refl, sym, ap, _∙_}
 use Prim.Native.Nat.{ℕ, _+_, _-_, _<_, _≤_}
 use native.Mathlib.Omega.{arith}
 use mathlib.Core.Bool.{Bool, true, false, _||_}
-use mathlib.Core.List.{List, [], _∷_, _++_, map}
+use mathlib.Core.List.{List, [], _++_, map}
 use lib.ListN.{length, take, drop, replicate, length-map}
 use lib.Seq.{take-at}
 use lib.Dec.{eqb, ltb, leb}
 use borrow.Author.Tests.{eq-eqb, lt-ltb, le-ltb, ltb-true, ltb-false, le-leb, lt-leb, leb-true, leb-false}
-use Rattle.definitions.specs.Limits.{maxControllers, atomCount, maxRuleNodes, maxRuleBytes, maxLineBytes, maxOpenBrackets, ruleLimits, lineForm, bracketsDeep, accepted, lentShort}
-use Rattle.definitions.specs.Bounded.{pick}
-use Rattle.definitions.specs.Nodes.{Node, nodeWord}
+use Rattle.definitions.specs.Limits.{maxControllers, atomCount, maxRuleNodes, maxLineBytes, maxOpenBrackets, ruleLimits, lineForm, bracketsDeep, accepted, lentShort}
+use Rattle.definitions.specs.Nodes.{nodeWord}
 use Rattle.definitions.specs.Tables.{Rule, ruleRefusal}
 use Rattle.definitions.specs.Lines.{Parsed, formed, malformed, onParsed}
 use Rattle.definitions.specs.RuleText.{scanRule, ruleText}
-use Rattle.definitions.specs.Operations.{tooShort, left, textOf, writeRuleNumber}
+use Rattle.definitions.specs.Operations.{tooShort, textOf}
 use Rattle.definitions.specs.OneLineSigns.{Sign, Spells}
 use Rattle.definitions.specs.OneLineGrammar.{Tree, Sentence, openAtOnce}
 use Rattle.definitions.specs.OneLineNodes.{nodesOf, largestAtom}
 use Rattle.definitions.specs.OneLineReading.{signsOf, treeOf}
 use Rattle.definitions.specs.LinePrograms.{refusalOr}
 use Rattle.definitions.specs.OneLine.{sentenceRefusal, lineRefusal, lineNodes, readLineNumber, readLineNodes, lineOutput}
-use Rattle.theorems.proofs.Choice.{by-test, both-false, pick-true, pick-false, pick-other}
+use Rattle.theorems.proofs.Choice.{by-test, pick-true, pick-false, pick-other}
 use Rattle.theorems.proofs.Inversions.{formed-same, never-formed}
 use Rattle.theorems.proofs.LentSpace.{left-accepted}
 use Rattle.theorems.proofs.RoundTrips.{written-then-read}

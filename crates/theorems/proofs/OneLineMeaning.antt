@@ -1,12 +1,12 @@
 -- What a rule in one line means, by the readings of document 01: the verdict of its table is its own reading, and `F`, `G`, `&` and `->` read as people take them.
 use mathlib.Core.Path.{_≡_, refl, sym, ap, fun-ext, _∙_}
-use Prim.Native.Nat.{ℕ, zero, suc, _+_, _-_, _<_, _≤_}
+use Prim.Native.Nat.{ℕ, zero, suc, _+_, _-_, _<_}
 use native.Mathlib.Omega.{arith}
 use mathlib.Core.Bool.{Bool, true, false, not, _&&_, _||_}
-use mathlib.Core.List.{List, [], _∷_, _++_}
+use mathlib.Core.List.{[]}
 use lib.ListN.{length}
 use Rattle.definitions.specs.Bounded.{someOf, everyOf, some, every}
-use Rattle.definitions.specs.Nodes.{Kind, True, Atom, Not, Or, Next, Until, Prev, Since, Node, node}
+use Rattle.definitions.specs.Nodes.{True, Atom, Not, Or, Next, Until, Prev, Since}
 use Rattle.definitions.specs.Readings.{Trace, reading, verdict}
 use Rattle.definitions.specs.OneLineSigns as sign
 use Rattle.definitions.specs.OneLineGrammar as tree
@@ -14,7 +14,7 @@ use Rattle.definitions.specs.OneLineGrammar.{Tree}
 use Rattle.definitions.specs.OneLineNodes as formula
 use Rattle.definitions.specs.OneLineNodes.{Formula, leaf, unary, binary, negation, prefixed, joined, formulaOf, nodesFrom, nodesOf}
 use Rattle.theorems.proofs.Recursions.{some-cong}
-use Rattle.theorems.proofs.Semantics.{Row, noRow, ev, val, reading-is, verdict-is}
+use Rattle.theorems.proofs.Semantics.{Row, noRow, reading-is, verdict-is}
 use Rattle.theorems.proofs.Terms.{Unary, not₁, next₁, prev₁, Binary, or₂, until₂, since₂, Term, yes₀, atom₀, one, two, kind₁, kind₂, op₁, op₂, den, comp, top, Below, comp-den, size, above, topFrom, code, top-last, comp-code}
 
 -- ---- the reading of a formula

@@ -1,27 +1,26 @@
 -- The table of a rule in one line: as many nodes as its size, and a rule's table that is accepted.
-use mathlib.Core.Path.{_≡_, refl, sym, ap, _∙_}
-use Prim.Native.Nat.{ℕ, zero, suc, _+_, _-_, _<_, _≤_}
+use mathlib.Core.Path.{_≡_, refl}
+use Prim.Native.Nat.{ℕ, suc, _+_, _-_, _<_, _≤_}
 use native.Mathlib.Omega.{arith}
 use native.Mathlib.Numerals.{add-one}
-use mathlib.Core.Bool.{Bool, true, false}
+use mathlib.Core.Bool.{true, false}
 use mathlib.Core.List.{List, [], _∷_, _++_, map}
 use lib.ListN.{length, length-append}
-use lib.Dec.{ltb}
-use borrow.Author.Tests.{lt-ltb, ltb-true, ltb-false, le-leb}
+use borrow.Author.Tests.{lt-ltb, le-leb}
 use Rattle.definitions.specs.Limits.{atomCount, maxControllers, maxRuleNodes, ruleLimits}
 use Rattle.definitions.specs.Bounded.{pick, orElse}
-use Rattle.definitions.specs.Nodes.{Kind, True, Atom, Not, Or, Next, Until, Prev, Since, Node, node, nodeWord, operandSpan}
-use Rattle.definitions.specs.Tables.{Rule, isRewritten, nodeRefusal, nodesRefusal, ruleHeadingRefusal, ruleRefusal}
+use Rattle.definitions.specs.Nodes.{Not, Or, Next, Until, Prev, Since, Node, node, nodeWord}
+use Rattle.definitions.specs.Tables.{isRewritten, nodeRefusal, nodesRefusal, ruleHeadingRefusal, ruleRefusal}
 use Rattle.definitions.specs.OneLineSigns as sign
 use Rattle.definitions.specs.OneLineGrammar as tree
-use Rattle.definitions.specs.OneLineGrammar.{Tree, larger}
+use Rattle.definitions.specs.OneLineGrammar.{Tree}
 use Rattle.definitions.specs.OneLineNodes.{Formula, leaf, unary, binary, formulaOf, size, nodesFrom, nodesOf, largestAtom}
-use Rattle.theorems.proofs.Choice.{by-test, pick-true, none-or-else}
+use Rattle.theorems.proofs.Choice.{pick-true, none-or-else}
 use Rattle.theorems.proofs.NodeWords.{node-of-word, AllHeld}
 use Rattle.theorems.proofs.TableNodes.{TableNodes, nodes-append, nodes-held, node-accepted}
 use Rattle.theorems.proofs.Terms.{Unary, not₁, next₁, prev₁, Binary, or₂, until₂, since₂, kind₁, kind₂, Term}
 use Rattle.theorems.proofs.Phrases.{larger-second, larger-first}
-use Rattle.theorems.proofs.OneLineMeaning.{Writes, writes-true, writes-atom, writes-one, writes-two, termOf, tree-writes}
+use Rattle.theorems.proofs.OneLineMeaning.{Writes, writes-true, writes-atom, writes-one, writes-two, tree-writes}
 
 -- as many nodes come out as the size says
 pub nodes-size : (f : Formula) (b : ℕ) → length (nodesFrom b f) ≡ size f

@@ -1,13 +1,13 @@
 -- The local trace of a recording with one state more: a run in the state before it has a result now. That state's whole word takes the last
 -- place, and a new last place follows; without a run nothing changes.
 use mathlib.Core.Path.{_≡_, refl, sym, ap, _∙_}
-use Prim.Native.Nat.{ℕ, zero, suc, _+_, _-_, _≤_, _<_}
+use Prim.Native.Nat.{ℕ, suc, _+_, _-_, _<_}
 use native.Mathlib.Omega.{arith}
 use native.Mathlib.Numerals.{add-one}
 use mathlib.Core.Bool.{Bool, true, false}
 use mathlib.Core.List.{List, [], _∷_, _++_, map, map-append, append-assoc}
 use lib.Bits.{bitAnd}
-use lib.ListN.{length, take, getD, length-append, length-map}
+use lib.ListN.{length, take, getD, length-append}
 use lib.Seq.{take-take, take-at, getD-take}
 use borrow.Author.Tests.{lt-ltb}
 use Rattle.definitions.specs.Bounded.{tabulate}

@@ -18,7 +18,7 @@ pub record States (run st : ℕ → Bool) (e : ℕ) : Type 0 where
   pub past : (k : ℕ) → e < k → st k ≡ false
 
 module _ (run st : ℕ → Bool) (e N : ℕ) (s : States run st e) (l : e < N) where
-  -- "no state until a state with h": h at the next state, and no where there is none
+  -- no *state* until a *state* with h: h at the next one, and no where there is none
   module _ (h lo : ℕ → Bool)
       (at : (k : ℕ) → k ≤ e → st k ≡ true → h k ≡ lo (count run k))
       (off : (k : ℕ) → st k ≡ false → h k ≡ false) where
@@ -71,7 +71,7 @@ module _ (run st : ℕ → Bool) (e N : ℕ) (s : States run st e) (l : e < N) w
     unfolding glo loc
     until-is = down run e glo loc until-last until-skip until-run
 
--- prev: "c has not run since a run with h", before state k
+-- prev: c has not run since a run with h, before state k
 module _ (run : ℕ → Bool) (e : ℕ) where
   module _ (h lo : ℕ → Bool)
       (at : (k : ℕ) → k < e → run k ≡ true → h k ≡ lo (count run k))

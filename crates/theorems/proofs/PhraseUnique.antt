@@ -1,9 +1,9 @@
 -- The reading is unique: the steps of a reader from left to right, which are determined by the signs, follow every phrase.
-use mathlib.Core.Path.{_≡_, refl, sym}
-use Prim.Native.Nat.{ℕ, zero, suc, _<_}
+use mathlib.Core.Path.{_≡_, refl}
+use Prim.Native.Nat.{ℕ, _<_}
 use native.Mathlib.Omega.{arith}
-use mathlib.Core.List.{List, [], _∷_}
-use Rattle.definitions.specs.OneLineSigns.{Sign, truth, atom, before, between, opening, closing, Prefix, Infix, Implies, Or, And, Until, Since}
+use mathlib.Core.List.{List, _∷_}
+use Rattle.definitions.specs.OneLineSigns.{Sign, truth, atom, before, between, opening, closing, Prefix, Implies, Or, And, Until, Since}
 use Rattle.definitions.specs.OneLineGrammar.{Tree, always, reading, one, two, Level, Arrows, Ors, Ands, Untils, Prefixes, Primaries, Phrase, arrow, noArrow, or, noOr, and, noAnd, until, since, noUntil, prefix, noPrefix, isTrue, isAtom, bracketed, Sentence}
 use Rattle.theorems.proofs.Phrases.{tight}
 

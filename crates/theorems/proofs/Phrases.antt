@@ -1,17 +1,17 @@
 -- Phrases of the grammar: what comes after them is shorter; their nodes, atoms and brackets are counted by their signs; and
 -- a flat reading goes through them, in which only an operand or an operator is due and brackets are counted.
-use mathlib.Core.Path.{_≡_, refl, sym, ap, _∙_}
+use mathlib.Core.Path.{_≡_, refl, _∙_}
 use Prim.Native.Nat.{ℕ, zero, suc, _+_, _-_, _<_, _≤_}
 use native.Mathlib.Omega.{arith}
 use mathlib.Core.Bool.{Bool, true, false, _&&_}
 use mathlib.Core.List.{List, [], _∷_}
 use lib.ListN.{length}
 use lib.Dec.{ltb}
-use borrow.Author.Tests.{lt-ltb, le-ltb, ltb-true, ltb-false}
+use borrow.Author.Tests.{lt-ltb, ltb-true, ltb-false}
 use Rattle.definitions.specs.Limits.{atomCount}
 use Rattle.definitions.specs.Bounded.{pick}
 use Rattle.definitions.specs.OneLineSigns.{Sign, truth, atom, before, between, opening, closing, Prefix, Not, Next, Prev, Future, Always, Infix, Implies, Or, And, Until, Since}
-use Rattle.definitions.specs.OneLineGrammar.{Tree, always, reading, one, two, Level, Phrase, arrow, noArrow, or, noOr, and, noAnd, until, since, noUntil, prefix, noPrefix, isTrue, isAtom, bracketed, larger, mostOpen}
+use Rattle.definitions.specs.OneLineGrammar.{Tree, one, two, Level, Phrase, arrow, noArrow, or, noOr, and, noAnd, until, since, noUntil, prefix, noPrefix, isTrue, isAtom, bracketed, larger, mostOpen}
 use Rattle.definitions.specs.OneLineNodes.{formulaOf, size, largestAtom}
 use Rattle.definitions.specs.OneLineReading.{strength}
 use Rattle.theorems.proofs.Choice.{by-test}

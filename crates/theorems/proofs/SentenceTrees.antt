@@ -2,15 +2,15 @@
 use mathlib.Core.Path.{_≡_, refl, sym, ap, _∙_}
 use Prim.Native.Nat.{ℕ, zero, suc, _+_, _*_, _<_, _≤_}
 use native.Mathlib.Omega.{arith}
-use mathlib.Core.Bool.{Bool, true, false, true≢false}
+use mathlib.Core.Bool.{true, false, true≢false}
 use mathlib.Core.List.{List, [], _∷_}
 use lib.ListN.{length}
-use lib.Dec.{eqb, leb}
+use lib.Dec.{leb}
 use borrow.Author.Tests.{leb-true, leb-false, ne-eqb}
 use Rattle.definitions.specs.Bounded.{pick}
 use Rattle.definitions.specs.Lines.{Parsed, formed, malformed, onParsed}
-use Rattle.definitions.specs.OneLineSigns.{Sign, truth, atom, before, between, opening, closing, Prefix, Infix, Implies, Or, And, Until, Since}
-use Rattle.definitions.specs.OneLineGrammar.{Tree, always, reading, one, two, Level, Arrows, Ors, Ands, Untils, Prefixes, Primaries, Phrase, arrow, noArrow, or, noOr, and, noAnd, until, since, noUntil, prefix, noPrefix, isTrue, isAtom, bracketed, Sentence}
+use Rattle.definitions.specs.OneLineSigns.{Sign, truth, atom, before, between, opening, closing, Infix, Implies, Or, And, Until, Since}
+use Rattle.definitions.specs.OneLineGrammar.{Tree, always, reading, one, two, Level, Arrows, Ors, Ands, Untils, Prefixes, Phrase, arrow, noArrow, or, noOr, and, noAnd, until, since, noUntil, prefix, noPrefix, isTrue, isAtom, bracketed, Sentence}
 use Rattle.definitions.specs.OneLineReading.{Grown, grown, strength, rightStrength, closed, operandBy, ruleBy, ruleOn, whole, treeOf}
 use Rattle.theorems.proofs.Choice.{by-test}
 use Rattle.theorems.proofs.Inversions.{never-formed, formed-same}

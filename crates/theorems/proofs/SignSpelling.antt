@@ -2,18 +2,18 @@
 use mathlib.Core.Path.{_≡_, refl, sym, ap, _∙_}
 use Prim.Native.Nat.{ℕ, zero, suc, _+_, _/_, _%_, _<_, _≤_}
 use native.Mathlib.Omega.{arith}
-use mathlib.Core.Bool.{Bool, true, false, _&&_}
+use mathlib.Core.Bool.{false}
 use mathlib.Core.List.{List, [], _∷_, _++_, append-assoc, append-nil}
 use lib.ListN.{length, take, drop, length-append, take-append-drop}
 use lib.Seq.{take-at, drop-at}
-use lib.Dec.{eqb, ltb, leb}
-use borrow.Author.Tests.{eqb-true, ne-eqb, le-leb, lt-leb, leb-true, ltb-true, ltb-false}
+use lib.Dec.{eqb, ltb}
+use borrow.Author.Tests.{eqb-true, ne-eqb, le-leb, ltb-true, ltb-false}
 use Rattle.definitions.specs.Bounded.{pick, within}
 use Rattle.definitions.specs.Lines.{bytes, isEmpty, Parsed, formed, malformed, onParsed, decimal, digits}
-use Rattle.definitions.specs.OneLineSigns.{Prefix, Not, Next, Prev, Future, Always, Infix, Implies, Or, And, Until, Since, Sign, truth, atom, before, between, opening, closing, signBytes, space, Spells, last, next, spaced}
+use Rattle.definitions.specs.OneLineSigns.{Not, Next, Prev, Future, Always, Implies, Or, And, Until, Since, Sign, truth, atom, before, between, opening, closing, signBytes, space, Spells, last, next, spaced}
 use Rattle.definitions.specs.OneLineReading.{past, Taken, taken, wordSigns, signAmong, digitsAhead, atomFirst, signFirst, afterSpace, signsBy, signsOf}
-use Rattle.theorems.proofs.Choice.{by-test, both-true, pick-true, pick-false, pick-must, pick-other}
-use Rattle.theorems.proofs.Inversions.{never-formed, formed-same, Formed, parsed-must}
+use Rattle.theorems.proofs.Choice.{by-test, pick-true, pick-false, pick-must}
+use Rattle.theorems.proofs.Inversions.{never-formed, formed-same, parsed-must}
 use Rattle.theorems.proofs.DecimalLaws.{tenth-below, digits-small, digits-step, printed-reads, read-prints}
 
 -- the first byte, 0 where there is none

@@ -3,7 +3,7 @@
 use mathlib.Core.Path.{_≡_, refl, sym, ap, _∙_, subst}
 use Prim.Native.Nat.{ℕ, zero, suc, _+_, _≤_, _<_}
 use native.Mathlib.Omega.{arith}
-use mathlib.Core.Bool.{true, false, _&&_}
+use mathlib.Core.Bool.{true, _&&_}
 use mathlib.Core.List.{List, [], _∷_, _++_}
 use lib.Dec.{eqb, leb}
 use lib.ListN.{length, take, drop}
@@ -12,7 +12,7 @@ use borrow.Author.Tests.{eq-eqb, ltb-true, leb-true, le-leb}
 use Rattle.definitions.specs.Limits.{maxControllers, maxStates, recordingForm, recordingLines, recordingLimits}
 use Rattle.definitions.specs.Bounded.{pick, within}
 use Rattle.definitions.specs.Recordings.{maskRefusal, stateRefusal, recordingHeadingRefusal}
-use Rattle.definitions.specs.Lines.{newline, before, newlineNext, isReturn, lineLength, lineOf, isClosed, restOf, Parsed, formed, heading, read, refused, onNext, nextLine, Scan, more}
+use Rattle.definitions.specs.Lines.{newline, before, newlineNext, isReturn, lineLength, lineOf, isClosed, restOf, Parsed, formed, heading, read, onNext, nextLine, Scan, more}
 use Rattle.definitions.specs.RecordingText.{recordingHeading, maskForm, stateForm, recordingHeadingLine, maskLine, stateLine, scanMasks, scanStates, RecordingScan, recordingStop, recordingStates, recordingMasks, scanRecording}
 use Rattle.definitions.specs.Program.{scanned}
 use Rattle.theorems.proofs.Choice.{by-test, both-true, accept-yes}

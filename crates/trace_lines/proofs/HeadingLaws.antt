@@ -15,13 +15,13 @@ use Rattle.definitions.specs.RecordingText.{recordingWord, recordingHeadingLine
 use Rattle.theorems.proofs.Choice.{both-true, accept-yes}
 use Rattle.theorems.proofs.NextLines.{next-back}
 use Rattle.fields.specs.Fields.{cap}
-use Rattle.lines.specs.Forms.{cappedPair}
+use Rattle.line_forms.specs.Forms.{cappedPair}
 use Rattle.lines.specs.Reading.{endRefusal}
-use Rattle.lines.specs.declared.form.Pair.{Pair}
-use Rattle.lines.specs.declared.form.Pair.the-variants as pair
+use Rattle.line_forms.specs.declared.form.Pair.{Pair}
+use Rattle.line_forms.specs.declared.form.Pair.the-variants as pair
 use Rattle.fields.proofs.FieldLaws.{cap-within-limits, cap-exact}
 use Rattle.lines.proofs.NextLaws.{line-part, line-part-laws, next-unread, end-fine}
-use Rattle.lines.proofs.HeadingLaws.{CapCheck, first-malformed, first-denied, first-read}
+use Rattle.line_forms.proofs.HeadingLaws.{CapCheck, first-malformed, first-denied, first-read}
 use Rattle.trace_lines.specs.NextLines.{headingAnswer}
 use Rattle.trace_lines.specs.declared.HeadingRead.{HeadingRead}
 use Rattle.trace_lines.specs.declared.HeadingRead.the-variants as first

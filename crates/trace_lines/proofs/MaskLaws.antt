@@ -15,7 +15,7 @@ use Rattle.fields.specs.declared.number.Field.{Field}
 use Rattle.fields.specs.declared.number.Field.the-variants as field
 use Rattle.fields.proofs.FieldLaws.{exact-number, exact-malformed}
 use Rattle.lines.proofs.NextLaws.{line-part, line-part-laws, next-unread, end-fine}
-use Rattle.traces.specs.Unions.{unionRefusal}
+use Rattle.state_words.specs.Unions.{unionRefusal}
 use Rattle.trace_lines.specs.NextLines.{maskAnswer, seenLine}
 use Rattle.trace_lines.specs.declared.MaskRead.{MaskRead}
 use Rattle.trace_lines.specs.declared.MaskRead.the-variants as mask

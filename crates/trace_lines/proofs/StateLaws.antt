@@ -13,11 +13,11 @@ use Rattle.definitions.specs.Lines.{lineLength, lineOf, isClosed, restOf, forme
 use Rattle.definitions.specs.RecordingText.{atWord, wordDigits, markDigits, stateForm, stateLine}
 use Rattle.theorems.proofs.Choice.{by-test, pick-true, pick-false}
 use Rattle.theorems.proofs.NextLines.{next-malformed, next-denied, next-read, next-back}
-use Rattle.lines.specs.Forms.{Widths, exactPair}
+use Rattle.line_forms.specs.Forms.{Widths, exactPair}
 use Rattle.lines.specs.Reading.{endRefusal}
-use Rattle.lines.specs.declared.form.Pair.{Pair}
-use Rattle.lines.specs.declared.form.Pair.the-variants as pair
-use Rattle.lines.proofs.FormLaws.{worded-made, exact-pair, exact-pair-malformed}
+use Rattle.line_forms.specs.declared.form.Pair.{Pair}
+use Rattle.line_forms.specs.declared.form.Pair.the-variants as pair
+use Rattle.line_forms.proofs.FormLaws.{worded-made, exact-pair, exact-pair-malformed}
 use Rattle.lines.proofs.NextLaws.{line-part, line-part-laws, next-unread, end-fine}
 use Rattle.trace_lines.specs.NextLines.{stateAnswer}
 use Rattle.trace_lines.specs.declared.StateRead.{StateRead}

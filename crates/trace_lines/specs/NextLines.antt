@@ -5,7 +5,7 @@ use mathlib.Core.List.{List}
 use Rattle.definitions.specs.Limits.{maxControllers, recordingForm, recordingLines}
 use Rattle.definitions.specs.Lines.{lineLength, Heading, NextLine, refused, read, nextLine}
 use Rattle.definitions.specs.RecordingText.{maskForm}
-use Rattle.traces.specs.Unions.{unionRefusal}
+use Rattle.state_words.specs.Unions.{unionRefusal}
 use Rattle.trace_lines.specs.declared.HeadingRead.{HeadingRead}
 use Rattle.trace_lines.specs.declared.HeadingRead.the-variants as first
 use Rattle.trace_lines.specs.declared.MaskRead.{MaskRead}

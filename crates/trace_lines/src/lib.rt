@@ -9,11 +9,11 @@ use fields::number::Field;
 use formulas::choice::pick_index;
 use formulas::limits::Limits;
 use formulas::limits::Refusal;
-use lines::form;
-use lines::form::Pair;
+use line_forms::form;
+use line_forms::form::Pair;
 use lines::next::end_refusal;
+use state_words::masks;
 use traces::check;
-use traces::masks;
 
 // C and N, or the refusal.
 pub enum HeadingRead {

@@ -15,10 +15,10 @@ use Rattle.definitions.specs.Bounded.{pick}
 use Rattle.definitions.specs.Lines.{isEmpty, restOf, more}
 use Rattle.definitions.specs.RecordingText.{stateLine, scanMasks, scanStates}
 use Rattle.theorems.proofs.Choice.{by-test, pick-true, pick-false}
-use Rattle.traces.specs.Unions.{unionOf}
+use Rattle.state_words.specs.Unions.{unionOf}
 use Rattle.lines.specs.Reading.{FirstLine, LinesScanned}
 use Rattle.lines.specs.declared.next.Line.{Line}
-use Rattle.fields.proofs.PartLaws.{part-to-end, empty-yes, empty-no}
+use Rattle.scanning.proofs.PartLaws.{part-to-end, empty-yes, empty-no}
 use Rattle.lines.proofs.LoopLaws.{Lines, lines-none, lines-stop, lines-next, after-line, line-inside}
 use Rattle.trace_lines.specs.NextLines.{maskAnswer, stateAnswer, seenLine}
 use Rattle.trace_lines.specs.declared.MaskRead.{MaskRead}

@@ -15,8 +15,8 @@ use Rattle.definitions.specs.RecordingText.{recordingHeading, maskForm, stateFo
 use Rattle.theorems.proofs.Choice.{by-test, accept-yes}
 use Rattle.theorems.proofs.RefusalBounds.{pick-low}
 use Rattle.theorems.proofs.NextLines.{next-number, next-some, on-next, same-next, same-check}
-use Rattle.traces.specs.Unions.{unionOf, unionRefusal}
-use Rattle.traces.proofs.MaskLaws.{mask-union}
+use Rattle.state_words.specs.Unions.{unionOf, unionRefusal}
+use Rattle.state_words.proofs.MaskLaws.{mask-union}
 use Rattle.traces.proofs.CheckLaws.{state-own}
 use Rattle.lines.proofs.LoopLaws.{Counted, counted-more, counted-stop, counted-end}
 use Rattle.trace_lines.specs.NextLines.{seenLine}

@@ -1,78 +1,38 @@
 -- One law for each return and each turn of the functions of the check, over plain variables.
 use mathlib.Core.Path.{_≡_, refl, sym, _∙_}
-use Prim.Native.Nat.{ℕ, suc, _+_, _-_, _*_, _/_, _%_, _^_, _≤_, _<_, min}
+use Prim.Native.Nat.{ℕ, _+_, _-_, _*_, _%_, _^_, _≤_, _<_, min}
 use native.Mathlib.Omega.{arith}
 use native.Mathlib.Decide.{decLt}
-use native.Mathlib.Numerals.{add-one}
 use mathlib.Core.Bool.{Bool, true, false, not, _&&_, _||_}
 use mathlib.Core.List.{List, [], _∷_}
 use lib.Dec.{eqb, ltb, leb}
-use lib.Bits.{bitAnd, bitOr}
+use lib.Bits.{bitAnd}
 use lib.Pow.{pow-mono}
-use lib.ListN.{length, take, drop, getD, drop-of-length-le, List·getD-eq-default}
-use lib.Seq.{drop-cons, getD-take, take-nil}
+use lib.ListN.{length, take, drop, getD}
+use lib.Seq.{getD-take}
 use borrow.Author.Needs.{needs}
-use borrow.Author.Tests.{ne-eqb, lt-ltb, le-ltb, leb-true, leb-false, lt-leb, le-leb}
-use Rattle.definitions.specs.Limits.{atomCount, maxControllers, maxStates, recordingLimits, masksMeet, recordingLines, outputRule, noController, accepted}
-use Rattle.definitions.specs.Bounded.{pick, bitOf, within, orElse}
-use Rattle.definitions.specs.Recordings.{Recording, stateOf, atomsOf, marksOf, marked, maskOf, outputBroken, stateRefusal, recordingHeadingRefusal, masksRefusal, statesRefusal, recordingLinesRefusal, recordingRefusal, controllerRefusal, recordingOf}
-use Rattle.mark_words.proofs.WordLaws.{bit-shr}
-use Rattle.theorems.proofs.Choice.{accept-yes, both-true, refuse-no}
+use borrow.Author.Tests.{lt-ltb, leb-true, lt-leb, le-leb}
+use Rattle.definitions.specs.Limits.{maxControllers, maxStates, recordingLimits, recordingLines, outputRule, noController, accepted}
+use Rattle.definitions.specs.Bounded.{pick, within, orElse}
+use Rattle.definitions.specs.Recordings.{Recording, stateOf, atomsOf, marksOf, marked, outputBroken, stateRefusal, recordingHeadingRefusal, masksRefusal, statesRefusal, recordingLinesRefusal, recordingRefusal, controllerRefusal, recordingOf}
+use Rattle.theorems.proofs.Choice.{accept-yes, both-true}
 use Rattle.theorems.proofs.Recursions.{some-cong}
 use Rattle.traces.specs.Joining.{traceRefusal}
-use Rattle.traces.specs.Unions.{unionOf, unionRefusal, unionsRefusal}
 use Rattle.traces.specs.Turns.{stepRefusal}
-use Rattle.traces.specs.Held.{heldGroup, heldAt, heldChanged}
-use Rattle.traces.proofs.MaskLaws.{masks-union}
-use Rattle.traces.proofs.HeldLaws.{held-broken}
+use Rattle.held_atoms.specs.Held.{heldGroup, heldAt, heldChanged}
+use Rattle.state_words.proofs.TurnLaws.{or-else-stop, or-else-go, from-next, from-missing, from-end}
+use Rattle.held_atoms.proofs.HeldLaws.{held-broken}
 
 -- ---- choice by a test
-pub pick-yes : (t : Bool) (x y : ℕ) → t ≡ true → x ≡ pick t x y
-unfolding pick
-pick-yes t x y e = rw e
-
-pub pick-no : (t : Bool) (x y : ℕ) → t ≡ false → y ≡ pick t x y
-unfolding pick
-pick-no t x y e = rw e
-
-pub pick-and : (a b : Bool) (x y : ℕ) → pick (a && b) x y ≡ pick a (pick b x y) y
+pick-and : (a b : Bool) (x y : ℕ) → pick (a && b) x y ≡ pick a (pick b x y) y
 unfolding pick
 pick-and true b x y = refl
 pick-and false b x y = refl
 
-pub pick-or : (a b : Bool) (x y : ℕ) → pick (a || b) x y ≡ pick a x (pick b x y)
+pick-or : (a b : Bool) (x y : ℕ) → pick (a || b) x y ≡ pick a x (pick b x y)
 unfolding pick
 pick-or true b x y = refl
 pick-or false b x y = refl
-
-pub pick-not : (a : Bool) (x y : ℕ) → pick (not a) x y ≡ pick a y x
-unfolding pick
-pick-not true x y = refl
-pick-not false x y = refl
-
--- ---- refusals in order
-or-else-stop : (r other : ℕ) → (r ≡ 0 → ⊥) → orElse r other ≡ r
-unfolding orElse pick
-or-else-stop r other e = rw (ne-eqb r 0 e)
-
-or-else-go : (r other : ℕ) → r ≡ 0 → orElse r other ≡ other
-unfolding orElse pick
-or-else-go r other e = rw e
-
-pub or-else-is : (number other r : ℕ) → r ≡ pick (eqb number 0) other number → r ≡ orElse number other
-unfolding orElse
-or-else-is number other r e = e
-
--- ---- a table from index i on, at most C entries of it
-module _ (C : ℕ) (l : List ℕ) (i : ℕ) where
-  from-next : i < C → i < length l → take (C - i) (drop i l) ≡ getD l i 0 ∷ take (C - (i + 1)) (drop (i + 1) l)
-  from-next h k = let e : C - i ≡ suc (C - (i + 1)) = omega arith in rw (e, drop-cons l i 0 k, add-one)
-
-  from-missing : length l ≤ i → take (C - i) (drop i l) ≡ []
-  from-missing h = rw (drop-of-length-le l h) (take-nil (C - i))
-
-  from-end : C ≤ i → take (C - i) (drop i l) ≡ []
-  from-end h = let e : C - i ≡ 0 = omega arith in rw e
 
 -- ---- heading
 heading-tests : (C N : ℕ) →
@@ -89,50 +49,6 @@ unfolding recordingHeadingRefusal
 heading-few C N r e z =
     let limits = accept-yes (within 1 maxControllers C && within 1 maxStates N) recordingLimits (omega arith) (sym e ∙ z) in
     leb-true C maxControllers ((both-true (leb 1 C) (leb C maxControllers) ((both-true (within 1 maxControllers C) (within 1 maxStates N) limits) .0)) .1)
-
--- ---- masks
-pub mask-is : (seen m r : ℕ) → r ≡ pick (eqb (bitAnd seen m) 0) accepted masksMeet → r ≡ unionRefusal seen m
-unfolding unionRefusal
-mask-is seen m r e = e ∙ sym (pick-not (eqb (bitAnd seen m) 0) masksMeet accepted)
-
--- what is left to check at mask c, with the atoms seen so far
-pub record MasksLeft (C : ℕ) (masks : List ℕ) (seen c : ℕ) : Type 0 where
-  pub within : c ≤ C
-  pub left : masksRefusal [] (take C masks) ≡ unionsRefusal seen (take (C - c) (drop c masks))
-
-pub masks-start : (C : ℕ) (masks : List ℕ) → MasksLeft C masks 0 0
-unfolding unionOf
-masks-start C masks = let z : C - 0 ≡ C = omega arith in record { within = omega arith; left = rw z (masks-union [] (take C masks)) }
-
-module _ (C : ℕ) (masks : List ℕ) (seen c : ℕ) (inv : MasksLeft C masks seen c) where
-  pub masks-missing : length masks ≤ c → 0 ≡ masksRefusal [] (take C masks)
-  unfolding unionsRefusal
-  masks-missing h = sym (inv .left ∙ rw (from-missing C masks c h))
-
-  pub masks-end : C ≤ c → 0 ≡ masksRefusal [] (take C masks)
-  unfolding unionsRefusal
-  masks-end h = sym (inv .left ∙ rw (from-end C masks c h))
-
-  module _ (h : c < C) (l : c < length masks) (r : ℕ) (e : r ≡ unionRefusal seen (getD masks c 0)) where
-    pub masks-refused : (r ≡ 0 → ⊥) → r ≡ masksRefusal [] (take C masks)
-    unfolding unionsRefusal
-    masks-refused z = sym (inv .left ∙ rw (from-next C masks c h l, ← e, or-else-stop r _ z))
-
-    pub masks-next : r ≡ 0 → MasksLeft C masks (bitOr seen (getD masks c 0)) (c + 1)
-    unfolding unionsRefusal
-    masks-next z = record { within = omega arith; left = inv .left ∙ rw (from-next C masks c h l, ← e, or-else-go r _ z) }
-
--- ---- the output rule
-pub mask-none : (masks : List ℕ) (c : ℕ) → length masks ≤ c → 0 ≡ getD masks c 0
-mask-none masks c h = sym (List·getD-eq-default masks 0 h)
-
-pub own-mask : (R : Recording) (c : ℕ) → c < R .controllers → getD (R .masks) c 0 ≡ maskOf R c
-own-mask R c h = sym (getD-take (R .controllers) (R .masks) c 0 h)
-
--- the run mark as a bit of the state's word
-pub marked-shifted : (c s : ℕ) → eqb (s / 2 ^ (atomCount + c) % 2) 1 ≡ marked c s
-unfolding bitOf
-marked-shifted c s = sym (bit-shr c atomCount s)
 
 -- ---- one state
 -- the code's shift loses nothing
@@ -251,12 +167,6 @@ unfolding controllerRefusal
 joining-is R c recording joining r e f g = cc
 
 -- what each function's returns and turns are answered with
-pub ruleset test-laws = (pick-yes, pick-no, or-else-is, heading-is, mask-is)
-
-pub ruleset mask-laws = (masks-start, masks-missing, masks-end, masks-refused, masks-next)
-
-pub ruleset output-laws = (mask-none, marked-shifted)
-
 pub ruleset state-laws = (needs, limit-is, step-is, state-is, states-start, states-end, states-refused, states-next)
 
 pub ruleset recording-laws = (lines-is, joining-is, recording-heading)

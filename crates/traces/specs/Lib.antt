@@ -1,4 +1,2 @@
-pub mod Held
 pub mod Joining
-pub mod Unions
 pub mod Turns

@@ -6,19 +6,19 @@ ghost use Rattle.definitions.specs.Limits.{maxControllers};
 ghost use Rattle.definitions.specs.Recordings.{stateOf, stateRefusal, recordingHeadingRefusal, statesRefusal, recordingLinesRefusal, recordingRefusal, recordingOf};
 ghost use Rattle.traces.specs.Joining.{traceRefusal};
 ghost use Rattle.traces.specs.Turns.{stepRefusal};
-use super::held::held_at;
-use super::held::held_changed;
-use super::held::held_group;
-use super::held::held_top;
-use super::held::least;
-use super::held::output_broken;
-use super::masks::masks_refusal;
-use super::state::ATOM_WORDS;
-use super::state::marks_of;
 use formulas::choice::or_else;
 use formulas::choice::pick;
 use formulas::limits::Limits;
 use formulas::limits::Refusal;
+use held_atoms::held::held_at;
+use held_atoms::held::held_changed;
+use held_atoms::held::held_group;
+use held_atoms::held::held_top;
+use held_atoms::held::least;
+use held_atoms::held::output_broken;
+use state_words::masks::masks_refusal;
+use state_words::state::ATOM_WORDS;
+use state_words::state::marks_of;
 
 pub fn heading_refusal(controllers: usize, count: usize) -> u8
     ensures { λ r. ⌜ r ≡ recordingHeadingRefusal controllers count ⌝ }

@@ -20,7 +20,7 @@ use Rattle.theorems.proofs.OneLineAnswers.{Outside, manyNodes, highAtom, highCo
 use Rattle.fields.specs.Fields.{largest, cap, capped}
 use Rattle.fields.specs.declared.number.Field.{Field}
 use Rattle.fields.specs.declared.number.Field.the-variants.{Number, Malformed}
-use Rattle.fields.proofs.PartLaws.{part-laws, has-yes, has-no, up-to-part, after-part}
+use Rattle.scanning.proofs.PartLaws.{part-laws, has-yes, has-no, up-to-part, after-part}
 use Rattle.fields.proofs.FieldLaws.{cap-over, cap-within, cap-exact, capped-read, capped-malformed}
 use Rattle.lines.proofs.NextLaws.{line-part-laws}
 use Rattle.formula_reader.specs.Reading.{readAnswer}

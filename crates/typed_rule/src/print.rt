@@ -3,13 +3,13 @@ ghost use Rattle.definitions.specs.OneLine.{lineOutput, typedOutput, ruleOutput
 ghost use Rattle.line_program.specs.Printing.{Prints};
 use fields::number;
 use fields::number::Field;
-use fields::scan;
 use formula_reader::RuleRead;
 use formulas::limits::Limits;
 use formulas::limits::Refusal;
 use line_program::input::only_line;
 use line_program::print;
 use line_text::read::read_line;
+use scanning::scan;
 
 // The text of the rule, or its refusal.
 fn print_line(controller: usize, line: &[u8], output: &mut [u8; Limits::RULE_BYTES]) -> usize

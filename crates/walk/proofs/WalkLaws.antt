@@ -10,8 +10,7 @@ use lib.ListN.{length, drop, getD, drop-of-length-le}
 use lib.Seq.{drop-cons}
 use borrow.Author.Needs.{needs}
 use Rattle.definitions.specs.Limits.{pairWords}
-use Rattle.definitions.specs.Bounded.{tabulate}
-use Rattle.definitions.specs.Nodes.{Kind, True, Atom, Not, Or, Next, Until, Prev, Since, Run, End, Unknown, Node, node, nodeOf, kindOf}
+use Rattle.definitions.specs.Nodes.{Kind, True, Atom, Not, Or, Next, Until, Prev, Since, Run, End, Unknown, Node, node, kindOf}
 use Rattle.definitions.specs.Tables.{nodesIn}
 use Rattle.definitions.specs.Readings.{Trace, Rows, noRows, rowOf, readFrom, rowsOf}
 use Rattle.definitions.specs.Evidence.{under, rowsBy, takes, walkNode, walkNodes, sameReading, startRows, wantedRows, noNode, nodeAt}
@@ -24,13 +23,13 @@ use Rattle.theorems.proofs.EvidenceTurns.{turn-of}
 use Rattle.mark_words.specs.Marks.{markAt}
 use Rattle.formulas.specs.Meaning.{meaning, OfWord}
 use Rattle.formulas.specs.declared.node.Node as code
-use Rattle.evaluation.specs.declared.pair.Pair.{Pair}
-use Rattle.evaluation.specs.Nodes.{isLeaf, Fit}
-use Rattle.evaluation.specs.Pairs.{rowsIn, PairMade, Operable, pairOfNode}
+use Rattle.row_pairs.specs.declared.pair.Pair.{Pair}
+use Rattle.evaluation.specs.Nodes.{Fit}
+use Rattle.row_pairs.specs.Pairs.{isLeaf, rowsIn, PairMade, Operable, pairOfNode}
 use Rattle.evaluation.proofs.EvaluateLaws.{rows-in, both-made}
 use Rattle.evaluation.proofs.TableLaws.{nodes-length}
 use Rattle.walk_steps.specs.declared.taken.Taken.{Taken}
-use Rattle.walk_steps.specs.Steps.{Even, PairsEven, bothOf, takenFirst, takenSecond, TakenMade}
+use Rattle.walk_steps.specs.Steps.{PairsEven, bothOf, takenFirst, takenSecond, TakenMade}
 use Rattle.walk.specs.Wanted.{Wished, Held, started, wished}
 use Rattle.walk.specs.Walking.{Laid, Taking, OperatorReady, wordNode, Turning, turnFirst, turnSecond, Turned, Walkable, Walked}
 use Rattle.walk.proofs.WantedLaws.{both-at, pair-by, held-by, held-over, pair-recounted, wish-held}

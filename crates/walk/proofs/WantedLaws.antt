@@ -1,16 +1,15 @@
 -- One law for each need of the functions on wanted places.
 use mathlib.Core.Path.{_≡_, refl, sym, ap, ap₂, _∙_}
 use mathlib.Core.Bool.{Bool, true, false, not, _&&_, _||_, or-false}
-use mathlib.Core.List.{List, [], _∷_, _++_}
-use mathlib.Core.Logic.{_⊎_, ⊎-elim, inl, inr}
+use mathlib.Core.List.{List, _++_}
 use Prim.Native.Nat.{ℕ, zero, suc, _+_, _-_, _*_, _<_, _≤_}
 use native.Mathlib.Omega.{arith}
 use native.Mathlib.Decide.{ℕ-discrete, decLt}
-use lib.Dec.{eqb, ltb}
+use lib.Dec.{eqb}
 use lib.ListN.{length, take, drop}
 use borrow.Author.Needs.{needs}
 use borrow.Author.Tests.{eq-eqb, ne-eqb}
-use Rattle.definitions.specs.Limits.{maxStates, pairWords}
+use Rattle.definitions.specs.Limits.{pairWords}
 use Rattle.definitions.specs.Bounded.{tabulate}
 use Rattle.definitions.specs.Nodes.{Or}
 use Rattle.definitions.specs.Readings.{Rows, rowOf, rowWords, prevAt}
@@ -23,11 +22,11 @@ use Rattle.rows.specs.Marks.{marks, Whole, Made}
 use Rattle.rows.specs.declared.row.Row.{Row}
 use Rattle.rows.proofs.PackedLaws.{marks-length, retold}
 use Rattle.rows.proofs.RowLaws.{not-on, prev-on}
-use Rattle.rows.proofs.StoredLaws.{row-here, row-before, row-past}
-use Rattle.evaluation.specs.declared.pair.Pair.{Pair}
-use Rattle.evaluation.specs.Pairs.{rowsIn, PairMade, Operable, operated, pairAt, pairOfNode}
-use Rattle.evaluation.proofs.KindLaws.{kind-or}
-use Rattle.evaluation.proofs.PairLaws.{pairOf, or-pair}
+use Rattle.stored_rows.proofs.StoredLaws.{row-here, row-before, row-past}
+use Rattle.row_pairs.specs.declared.pair.Pair.{Pair}
+use Rattle.row_pairs.specs.Pairs.{PairMade, Operable, operated, pairAt, pairOfNode}
+use Rattle.row_pairs.proofs.KindLaws.{kind-or}
+use Rattle.row_pairs.proofs.PairLaws.{pairOf, or-pair}
 use Rattle.evaluation.proofs.EvaluateLaws.{rows-in, both-made}
 use Rattle.walk_steps.specs.Steps.{bothOf}
 use Rattle.walk.specs.Wanted.{PairWhole, Put, Wished, Held, none, chosen, started, wished}

@@ -1,6 +1,6 @@
 -- The walk from the rule: what a node's turn asks and leaves, and all turns.
 use mathlib.Core.Path.{_≡_}
-use mathlib.Core.Bool.{Bool, true, false, _&&_, _||_}
+use mathlib.Core.Bool.{Bool, false}
 use mathlib.Core.List.{List}
 use Prim.Native.Nat.{ℕ, _+_, _*_, _<_, _≤_}
 use lib.ListN.{length, getD}
@@ -10,8 +10,8 @@ use Rattle.definitions.specs.Tables.{nodesIn}
 use Rattle.definitions.specs.Readings.{Trace, Rows, noRows, rowsOf}
 use Rattle.definitions.specs.Evidence.{wantedRows}
 use Rattle.theorems.proofs.RuleNodes.{RuleNodes}
-use Rattle.evaluation.specs.Nodes.{isLeaf, Fit}
-use Rattle.evaluation.specs.Pairs.{rowsIn, pairOfNode}
+use Rattle.evaluation.specs.Nodes.{Fit}
+use Rattle.row_pairs.specs.Pairs.{isLeaf, rowsIn, pairOfNode}
 use Rattle.walk_steps.specs.Steps.{PairsEven, bothOf, takenFirst, takenSecond}
 use Rattle.walk.specs.Wanted.{Held, wished}
 

@@ -1,6 +1,6 @@
 -- Pairs of rows in lent space, node by node: what is laid there, and what is wanted.
 use mathlib.Core.Path.{_≡_}
-use mathlib.Core.Bool.{Bool, true, false, _&&_, _||_}
+use mathlib.Core.Bool.{Bool, false, _&&_, _||_}
 use mathlib.Core.List.{List}
 use Prim.Native.Nat.{ℕ, suc, _<_}
 use lib.Dec.{eqb}
@@ -10,8 +10,8 @@ use Rattle.definitions.specs.Readings.{Rows, rowOf}
 use Rattle.definitions.specs.Evidence.{sameReading}
 use Rattle.mark_words.specs.Marks.{markAt}
 use Rattle.rows.specs.Marks.{Whole}
-use Rattle.evaluation.specs.declared.pair.Pair.{Pair}
-use Rattle.evaluation.specs.Pairs.{rowsIn, PairMade, operated, pairOfNode}
+use Rattle.row_pairs.specs.declared.pair.Pair.{Pair}
+use Rattle.row_pairs.specs.Pairs.{rowsIn, PairMade, operated, pairOfNode}
 use Rattle.walk_steps.specs.Steps.{bothOf}
 
 -- both rows of a pair are whole

@@ -1,6 +1,6 @@
 // The walk from the rule.
 ghost use Rattle.definitions.specs.Nodes.{kindOf, node};
-ghost use Rattle.evaluation.specs.Pairs.{pairOfNode};
+ghost use Rattle.row_pairs.specs.Pairs.{pairOfNode};
 ghost use Rattle.walk_steps.specs.Steps.{TakenMade};
 ghost use Rattle.walk.specs.Walking.{Taking, OperatorReady, wordNode, Turning, Turned, Walkable, Walked};
 use super::wanted::start;

@@ -1,15 +1,14 @@
 // Wanted places: a pair of rows for each node, as the evaluator lays them.
-ghost use mathlib.Core.Path.{_≡_};
 ghost use Prim.Native.Nat.{_+_, _*_, _<_, _≤_};
 ghost use lib.ListN.{length};
 ghost use Rattle.definitions.specs.Limits.{maxStates, pairWords};
-ghost use Rattle.evaluation.specs.Pairs.{PairMade, pairOfNode, Operable};
+ghost use Rattle.row_pairs.specs.Pairs.{PairMade, pairOfNode, Operable};
 ghost use Rattle.walk.specs.Wanted.{PairWhole, Put, Wished, Held, none, chosen, started};
 use evaluation::evaluate::pair_of_node;
-use evaluation::pair::Pair;
 use formulas::limits::Limits;
+use row_pairs::pair::Pair;
 use rows::row::Row;
-use rows::stored::store;
+use stored_rows::stored::store;
 
 // Lays a pair over that of node j.
 fn put(wanted: &mut [u64], j: usize, p: Pair)

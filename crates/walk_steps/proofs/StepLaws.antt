@@ -1,12 +1,12 @@
 -- One law for each return of a step in one reading.
 use mathlib.Core.Path.{_≡_, refl, sym, ap, _∙_}
-use mathlib.Core.Bool.{Bool, true, false, not, _&&_, _||_, and-false}
+use mathlib.Core.Bool.{Bool, true, false, not, _&&_, _||_}
 use mathlib.Core.List.{List}
-use Prim.Native.Nat.{ℕ, suc, _-_, _<_, _≤_}
+use Prim.Native.Nat.{ℕ, suc, _-_}
 use native.Mathlib.Omega.{arith}
 use borrow.Author.Needs.{needs}
 use Rattle.definitions.specs.Bounded.{pick, tabulate}
-use Rattle.definitions.specs.Nodes.{Kind, Or, Until, Since, kindOf}
+use Rattle.definitions.specs.Nodes.{Or, Until, Since, kindOf}
 use Rattle.definitions.specs.Readings.{nextAt, untilAt, prevAt, sinceAt}
 use Rattle.theorems.proofs.Recursions.{until-recursion, since-recursion, prev-recursion}
 use Rattle.theorems.proofs.Tabulations.{tabulated, tabulate-at, tabulate-same}
@@ -16,8 +16,8 @@ use Rattle.mark_words.specs.Marks.{markAt}
 use Rattle.rows.specs.Marks.{marks, Whole, Made}
 use Rattle.rows.specs.declared.row.Row.{Row}
 use Rattle.rows.proofs.PackedLaws.{marks-length, retold}
-use Rattle.evaluation.specs.Nodes.{isLeaf}
-use Rattle.evaluation.proofs.KindLaws.{kind-not, kind-or, kind-next, kind-until, kind-prev, kind-since}
+use Rattle.row_pairs.specs.Pairs.{isLeaf}
+use Rattle.row_pairs.proofs.KindLaws.{kind-not, kind-or, kind-next, kind-until, kind-prev, kind-since}
 use Rattle.walk_steps.specs.declared.step.Step.{Step}
 use Rattle.walk_steps.specs.Steps.{Twin, Even, markOf, Marks, OfFirst, Reached, Stepped}
 

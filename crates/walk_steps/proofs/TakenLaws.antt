@@ -1,6 +1,5 @@
 -- One law for each return of a step in both readings.
-use mathlib.Core.Path.{_≡_, refl, sym, _∙_}
-use mathlib.Core.Bool.{Bool, true, false}
+use mathlib.Core.Path.{_≡_, refl}
 use Prim.Native.Nat.{ℕ}
 use borrow.Author.Needs.{needs}
 use Rattle.definitions.specs.Nodes.{Kind, True, Atom, Not, Or, Next, Until, Prev, Since, Run, End, Unknown, kindOf}
@@ -8,13 +7,12 @@ use Rattle.definitions.specs.Bounded.{tabulate}
 use Rattle.theorems.proofs.EvidenceRows.{firstMarks, secondMarks}
 use Rattle.rows.specs.declared.row.Row.{Row}
 use Rattle.rows.proofs.PackedLaws.{recounted}
-use Rattle.evaluation.specs.declared.pair.Pair.{Pair}
-use Rattle.evaluation.specs.Pairs.{rowsIn, PairMade}
-use Rattle.evaluation.proofs.KindLaws.{kind-not}
+use Rattle.row_pairs.specs.declared.pair.Pair.{Pair}
+use Rattle.row_pairs.specs.Pairs.{rowsIn, PairMade}
+use Rattle.row_pairs.proofs.KindLaws.{kind-not}
 use Rattle.formulas.proofs.KindLaws.{kind-cases}
 use Rattle.walk_steps.specs.declared.step.Step.{Step}
-use Rattle.walk_steps.specs.declared.taken.Taken.{Taken}
-use Rattle.walk_steps.specs.Steps.{Even, markOf, Marks, Stepped, PairsEven, pairUnder, takenFirst, takenSecond, bothOf, TakenMade}
+use Rattle.walk_steps.specs.Steps.{markOf, Marks, Stepped, PairsEven, pairUnder, takenFirst, takenSecond, bothOf, TakenMade}
 
 pub under-not : (kind : ℕ) (weak strong : Row) → kind ≡ 2 → record { weak = strong; strong = weak } ≡ pairUnder (kindOf kind) weak strong
 unfolding pairUnder

@@ -11,8 +11,8 @@ use Rattle.theorems.proofs.EvidenceRows.{pHere, qHere, firstMarks, secondMarks}
 use Rattle.mark_words.specs.Marks.{markAt}
 use Rattle.rows.specs.Marks.{marks, Whole, Made}
 use Rattle.rows.specs.declared.row.Row.{Row}
-use Rattle.evaluation.specs.declared.pair.Pair.{Pair}
-use Rattle.evaluation.specs.Pairs.{rowsIn, PairMade}
+use Rattle.row_pairs.specs.declared.pair.Pair.{Pair}
+use Rattle.row_pairs.specs.Pairs.{rowsIn, PairMade}
 use Rattle.walk_steps.specs.declared.step.Step.{Step}
 use Rattle.walk_steps.specs.declared.taken.Taken.{Taken}
 

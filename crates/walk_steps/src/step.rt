@@ -5,7 +5,7 @@ ghost use Rattle.definitions.specs.Bounded.{tabulate};
 ghost use Rattle.definitions.specs.Nodes.{kindOf, Or, Until, Since};
 ghost use Rattle.mark_words.specs.Marks.{markAt};
 ghost use Rattle.rows.specs.Marks.{marks, Whole, Made};
-ghost use Rattle.evaluation.specs.Nodes.{isLeaf};
+ghost use Rattle.row_pairs.specs.Pairs.{isLeaf};
 ghost use Rattle.walk_steps.specs.Steps.{Twin, Even, OfFirst, Reached, Stepped};
 use formulas::node::Node;
 use rows::row::Row;

@@ -2,11 +2,11 @@
 ghost use mathlib.Core.Path.{_≡_};
 ghost use mathlib.Core.Bool.{false};
 ghost use Rattle.definitions.specs.Nodes.{kindOf};
-ghost use Rattle.evaluation.specs.Nodes.{isLeaf};
+ghost use Rattle.row_pairs.specs.Pairs.{isLeaf};
 ghost use Rattle.walk_steps.specs.Steps.{PairsEven, pairUnder, TakenMade};
 use super::step::step_of;
-use evaluation::pair::Pair;
 use formulas::node::Node;
+use row_pairs::pair::Pair;
 use rows::row::Row;
 
 // What is taken of the first operand, and of the second.

@@ -15,11 +15,11 @@ use Rattle.definitions.specs.Program.{ruleIn, recordingIn, refusedText}
 use Rattle.definitions.specs.Why.{asks, whyTexts, whyOutput}
 use Rattle.theorems.proofs.Choice.{by-test}
 use Rattle.printing.specs.Printing.{Printed}
-use Rattle.fields.proofs.PartLaws.{part-to-end}
+use Rattle.scanning.proofs.PartLaws.{part-to-end}
 use Rattle.joint_text.specs.Joining.{ReadJoint}
-use Rattle.program.specs.Splitting.{SplitAt}
+use Rattle.input_split.specs.Splitting.{SplitAt}
 use Rattle.program.specs.Output.{foundRule, foundRecording, OutputIs}
-use Rattle.program.specs.declared.split.Parts.{Parts}
+use Rattle.input_split.specs.declared.split.Parts.{Parts}
 use Rattle.program.proofs.OutputLaws.{refused-length, first-is, line-is, rule-is, recording-is, refusal-room, tables-found, nodes-counted, masks-counted, states-counted, rule-counted, printed-all}
 use Rattle.behind_text.specs.Behind.{behindOf, BehindReady}
 use Rattle.asked_reading.specs.Asking.{askedIn, AskedIs}

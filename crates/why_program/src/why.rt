@@ -11,10 +11,10 @@ use behind_text::behind::MOST_BYTES;
 use behind_text::behind::put_behind;
 use formulas::limits::Limits;
 use formulas::limits::Refusal;
+use input_split::split::split;
 use joint_text::joint::read_joint;
 use judges::headings::RecordingHeading;
 use judges::headings::RuleHeading;
-use program::split::split;
 use report::put_refused;
 
 // The bytes of the longest output: that of an accepted rule and recording. A refusal has fewer.

@@ -58,6 +58,9 @@ impl Outcome {
 
     /// Where a library's outcome differs from this expected one, in words.
     fn difference(&self, input: &Input, found: &Outcome) -> Option<String> {
+        if self == found {
+            return None;
+        }
         if self.number != found.number {
             return Some(format!("number: expected {}, found {}", self.number, found.number));
         }

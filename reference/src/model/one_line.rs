@@ -64,7 +64,9 @@ impl Sign {
 /// The signs with which some bytes begin, each with its number of bytes: all
 /// numbers that the digits after `a` begin with, too.
 fn signs_at(bytes: &[u8]) -> Vec<(Sign, usize)> {
-    let begins = |(_, word): &&(Sign, &[u8])| bytes.starts_with(word);
+    // The first byte tells most words apart.
+    let begins =
+        |(_, word): &&(Sign, &[u8])| bytes.first() == word.first() && bytes.starts_with(word);
     let mut found: Vec<(Sign, usize)> =
         WORDS.iter().filter(begins).map(|(sign, word)| (*sign, word.len())).collect();
     if bytes.first() == Some(&b'a') {
@@ -157,8 +159,12 @@ struct Chart<'a> {
 }
 
 impl Chart<'_> {
-    /// The trees of the signs from `start` to `end` as a phrase of the level.
+    /// The trees of the signs from `start` to `end` as a phrase of the level; no
+    /// phrase is empty.
     fn trees(&mut self, level: Level, start: usize, end: usize) -> Vec<Rc<Tree>> {
+        if start == end {
+            return Vec::new();
+        }
         if end - start <= FEW {
             return self.derived(level, start, end);
         }

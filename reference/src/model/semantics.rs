@@ -39,28 +39,33 @@ pub struct Readings {
 }
 
 impl Readings {
-    /// The reading of a node at a place.
-    pub fn at(&self, node: usize, reading: Reading, i: usize) -> bool {
-        assert!(i < self.length);
+    /// The readings of a node at all places.
+    fn row(&self, node: usize, reading: Reading) -> &[bool] {
         let row = match reading {
             Reading::Weak => 2 * node,
             Reading::Strong => 2 * node + 1,
         };
-        self.marks[row * self.length + i]
+        &self.marks[row * self.length..][..self.length]
+    }
+
+    /// The reading of a node at a place.
+    pub fn at(&self, node: usize, reading: Reading, i: usize) -> bool {
+        self.row(node, reading)[i]
     }
 
     /// "p until q: q at some k ≥ i below L and p at i to k-1; weak also if p
     /// holds at i to L-1."
     fn until(&self, p: usize, q: usize, reading: Reading, i: usize) -> bool {
-        let fulfilled = (i..self.length)
-            .any(|k| self.at(q, reading, k) && (i..k).all(|j| self.at(p, reading, j)));
-        let kept = (i..self.length).all(|j| self.at(p, reading, j));
+        let (p, q) = (self.row(p, reading), self.row(q, reading));
+        let fulfilled = (i..self.length).any(|k| q[k] && (i..k).all(|j| p[j]));
+        let kept = (i..self.length).all(|j| p[j]);
         fulfilled || (reading == Reading::Weak && kept)
     }
 
     /// "p since q: q at some k ≤ i and p at k+1 to i."
     fn since(&self, p: usize, q: usize, reading: Reading, i: usize) -> bool {
-        (0..=i).any(|k| self.at(q, reading, k) && (k + 1..=i).all(|j| self.at(p, reading, j)))
+        let (p, q) = (self.row(p, reading), self.row(q, reading));
+        (0..=i).any(|k| q[k] && (k + 1..=i).all(|j| p[j]))
     }
 
     /// "next p: p at i+1 if i < L-1; else weak yes, strong no."
@@ -77,18 +82,27 @@ impl Readings {
         i > 0 && self.at(p, reading, i - 1)
     }
 
-    /// The clause of "Weak and strong" for this node; `literal` reads atom,
-    /// run and end.
-    fn clause(&self, node: Node, literal: &impl Literal, reading: Reading, i: usize) -> bool {
+    /// Adds a row, place by place.
+    fn add(&mut self, mark: impl Fn(&Readings, usize) -> bool) {
+        for i in 0..self.length {
+            let mark = mark(self, i);
+            self.marks.push(mark);
+        }
+    }
+
+    /// Adds the row of this node by its clause of "Weak and strong"; `literal`
+    /// reads atom, run and end.
+    fn add_node(&mut self, node: Node, literal: &impl Literal, reading: Reading) {
+        let (p, q) = (node.first, node.second);
         match node.kind {
-            TRUE => true,
-            ATOM | RUN | END => literal(node, reading, i),
-            NOT => !self.at(node.first, reading.opposite(), i),
-            OR => self.at(node.first, reading, i) || self.at(node.second, reading, i),
-            NEXT => self.next(node.first, reading, i),
-            UNTIL => self.until(node.first, node.second, reading, i),
-            PREV => self.prev(node.first, reading, i),
-            SINCE => self.since(node.first, node.second, reading, i),
+            TRUE => self.add(|_, _| true),
+            ATOM | RUN | END => self.add(|_, i| literal(node, reading, i)),
+            NOT => self.add(|known, i| !known.at(p, reading.opposite(), i)),
+            OR => self.add(|known, i| known.at(p, reading, i) || known.at(q, reading, i)),
+            NEXT => self.add(|known, i| known.next(p, reading, i)),
+            UNTIL => self.add(|known, i| known.until(p, q, reading, i)),
+            PREV => self.add(|known, i| known.prev(p, reading, i)),
+            SINCE => self.add(|known, i| known.since(p, q, reading, i)),
             _ => unreachable!("a checked table has the ten kinds only"),
         }
     }
@@ -105,10 +119,7 @@ fn readings(nodes: &[Node], length: usize, literal: &impl Literal) -> Readings {
     let mut known = Readings { length, marks };
     for node in nodes {
         for reading in [Reading::Weak, Reading::Strong] {
-            for i in 0..length {
-                let mark = known.clause(*node, literal, reading, i);
-                known.marks.push(mark);
-            }
+            known.add_node(*node, literal, reading);
         }
     }
     known

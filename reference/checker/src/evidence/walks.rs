@@ -49,7 +49,7 @@ impl Walker {
         if check.wrong(Operation::Evidence, Place::Value) {
             count ^= 1;
         }
-        self.pairs.alter(check, Operation::Evidence);
+        self.pairs.expect(check, Operation::Evidence);
         count
     }
 
@@ -68,7 +68,7 @@ impl Walker {
         let input = || Input::evidence(rule.clone(), recording.clone(), weak);
         self.pairs.require([count], found, input)?;
         check.tally.met(Operation::Evidence, found.0);
-        Ok(&self.pairs.found()[..count])
+        Ok(&self.pairs.expected()[..count])
     }
 }
 

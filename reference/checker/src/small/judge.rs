@@ -95,8 +95,9 @@ impl<'a, 'b> Judge<'a, 'b> {
         controller: usize,
     ) -> Result<[usize; 2], Difference> {
         let (nodes, trace) = (library::table(table), library::recording(recording));
-        let lent = self.rows.lend();
-        match ragyvosin::judge_recording(nodes, trace, controller, lent) {
+        let found = ragyvosin::judge_recording(nodes, trace, controller, self.rows.lend());
+        self.rows.drop_found();
+        match found {
             (0, verdict) => Ok(verdict),
             (number, _) => {
                 let place = format!("number: expected 0, found {number}");
@@ -149,7 +150,7 @@ impl<'a, 'b> Judge<'a, 'b> {
         if self.check.wrong(Operation::JudgeRecording, Place::Value) {
             values[1] ^= 1;
         }
-        self.rows.alter(self.check, Operation::JudgeRecording);
+        self.rows.expect(self.check, Operation::JudgeRecording);
         values
     }
 

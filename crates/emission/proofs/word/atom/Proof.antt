@@ -1,10 +1,6 @@
 use Rattle.emission.proofs.WordLaws.{word-laws}
 use Rattle.emission.proofs.word.atom.Statement.{statement}
 use Rattle.emission.proofs.word.atom.Tie as tie
-use Rattle.emission.proofs.word.atom.Reads as reads
-use Rattle.emission.proofs.word.atom.Lts as lts
-use Rattle.formulas.proofs.node.Node.atom.Reads as atom-reads
-use Rattle.formulas.proofs.node.Node.word.Reads as word-reads
 
 -- src/word.rt:19:16
 cast-atom : tie.Need-cast-atom

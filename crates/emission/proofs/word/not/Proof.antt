@@ -1,10 +1,6 @@
 use Rattle.emission.proofs.WordLaws.{word-laws}
 use Rattle.emission.proofs.word.not.Statement.{statement}
 use Rattle.emission.proofs.word.not.Tie as tie
-use Rattle.emission.proofs.word.not.Reads as reads
-use Rattle.emission.proofs.word.not.Lts as lts
-use Rattle.formulas.proofs.node.Node.not.Reads as not-reads
-use Rattle.formulas.proofs.node.Node.word.Reads as word-reads
 
 -- src/word.rt:26:15
 cast-not : tie.Need-cast-not

@@ -1,10 +1,6 @@
 use Rattle.emission.proofs.WordLaws.{word-laws}
 use Rattle.emission.proofs.word.or.Statement.{statement}
 use Rattle.emission.proofs.word.or.Tie as tie
-use Rattle.emission.proofs.word.or.Reads as reads
-use Rattle.emission.proofs.word.or.Lts as lts
-use Rattle.formulas.proofs.node.Node.or.Reads as or-reads
-use Rattle.formulas.proofs.node.Node.word.Reads as word-reads
 
 -- src/word.rt:33:14
 cast-or : tie.Need-cast-or

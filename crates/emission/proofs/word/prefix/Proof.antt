@@ -1,13 +1,6 @@
 use Rattle.emission.proofs.WordLaws.{word-laws}
 use Rattle.emission.proofs.word.prefix.Statement.{statement}
 use Rattle.emission.proofs.word.prefix.Tie as tie
-use Rattle.emission.proofs.word.prefix.Reads as reads
-use Rattle.emission.proofs.word.prefix.Lts as lts
-use Rattle.formulas.proofs.node.Node.next.Reads as next-reads
-use Rattle.formulas.proofs.node.Node.not.Reads as not-reads
-use Rattle.formulas.proofs.node.Node.prev.Reads as prev-reads
-use Rattle.formulas.proofs.node.Node.until.Reads as until-reads
-use Rattle.formulas.proofs.node.Node.word.Reads as word-reads
 
 -- src/word.rt:52:17
 sub-last : tie.Need-sub-last

@@ -1,10 +1,6 @@
 use Rattle.emission.proofs.WordLaws.{word-laws}
 use Rattle.emission.proofs.word.truth.Statement.{statement}
 use Rattle.emission.proofs.word.truth.Tie as tie
-use Rattle.emission.proofs.word.truth.Reads as reads
-use Rattle.emission.proofs.word.truth.Lts as lts
-use Rattle.formulas.proofs.node.Node.truth.Reads as truth-reads
-use Rattle.formulas.proofs.node.Node.word.Reads as word-reads
 
 -- src/word.rt:12:5
 truth-requires : tie.Need-truth-requires

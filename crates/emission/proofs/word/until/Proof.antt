@@ -1,11 +1,6 @@
 use Rattle.emission.proofs.WordLaws.{word-laws}
 use Rattle.emission.proofs.word.until.Statement.{statement}
 use Rattle.emission.proofs.word.until.Tie as tie
-use Rattle.emission.proofs.word.until.Reads as reads
-use Rattle.emission.proofs.word.until.Lts as lts
-use Rattle.formulas.proofs.node.Node.since.Reads as since-reads
-use Rattle.formulas.proofs.node.Node.until.Reads as until-reads
-use Rattle.formulas.proofs.node.Node.word.Reads as word-reads
 
 -- src/word.rt:42:28
 cast-until : tie.Need-cast-until

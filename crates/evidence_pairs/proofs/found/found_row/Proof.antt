@@ -1,13 +1,6 @@
 use Rattle.evidence_pairs.proofs.FindLaws.{find-laws}
 use Rattle.evidence_pairs.proofs.found.found_row.Statement.{statement}
 use Rattle.evidence_pairs.proofs.found.found_row.Tie as tie
-use Rattle.evidence_pairs.proofs.found.found_row.Reads as reads
-use Rattle.evidence_pairs.proofs.found.found_row.Lts as lts
-use Rattle.evaluation.proofs.evaluate.pair_of_node.Reads as pair-of-node-reads
-use Rattle.formulas.proofs.node.Node.of_word.Reads as of-word-reads
-use Rattle.rows.proofs.row.Row.none.Reads as none-reads
-use Rattle.rows.proofs.row.Row.or.Reads as or-reads
-use Rattle.rows.proofs.row.Row.with_last.Reads as with-last-reads
 
 -- src/found.rt:23:30
 mul-of-word : tie.Need-mul-of-word

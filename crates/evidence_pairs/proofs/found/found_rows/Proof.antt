@@ -2,10 +2,6 @@ use Prim.Native.Nat.{_-_}
 use Rattle.evidence_pairs.proofs.FindLaws.{Finding, find-laws}
 use Rattle.evidence_pairs.proofs.found.found_rows.Statement.{statement}
 use Rattle.evidence_pairs.proofs.found.found_rows.Tie as tie
-use Rattle.evidence_pairs.proofs.found.found_rows.Reads as reads
-use Rattle.evidence_pairs.proofs.found.found_rows.Lts as lts
-use Rattle.evidence_pairs.proofs.found.found_row.Reads as found-row-reads
-use Rattle.rows.proofs.stored.store.Reads as store-reads
 
 abbrev Inv-loop : tie.InvT-loop
 Inv-loop nodes count own n wanted found₀ j₀ found j = Finding nodes count own n wanted found₀ j found

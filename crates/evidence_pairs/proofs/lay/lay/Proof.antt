@@ -1,11 +1,6 @@
 use Rattle.evidence_pairs.proofs.LayLaws.{lay-laws}
 use Rattle.evidence_pairs.proofs.lay.lay.Statement.{statement}
 use Rattle.evidence_pairs.proofs.lay.lay.Tie as tie
-use Rattle.evidence_pairs.proofs.lay.lay.Reads as reads
-use Rattle.evidence_pairs.proofs.lay.lay.Lts as lts
-use Rattle.evidence_pairs.proofs.found.found_rows.Reads as found-rows-reads
-use Rattle.evidence_pairs.proofs.lay.lay_places.Reads as lay-places-reads
-use Rattle.lent.proofs.clear_u32.Reads as clear-u32-reads
 
 -- src/lay.rt:55:46
 slice-aggregate-found-rows : tie.Need-slice-aggregate-found-rows

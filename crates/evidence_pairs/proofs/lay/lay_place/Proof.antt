@@ -2,9 +2,6 @@ use Prim.Native.Nat.{_-_}
 use Rattle.evidence_pairs.proofs.LayLaws.{PlaceLaying, lay-laws}
 use Rattle.evidence_pairs.proofs.lay.lay_place.Statement.{statement}
 use Rattle.evidence_pairs.proofs.lay.lay_place.Tie as tie
-use Rattle.evidence_pairs.proofs.lay.lay_place.Reads as reads
-use Rattle.evidence_pairs.proofs.lay.lay_place.Lts as lts
-use Rattle.evidence_pairs.proofs.lay.mark_of.Reads as mark-of-reads
 
 abbrev Inv-loop : tie.InvT-loop
 Inv-loop count k found from pairs₀ end₀ j₀ pairs end j = PlaceLaying count k found from pairs₀ j pairs end

@@ -2,9 +2,6 @@ use Prim.Native.Nat.{_-_}
 use Rattle.evidence_pairs.proofs.LayLaws.{PlacesLaying, lay-laws}
 use Rattle.evidence_pairs.proofs.lay.lay_places.Statement.{statement}
 use Rattle.evidence_pairs.proofs.lay.lay_places.Tie as tie
-use Rattle.evidence_pairs.proofs.lay.lay_places.Reads as reads
-use Rattle.evidence_pairs.proofs.lay.lay_places.Lts as lts
-use Rattle.evidence_pairs.proofs.lay.lay_place.Reads as lay-place-reads
 
 abbrev Inv-loop : tie.InvT-loop
 Inv-loop count n found pairs₀ end₀ k₀ pairs end k = PlacesLaying count n found pairs₀ k pairs end

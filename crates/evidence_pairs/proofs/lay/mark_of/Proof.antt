@@ -1,8 +1,6 @@
 use Rattle.evidence_pairs.proofs.LayLaws.{lay-laws}
 use Rattle.evidence_pairs.proofs.lay.mark_of.Statement.{statement}
 use Rattle.evidence_pairs.proofs.lay.mark_of.Tie as tie
-use Rattle.evidence_pairs.proofs.lay.mark_of.Reads as reads
-use Rattle.evidence_pairs.proofs.lay.mark_of.Lts as lts
 
 -- src/lay.rt:20:22
 mul-word : tie.Need-mul-word

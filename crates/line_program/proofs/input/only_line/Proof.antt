@@ -1,10 +1,6 @@
 use Rattle.line_program.proofs.PrintLaws.{only-laws}
 use Rattle.line_program.proofs.input.only_line.Statement.{statement}
 use Rattle.line_program.proofs.input.only_line.Tie as tie
-use Rattle.line_program.proofs.input.only_line.Reads as reads
-use Rattle.line_program.proofs.input.only_line.Lts as lts
-use Rattle.formulas.proofs.choice.pick.Reads as pick-reads
-use Rattle.lines.proofs.next.first_line.Reads as first-line-reads
 
 -- src/input.rt:18:9
 first-line-requires : tie.Need-first-line-requires

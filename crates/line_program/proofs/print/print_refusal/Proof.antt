@@ -1,10 +1,6 @@
 use Rattle.line_program.proofs.PrintLaws.{refusal-laws}
 use Rattle.line_program.proofs.print.print_refusal.Statement.{statement}
 use Rattle.line_program.proofs.print.print_refusal.Tie as tie
-use Rattle.line_program.proofs.print.print_refusal.Reads as reads
-use Rattle.line_program.proofs.print.print_refusal.Lts as lts
-use Rattle.lent.proofs.clear_u8.Reads as clear-u8-reads
-use Rattle.line_program.proofs.print.put_refusal.Reads as put-refusal-reads
 
 -- src/print.rt:28:9
 put-refusal-requires : tie.Need-put-refusal-requires

@@ -1,10 +1,6 @@
 use Rattle.line_program.proofs.PrintLaws.{rule-laws}
 use Rattle.line_program.proofs.print.print_rule.Statement.{statement}
 use Rattle.line_program.proofs.print.print_rule.Tie as tie
-use Rattle.line_program.proofs.print.print_rule.Reads as reads
-use Rattle.line_program.proofs.print.print_rule.Lts as lts
-use Rattle.formula_writer.proofs.write_rule.Reads as write-rule-reads
-use Rattle.line_program.proofs.print.print_refusal.Reads as print-refusal-reads
 
 -- src/print.rt:42:11
 write-rule-requires : tie.Need-write-rule-requires

@@ -1,11 +1,6 @@
 use Rattle.line_program.proofs.PrintLaws.{put-laws}
 use Rattle.line_program.proofs.print.put_refusal.Statement.{statement}
 use Rattle.line_program.proofs.print.put_refusal.Tie as tie
-use Rattle.line_program.proofs.print.put_refusal.Reads as reads
-use Rattle.line_program.proofs.print.put_refusal.Lts as lts
-use Rattle.printing.proofs.put.Reads as put-reads
-use Rattle.printing.proofs.put_byte.Reads as put-byte-reads
-use Rattle.printing.proofs.put_field.Reads as put-field-reads
 
 -- src/print.rt:19:36
 slice-aggregate-put : tie.Need-slice-aggregate-put

@@ -1,10 +1,6 @@
 use Rattle.line_text.proofs.LineLaws.{check-laws, check-long, check-nothing, check-counted}
 use Rattle.line_text.proofs.read.check.Statement.{statement}
 use Rattle.line_text.proofs.read.check.Tie as tie
-use Rattle.line_text.proofs.read.check.Reads as reads
-use Rattle.line_text.proofs.read.check.Lts as lts
-use Rattle.sentences.proofs.refusal.refusal.Reads as refusal-reads
-use Rattle.signs.proofs.scan.scan.Reads as scan-reads
 
 -- src/read.rt:26:9
 returns : tie.Need-returns

@@ -1,14 +1,6 @@
 use Rattle.longest_rule.proofs.PrintLaws.{count-laws}
 use Rattle.longest_rule.proofs.print.print_count.Statement.{statement}
 use Rattle.longest_rule.proofs.print.print_count.Tie as tie
-use Rattle.longest_rule.proofs.print.print_count.Reads as reads
-use Rattle.longest_rule.proofs.print.print_count.Lts as lts
-use Rattle.fields.proofs.number.decimal.Reads as decimal-reads
-use Rattle.formulas.proofs.node.Node.atom.Reads as atom-reads
-use Rattle.formulas.proofs.node.Node.until.Reads as until-reads
-use Rattle.formulas.proofs.node.Node.word.Reads as word-reads
-use Rattle.line_program.proofs.print.print_refusal.Reads as print-refusal-reads
-use Rattle.line_program.proofs.print.print_rule.Reads as print-rule-reads
 
 -- src/print.rt:16:32
 decimal-requires : tie.Need-decimal-requires

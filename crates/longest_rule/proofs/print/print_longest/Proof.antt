@@ -1,11 +1,6 @@
 use Rattle.longest_rule.proofs.PrintLaws.{longest-laws}
 use Rattle.longest_rule.proofs.print.print_longest.Statement.{statement}
 use Rattle.longest_rule.proofs.print.print_longest.Tie as tie
-use Rattle.longest_rule.proofs.print.print_longest.Reads as reads
-use Rattle.longest_rule.proofs.print.print_longest.Lts as lts
-use Rattle.line_program.proofs.input.only_line.Reads as only-line-reads
-use Rattle.line_program.proofs.print.print_refusal.Reads as print-refusal-reads
-use Rattle.longest_rule.proofs.print.print_count.Reads as print-count-reads
 
 -- src/print.rt:29:9
 only-line-requires : tie.Need-only-line-requires

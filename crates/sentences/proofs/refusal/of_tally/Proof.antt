@@ -1,9 +1,6 @@
 use Rattle.sentences.proofs.TallyLaws.{refusal-laws, of-tally-made}
 use Rattle.sentences.proofs.refusal.of_tally.Statement.{statement}
 use Rattle.sentences.proofs.refusal.of_tally.Tie as tie
-use Rattle.sentences.proofs.refusal.of_tally.Reads as reads
-use Rattle.sentences.proofs.refusal.of_tally.Lts as lts
-use Rattle.formulas.proofs.choice.pick.Reads as pick-reads
 
 -- src/refusal.rt:21:9
 pick-requires : tie.Need-pick-requires

@@ -1,10 +1,6 @@
 use Rattle.sentences.proofs.TallyLaws.{refusal-laws}
 use Rattle.sentences.proofs.refusal.refusal.Statement.{statement}
 use Rattle.sentences.proofs.refusal.refusal.Tie as tie
-use Rattle.sentences.proofs.refusal.refusal.Reads as reads
-use Rattle.sentences.proofs.refusal.refusal.Lts as lts
-use Rattle.sentences.proofs.refusal.of_tally.Reads as of-tally-reads
-use Rattle.sentences.proofs.tally.count.Reads as count-reads
 
 -- src/refusal.rt:31:26
 count-requires : tie.Need-count-requires

@@ -3,9 +3,6 @@ use Prim.Native.Nat.{_-_}
 use lib.ListN.{length}
 use Rattle.sentences.proofs.tally.count.Statement.{statement}
 use Rattle.sentences.proofs.tally.count.Tie as tie
-use Rattle.sentences.proofs.tally.count.Reads as reads
-use Rattle.sentences.proofs.tally.count.Lts as lts
-use Rattle.sentences.proofs.tally.step.Reads as step-reads
 
 abbrev Inv-loop : tie.InvT-loop
 Inv-loop codes t₀ i₀ t i = Counting codes t i

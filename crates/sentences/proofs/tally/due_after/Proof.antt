@@ -1,8 +1,6 @@
 use Rattle.sentences.proofs.TallyLaws.{due-laws}
 use Rattle.sentences.proofs.tally.due_after.Statement.{statement}
 use Rattle.sentences.proofs.tally.due_after.Tie as tie
-use Rattle.sentences.proofs.tally.due_after.Reads as reads
-use Rattle.sentences.proofs.tally.due_after.Lts as lts
 
 -- src/tally.rt:45:9
 returns : tie.Need-returns

@@ -1,8 +1,6 @@
 use Rattle.sentences.proofs.TallyLaws.{stand-laws}
 use Rattle.sentences.proofs.tally.may_stand.Statement.{statement}
 use Rattle.sentences.proofs.tally.may_stand.Tie as tie
-use Rattle.sentences.proofs.tally.may_stand.Reads as reads
-use Rattle.sentences.proofs.tally.may_stand.Lts as lts
 
 -- src/tally.rt:29:9
 returns : tie.Need-returns

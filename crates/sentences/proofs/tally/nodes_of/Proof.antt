@@ -1,8 +1,6 @@
 use Rattle.sentences.proofs.TallyLaws.{nodes-brackets, nodes-future, nodes-always, nodes-implies, nodes-and, nodes-other}
 use Rattle.sentences.proofs.tally.nodes_of.Statement.{statement}
 use Rattle.sentences.proofs.tally.nodes_of.Tie as tie
-use Rattle.sentences.proofs.tally.nodes_of.Reads as reads
-use Rattle.sentences.proofs.tally.nodes_of.Lts as lts
 
 -- src/tally.rt:75:9
 returns : tie.Need-returns

@@ -1,8 +1,6 @@
 use Rattle.sentences.proofs.TallyLaws.{open-laws}
 use Rattle.sentences.proofs.tally.open_after.Statement.{statement}
 use Rattle.sentences.proofs.tally.open_after.Tie as tie
-use Rattle.sentences.proofs.tally.open_after.Reads as reads
-use Rattle.sentences.proofs.tally.open_after.Lts as lts
 
 -- src/tally.rt:59:16
 add-result : tie.Need-add-result

@@ -1,13 +1,6 @@
 use Rattle.sentences.proofs.TallyLaws.{step-laws, step-made}
 use Rattle.sentences.proofs.tally.step.Statement.{statement}
 use Rattle.sentences.proofs.tally.step.Tie as tie
-use Rattle.sentences.proofs.tally.step.Reads as reads
-use Rattle.sentences.proofs.tally.step.Lts as lts
-use Rattle.formulas.proofs.choice.pick_index.Reads as pick-index-reads
-use Rattle.sentences.proofs.tally.due_after.Reads as due-after-reads
-use Rattle.sentences.proofs.tally.may_stand.Reads as may-stand-reads
-use Rattle.sentences.proofs.tally.nodes_of.Reads as nodes-of-reads
-use Rattle.sentences.proofs.tally.open_after.Reads as open-after-reads
 
 -- src/tally.rt:97:9
 may-stand-requires : tie.Need-may-stand-requires

@@ -3,10 +3,6 @@ use Prim.Native.Nat.{_-_}
 use lib.ListN.{length}
 use Rattle.signs.proofs.scan.scan.Statement.{statement}
 use Rattle.signs.proofs.scan.scan.Tie as tie
-use Rattle.signs.proofs.scan.scan.Reads as reads
-use Rattle.signs.proofs.scan.scan.Lts as lts
-use Rattle.signs.proofs.token.after_space.Reads as after-space-reads
-use Rattle.signs.proofs.token.sign_at.Reads as sign-at-reads
 
 abbrev Inv-loop : tie.InvT-loop
 Inv-loop line codes₀ at₀ n₀ codes at n = Scanning line codes₀ at n codes

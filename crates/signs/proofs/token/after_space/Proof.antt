@@ -1,8 +1,6 @@
 use Rattle.signs.proofs.TokenLaws.{space-laws}
 use Rattle.signs.proofs.token.after_space.Statement.{statement}
 use Rattle.signs.proofs.token.after_space.Tie as tie
-use Rattle.signs.proofs.token.after_space.Reads as reads
-use Rattle.signs.proofs.token.after_space.Lts as lts
 
 -- src/token.rt:122:8
 shared-slice-read-if1 : tie.Need-shared-slice-read-if1

@@ -1,8 +1,6 @@
 use Rattle.signs.proofs.TokenLaws.{atom-laws, atom-low, atom-high}
 use Rattle.signs.proofs.token.atom.Statement.{statement}
 use Rattle.signs.proofs.token.atom.Tie as tie
-use Rattle.signs.proofs.token.atom.Reads as reads
-use Rattle.signs.proofs.token.atom.Lts as lts
 
 -- src/token.rt:96:12
 cast-if1 : tie.Need-cast-if1

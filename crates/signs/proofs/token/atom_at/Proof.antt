@@ -1,11 +1,6 @@
 use Rattle.signs.proofs.TokenLaws.{atom-at-laws}
 use Rattle.signs.proofs.token.atom_at.Statement.{statement}
 use Rattle.signs.proofs.token.atom_at.Tie as tie
-use Rattle.signs.proofs.token.atom_at.Reads as reads
-use Rattle.signs.proofs.token.atom_at.Lts as lts
-use Rattle.fields.proofs.number.decimal.Reads as decimal-reads
-use Rattle.signs.proofs.token.atom.Reads as atom-reads
-use Rattle.signs.proofs.token.digits_end.Reads as digits-end-reads
 
 -- src/token.rt:107:16
 add-from : tie.Need-add-from

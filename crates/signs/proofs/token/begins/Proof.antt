@@ -1,9 +1,6 @@
 use Rattle.signs.proofs.TokenLaws.{begins-laws}
 use Rattle.signs.proofs.token.begins.Statement.{statement}
 use Rattle.signs.proofs.token.begins.Tie as tie
-use Rattle.signs.proofs.token.begins.Reads as reads
-use Rattle.signs.proofs.token.begins.Lts as lts
-use Rattle.fields.proofs.scan.same.Reads as same-reads
 
 -- src/token.rt:66:8
 sub-if1 : tie.Need-sub-if1

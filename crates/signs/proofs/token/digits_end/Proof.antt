@@ -3,8 +3,6 @@ use lib.ListN.{length}
 use Rattle.signs.proofs.TokenLaws.{digits-laws, Passed}
 use Rattle.signs.proofs.token.digits_end.Statement.{statement}
 use Rattle.signs.proofs.token.digits_end.Tie as tie
-use Rattle.signs.proofs.token.digits_end.Reads as reads
-use Rattle.signs.proofs.token.digits_end.Lts as lts
 
 abbrev Inv-loop : tie.InvT-loop
 Inv-loop line at i₀ i = Passed line at i

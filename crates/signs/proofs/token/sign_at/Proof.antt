@@ -1,11 +1,6 @@
 use Rattle.signs.proofs.TokenLaws.{sign-at-laws}
 use Rattle.signs.proofs.token.sign_at.Statement.{statement}
 use Rattle.signs.proofs.token.sign_at.Tie as tie
-use Rattle.signs.proofs.token.sign_at.Reads as reads
-use Rattle.signs.proofs.token.sign_at.Lts as lts
-use Rattle.signs.proofs.token.atom_at.Reads as atom-at-reads
-use Rattle.signs.proofs.token.begins.Reads as begins-reads
-use Rattle.signs.proofs.token.single.Reads as single-reads
 
 -- src/token.rt:133:13
 shared-slice-read-b : tie.Need-shared-slice-read-b

@@ -1,8 +1,6 @@
 use Rattle.signs.proofs.TokenLaws.{single-opening, single-closing, single-not, single-next, single-prev, single-future, single-always, single-or, single-and, single-until, single-since, single-none}
 use Rattle.signs.proofs.token.single.Statement.{statement}
 use Rattle.signs.proofs.token.single.Tie as tie
-use Rattle.signs.proofs.token.single.Reads as reads
-use Rattle.signs.proofs.token.single.Lts as lts
 
 -- src/token.rt:25:9
 returns : tie.Need-returns

@@ -1,11 +1,6 @@
 use Rattle.typed_rule.proofs.PrintLaws.{line-laws}
 use Rattle.typed_rule.proofs.print.print_line.Statement.{statement}
 use Rattle.typed_rule.proofs.print.print_line.Tie as tie
-use Rattle.typed_rule.proofs.print.print_line.Reads as reads
-use Rattle.typed_rule.proofs.print.print_line.Lts as lts
-use Rattle.line_program.proofs.print.print_refusal.Reads as print-refusal-reads
-use Rattle.line_program.proofs.print.print_rule.Reads as print-rule-reads
-use Rattle.line_text.proofs.read.read_line.Reads as read-line-reads
 
 -- src/print.rt:19:39
 slice-aggregate-read-line : tie.Need-slice-aggregate-read-line

@@ -1,11 +1,6 @@
 use Rattle.typed_rule.proofs.PrintLaws.{rule-laws}
 use Rattle.typed_rule.proofs.print.print_rule.Statement.{statement}
 use Rattle.typed_rule.proofs.print.print_rule.Tie as tie
-use Rattle.typed_rule.proofs.print.print_rule.Reads as reads
-use Rattle.typed_rule.proofs.print.print_rule.Lts as lts
-use Rattle.line_program.proofs.input.only_line.Reads as only-line-reads
-use Rattle.line_program.proofs.print.print_refusal.Reads as print-refusal-reads
-use Rattle.typed_rule.proofs.print.print_typed.Reads as print-typed-reads
 
 -- src/print.rt:43:9
 only-line-requires : tie.Need-only-line-requires

@@ -1,13 +1,6 @@
 use Rattle.typed_rule.proofs.PrintLaws.{typed-laws}
 use Rattle.typed_rule.proofs.print.print_typed.Statement.{statement}
 use Rattle.typed_rule.proofs.print.print_typed.Tie as tie
-use Rattle.typed_rule.proofs.print.print_typed.Reads as reads
-use Rattle.typed_rule.proofs.print.print_typed.Lts as lts
-use Rattle.fields.proofs.number.decimal.Reads as decimal-reads
-use Rattle.fields.proofs.scan.after.Reads as after-reads
-use Rattle.fields.proofs.scan.until_byte.Reads as until-byte-reads
-use Rattle.line_program.proofs.print.print_refusal.Reads as print-refusal-reads
-use Rattle.typed_rule.proofs.print.print_line.Reads as print-line-reads
 
 -- src/print.rt:29:9
 until-byte-requires : tie.Need-until-byte-requires

@@ -1,11 +1,6 @@
 use Rattle.walk.proofs.WalkLaws.{taken-laws}
-use Rattle.walk.proofs.WalkLaws.{walk-laws}
 use Rattle.walk.proofs.walk.taken_by.Statement.{statement}
 use Rattle.walk.proofs.walk.taken_by.Tie as tie
-use Rattle.walk.proofs.walk.taken_by.Reads as reads
-use Rattle.walk.proofs.walk.taken_by.Lts as lts
-use Rattle.evaluation.proofs.evaluate.pair_of_node.Reads as pair-of-node-reads
-use Rattle.walk_steps.proofs.taken.take.Reads as take-reads
 
 -- src/walk.rt:19:9
 pair-of-node-requires : tie.Need-pair-of-node-requires

@@ -1,11 +1,6 @@
 use Rattle.walk.proofs.WalkLaws.{turn-laws}
 use Rattle.walk.proofs.walk.turn.Statement.{statement}
 use Rattle.walk.proofs.walk.turn.Tie as tie
-use Rattle.walk.proofs.walk.turn.Reads as reads
-use Rattle.walk.proofs.walk.turn.Lts as lts
-use Rattle.evaluation.proofs.evaluate.is_leaf.Reads as is-leaf-reads
-use Rattle.formulas.proofs.node.Node.of_word.Reads as of-word-reads
-use Rattle.walk.proofs.walk.turn_operator.Reads as turn-operator-reads
 
 -- src/walk.rt:48:30
 mul-of-word : tie.Need-mul-of-word

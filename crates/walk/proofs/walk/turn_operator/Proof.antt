@@ -1,10 +1,6 @@
 use Rattle.walk.proofs.WalkLaws.{operator-laws}
 use Rattle.walk.proofs.walk.turn_operator.Statement.{statement}
 use Rattle.walk.proofs.walk.turn_operator.Tie as tie
-use Rattle.walk.proofs.walk.turn_operator.Reads as reads
-use Rattle.walk.proofs.walk.turn_operator.Lts as lts
-use Rattle.walk.proofs.walk.taken_by.Reads as taken-by-reads
-use Rattle.walk.proofs.wanted.want.Reads as want-reads
 
 -- src/walk.rt:38:9
 taken-by-requires : tie.Need-taken-by-requires

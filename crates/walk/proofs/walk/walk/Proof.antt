@@ -2,10 +2,6 @@ use borrow.Author.Needs.{needs}
 use Rattle.walk.proofs.WalkLaws.{Walking, walk-turning, walk-laws}
 use Rattle.walk.proofs.walk.walk.Statement.{statement}
 use Rattle.walk.proofs.walk.walk.Tie as tie
-use Rattle.walk.proofs.walk.walk.Reads as reads
-use Rattle.walk.proofs.walk.walk.Lts as lts
-use Rattle.walk.proofs.walk.turn.Reads as turn-reads
-use Rattle.walk.proofs.wanted.start.Reads as start-reads
 
 abbrev Inv-loop : tie.InvT-loop
 Inv-loop nodes count n rows weak wanted₀ m₀ wanted m = Walking nodes count n rows weak wanted₀ m wanted

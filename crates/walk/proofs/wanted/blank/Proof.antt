@@ -2,10 +2,6 @@ use Prim.Native.Nat.{_-_}
 use Rattle.walk.proofs.WantedLaws.{Blanking, wanted-laws}
 use Rattle.walk.proofs.wanted.blank.Statement.{statement}
 use Rattle.walk.proofs.wanted.blank.Tie as tie
-use Rattle.walk.proofs.wanted.blank.Reads as reads
-use Rattle.walk.proofs.wanted.blank.Lts as lts
-use Rattle.rows.proofs.row.Row.none.Reads as none-reads
-use Rattle.walk.proofs.wanted.put.Reads as put-reads
 
 abbrev Inv-loop : tie.InvT-loop
 Inv-loop count n wanted₀ row j₀ wanted j = Blanking n count wanted₀ j wanted

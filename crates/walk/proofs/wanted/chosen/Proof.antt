@@ -1,12 +1,6 @@
 use Rattle.walk.proofs.WantedLaws.{wanted-laws}
 use Rattle.walk.proofs.wanted.chosen.Statement.{statement}
 use Rattle.walk.proofs.wanted.chosen.Tie as tie
-use Rattle.walk.proofs.wanted.chosen.Reads as reads
-use Rattle.walk.proofs.wanted.chosen.Lts as lts
-use Rattle.rows.proofs.row.Row.full.Reads as full-reads
-use Rattle.rows.proofs.row.Row.none.Reads as none-reads
-use Rattle.rows.proofs.row.Row.not.Reads as not-reads
-use Rattle.rows.proofs.row.Row.prev.Reads as prev-reads
 
 -- src/wanted.rt:56:9
 none-requires : tie.Need-none-requires

@@ -1,9 +1,6 @@
 use Rattle.walk.proofs.WantedLaws.{wanted-laws}
 use Rattle.walk.proofs.wanted.put.Statement.{statement}
 use Rattle.walk.proofs.wanted.put.Tie as tie
-use Rattle.walk.proofs.wanted.put.Reads as reads
-use Rattle.walk.proofs.wanted.put.Lts as lts
-use Rattle.rows.proofs.stored.store.Reads as store-reads
 
 -- src/wanted.rt:21:19
 mul-store : tie.Need-mul-store

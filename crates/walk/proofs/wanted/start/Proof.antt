@@ -1,11 +1,6 @@
 use Rattle.walk.proofs.WantedLaws.{wanted-laws}
 use Rattle.walk.proofs.wanted.start.Statement.{statement}
 use Rattle.walk.proofs.wanted.start.Tie as tie
-use Rattle.walk.proofs.wanted.start.Reads as reads
-use Rattle.walk.proofs.wanted.start.Lts as lts
-use Rattle.walk.proofs.wanted.blank.Reads as blank-reads
-use Rattle.walk.proofs.wanted.chosen.Reads as chosen-reads
-use Rattle.walk.proofs.wanted.want.Reads as want-reads
 
 -- src/wanted.rt:75:5
 blank-requires : tie.Need-blank-requires

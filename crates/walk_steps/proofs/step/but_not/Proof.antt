@@ -2,10 +2,6 @@ use borrow.Author.Needs.{needs}
 use Rattle.walk_steps.proofs.StepLaws.{but-not-made, step-laws}
 use Rattle.walk_steps.proofs.step.but_not.Statement.{statement}
 use Rattle.walk_steps.proofs.step.but_not.Tie as tie
-use Rattle.walk_steps.proofs.step.but_not.Reads as reads
-use Rattle.walk_steps.proofs.step.but_not.Lts as lts
-use Rattle.rows.proofs.row.Row.and.Reads as and-reads
-use Rattle.rows.proofs.row.Row.not.Reads as not-reads
 
 -- src/step.rt:23:11
 not-requires : tie.Need-not-requires

@@ -1,9 +1,6 @@
 use Rattle.walk_steps.proofs.StepLaws.{step-laws}
 use Rattle.walk_steps.proofs.step.or_step.Statement.{statement}
 use Rattle.walk_steps.proofs.step.or_step.Tie as tie
-use Rattle.walk_steps.proofs.step.or_step.Reads as reads
-use Rattle.walk_steps.proofs.step.or_step.Lts as lts
-use Rattle.walk_steps.proofs.step.but_not.Reads as but-not-reads
 
 -- src/step.rt:43:32
 but-not-requires : tie.Need-but-not-requires

@@ -1,12 +1,6 @@
 use Rattle.walk_steps.proofs.StepLaws.{step-laws}
 use Rattle.walk_steps.proofs.step.reached.Statement.{statement}
 use Rattle.walk_steps.proofs.step.reached.Tie as tie
-use Rattle.walk_steps.proofs.step.reached.Reads as reads
-use Rattle.walk_steps.proofs.step.reached.Lts as lts
-use Rattle.rows.proofs.row.Row.and.Reads as and-reads
-use Rattle.rows.proofs.row.Row.not.Reads as not-reads
-use Rattle.rows.proofs.row.Row.or.Reads as or-reads
-use Rattle.walk_steps.proofs.step.but_not.Reads as but-not-reads
 
 -- src/step.rt:53:9
 but-not-requires : tie.Need-but-not-requires

@@ -1,12 +1,6 @@
 use Rattle.walk_steps.proofs.StepLaws.{step-laws}
 use Rattle.walk_steps.proofs.step.since_step.Statement.{statement}
 use Rattle.walk_steps.proofs.step.since_step.Tie as tie
-use Rattle.walk_steps.proofs.step.since_step.Reads as reads
-use Rattle.walk_steps.proofs.step.since_step.Lts as lts
-use Rattle.rows.proofs.row.Row.next.Reads as next-reads
-use Rattle.rows.proofs.row.Row.until.Reads as until-reads
-use Rattle.walk_steps.proofs.step.but_not.Reads as but-not-reads
-use Rattle.walk_steps.proofs.step.reached.Reads as reached-reads
 
 -- src/step.rt:75:16
 but-not-requires : tie.Need-but-not-requires

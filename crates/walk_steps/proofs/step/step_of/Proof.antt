@@ -1,14 +1,6 @@
 use Rattle.walk_steps.proofs.StepLaws.{step-laws}
 use Rattle.walk_steps.proofs.step.step_of.Statement.{statement}
 use Rattle.walk_steps.proofs.step.step_of.Tie as tie
-use Rattle.walk_steps.proofs.step.step_of.Reads as reads
-use Rattle.walk_steps.proofs.step.step_of.Lts as lts
-use Rattle.rows.proofs.row.Row.next.Reads as next-reads
-use Rattle.rows.proofs.row.Row.prev.Reads as prev-reads
-use Rattle.walk_steps.proofs.step.of_first.Reads as of-first-reads
-use Rattle.walk_steps.proofs.step.or_step.Reads as or-step-reads
-use Rattle.walk_steps.proofs.step.since_step.Reads as since-step-reads
-use Rattle.walk_steps.proofs.step.until_step.Reads as until-step-reads
 
 -- src/step.rt:85:9
 of-first-requires : tie.Need-of-first-requires

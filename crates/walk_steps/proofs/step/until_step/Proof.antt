@@ -1,12 +1,6 @@
 use Rattle.walk_steps.proofs.StepLaws.{step-laws}
 use Rattle.walk_steps.proofs.step.until_step.Statement.{statement}
 use Rattle.walk_steps.proofs.step.until_step.Tie as tie
-use Rattle.walk_steps.proofs.step.until_step.Reads as reads
-use Rattle.walk_steps.proofs.step.until_step.Lts as lts
-use Rattle.rows.proofs.row.Row.prev.Reads as prev-reads
-use Rattle.rows.proofs.row.Row.since.Reads as since-reads
-use Rattle.walk_steps.proofs.step.but_not.Reads as but-not-reads
-use Rattle.walk_steps.proofs.step.reached.Reads as reached-reads
 
 -- src/step.rt:66:16
 but-not-requires : tie.Need-but-not-requires

@@ -1,10 +1,6 @@
 use Rattle.walk_steps.proofs.TakenLaws.{taken-laws}
 use Rattle.walk_steps.proofs.taken.take.Statement.{statement}
 use Rattle.walk_steps.proofs.taken.take.Tie as tie
-use Rattle.walk_steps.proofs.taken.take.Reads as reads
-use Rattle.walk_steps.proofs.taken.take.Lts as lts
-use Rattle.walk_steps.proofs.step.step_of.Reads as step-of-reads
-use Rattle.walk_steps.proofs.taken.under.Reads as under-reads
 
 -- src/taken.rt:38:9
 step-of-requires : tie.Need-step-of-requires

@@ -1,8 +1,6 @@
 use Rattle.walk_steps.proofs.TakenLaws.{taken-laws}
 use Rattle.walk_steps.proofs.taken.under.Statement.{statement}
 use Rattle.walk_steps.proofs.taken.under.Tie as tie
-use Rattle.walk_steps.proofs.taken.under.Reads as reads
-use Rattle.walk_steps.proofs.taken.under.Lts as lts
 
 -- src/taken.rt:23:9
 returns : tie.Need-returns

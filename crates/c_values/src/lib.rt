@@ -1,0 +1,2 @@
+// The answers as C has them: a number and values.
+pub mod values;

@@ -1,0 +1,2 @@
+// The program's input, split at the line `-`.
+pub mod split;

@@ -1,0 +1,2 @@
+// Both texts of the joint reading, read up to the first refusal.
+pub mod scan;

@@ -1,0 +1,2 @@
+// Lent space for the three tables of the joint reading.
+pub mod space;

@@ -1,0 +1,2 @@
+// The rows of a node without operand nodes.
+pub mod leaf;

@@ -1,0 +1,2 @@
+// Judging a rule on its own local trace.
+pub mod local;

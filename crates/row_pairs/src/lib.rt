@@ -1,0 +1,2 @@
+// A node's two rows, and the operators on them.
+pub mod pair;

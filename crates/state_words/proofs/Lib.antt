@@ -1,0 +1,3 @@
+pub mod WordLaws
+pub mod TurnLaws
+pub mod MaskLaws

@@ -1,0 +1,24 @@
+-- A state's run mark as a bit of its word, and a mask that is there or isn't.
+use mathlib.Core.Path.{_≡_, sym}
+use Prim.Native.Nat.{ℕ, _+_, _≤_, _<_, _/_, _%_, _^_}
+use mathlib.Core.List.{List}
+use lib.Dec.{eqb}
+use lib.ListN.{length, getD, List·getD-eq-default}
+use lib.Seq.{getD-take}
+use Rattle.definitions.specs.Limits.{atomCount}
+use Rattle.definitions.specs.Bounded.{bitOf}
+use Rattle.definitions.specs.Recordings.{Recording, marked, maskOf}
+use Rattle.mark_words.proofs.WordLaws.{bit-shr}
+
+pub mask-none : (masks : List ℕ) (c : ℕ) → length masks ≤ c → 0 ≡ getD masks c 0
+mask-none masks c h = sym (List·getD-eq-default masks 0 h)
+
+pub own-mask : (R : Recording) (c : ℕ) → c < R .controllers → getD (R .masks) c 0 ≡ maskOf R c
+own-mask R c h = sym (getD-take (R .controllers) (R .masks) c 0 h)
+
+-- the run mark as a bit of the state's word
+pub marked-shifted : (c s : ℕ) → eqb (s / 2 ^ (atomCount + c) % 2) 1 ≡ marked c s
+unfolding bitOf
+marked-shifted c s = sym (bit-shr c atomCount s)
+
+pub ruleset word-laws = (mask-none, marked-shifted)

@@ -1,0 +1,2 @@
+// Rows in lent space.
+pub mod stored;
