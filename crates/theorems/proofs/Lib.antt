@@ -66,3 +66,4 @@ pub mod SessionChecks
 pub mod Sessions
 pub mod SessionCalls
 pub mod SessionVerdicts
+pub mod MadeSessions

@@ -131,7 +131,7 @@ none-less : (ss : List ℕ) → length ss ≡ 0 → take (length ss - 1) ss ≡ 
 none-less [] z = refl
 none-less (s ∷ ss) z = absurd (omega arith)
 
-held-same : (a : Held) (h : Space) → image (withStates a (a .states)) h ≡ image a h
+pub held-same : (a : Held) (h : Space) → image (withStates a (a .states)) h ≡ image a h
 unfolding image
 held-same a h = refl
 
@@ -220,7 +220,7 @@ more-less ss s =
     let e : length ss ≡ length (ss ++ (s ∷ [])) - 1 = omega (arith, length-append ss (s ∷ [])) in
     take-at ss (s ∷ []) (length (ss ++ (s ∷ [])) - 1) e
 
-taken-after : (s : ℕ) (a : Held) → takes s a ≡ true → after (Arrive s) a ≡ oneMore s a
+pub taken-after : (s : ℕ) (a : Held) → takes s a ≡ true → after (Arrive s) a ≡ oneMore s a
 unfolding after
 taken-after s a t = pick-true (takes s a) (oneMore s a) a t
 
