@@ -72,11 +72,13 @@ arriving =
 
 pub record Arriving : Type 0 where
   pub answered : numbers (opening example ∷ arriving) lent ≡ 0 ∷ 18 ∷ 0 ∷ 6 ∷ 0 ∷ 10 ∷ 6 ∷ 0 ∷ 0 ∷ 0 ∷ 0 ∷ 0 ∷ []
-  -- "both verdicts equal those of judging the remaining states from the start": R's own at the end
-  pub ofExample : verdictsAnswer (session example arriving) ≡ weakStrong yes no
+  -- "both verdicts equal those of judging the remaining states from the start", R's own at the end; none up to the first state that is taken
+  pub ofExample : verdicts arriving (session example []) ≡ none ∷ none ∷ replicate 10 (weakStrong yes no)
+  -- next of atom 1: no with state 3
+  pub ofNext : verdicts arriving (session nextOrder []) ≡ none ∷ none ∷ (replicate 8 (weakStrong yes no) ++ replicate 2 (weakStrong no no))
   -- the contents are those of R's states
   pub contents : session example arriving ≡ session example (first 5)
-  -- next of atom 1, after each state: the run in state 0 has a result with state 1, that in state 2 with state 3
+  -- R alone, after each state: the run in state 0 has a result with state 1, that in state 2 with state 3
   pub ofNextOrder : verdicts (first 5) (session nextOrder []) ≡ none ∷ weakStrong yes no ∷ weakStrong yes no ∷ weakStrong yes no ∷ weakStrong no no ∷ weakStrong no no ∷ []
   -- "the last one be withdrawn": backwards
   pub backwards : verdicts (replicate 5 Withdraw) (session nextOrder (first 5))
@@ -93,6 +95,7 @@ unfolding calls
 isArriving = record {
   answered = refl;
   ofExample = refl;
+  ofNext = refl;
   contents = refl;
   ofNextOrder = refl;
   backwards = refl;
@@ -220,9 +223,19 @@ pub record Untouched : Type 0 where
   pub oldSession : leaves (Open 2 (1 ∷ 3 ∷ []) nextGate) (session example (first 5)) ≡ session example (first 5)
   pub arrival : leaves (Arrive (stateOf 4 0)) (session example (first 5)) ≡ session example (first 5)
   pub outputBroken : leaves (Arrive 0) (session example (first 5)) ≡ session example (first 5)
+  pub arrivalShort : leaves (Arrive 0) (lentOf 4 11 64 127) ≡ lentOf 4 11 64 127
   pub arrivalFull : leaves (Arrive 0) (saying (1 ∷ 0 ∷ 1 ∷ 128 ∷ [])) ≡ saying (1 ∷ 0 ∷ 1 ∷ 128 ∷ [])
   pub withdrawal : leaves Withdraw (session example []) ≡ session example []
 
 untouched : Untouched
 unfolding calls
-untouched = record { limits = refl; lentShort = refl; oldSession = refl; arrival = refl; outputBroken = refl; arrivalFull = refl; withdrawal = refl }
+untouched = record {
+  limits = refl;
+  lentShort = refl;
+  oldSession = refl;
+  arrival = refl;
+  outputBroken = refl;
+  arrivalShort = refl;
+  arrivalFull = refl;
+  withdrawal = refl;
+}
