@@ -182,6 +182,10 @@ openingRefused = record {
 abbrev saying : List ℕ → Space
 saying heading = record { heading = heading; masks = replicate 12 0; nodes = replicate 65 7; states = replicate 129 0 }
 
+-- a session of 128 states
+abbrev holding128 : Space
+holding128 = image (record { masks = 1 ∷ 2 ∷ []; rule = nextGate; states = replicate 128 0 }) lent
+
 pub record CallsRefused : Type 0 where
   -- 13 of the slices that are written, before 17 and 18
   pub arrivalHeadingShort : arriveNumber (stateOf 2048 0) (lentOf 3 11 64 128) ≡ 13
@@ -190,8 +194,8 @@ pub record CallsRefused : Type 0 where
   pub withdrawalStatesShort : withdrawNumber (record { heading = 1 ∷ 0 ∷ 1 ∷ 0 ∷ []; masks = []; nodes = []; states = replicate 127 0 }) ≡ 13
   -- 6 before 10, 10 against the state before, none for the first state; then 128 are held and it is 17 "before 6 and 10", up to a withdrawal
   pub arrivals : numbers (Arrive (stateOf 4 3) ∷ Arrive 3 ∷ Arrive (stateOf 4 0) ∷ Arrive (stateOf 0 1) ∷ Arrive 7 ∷ []) (session nextGate []) ≡ 6 ∷ 0 ∷ 6 ∷ 10 ∷ 0 ∷ []
-  pub full : numbers (replicate 128 (Arrive 0) ++ (Arrive (stateOf 4 0) ∷ Arrive 1 ∷ Arrive 0 ∷ Withdraw ∷ Arrive (stateOf 4 0) ∷ Arrive 1 ∷ Arrive 0 ∷ Arrive 0 ∷ []))
-      (session nextGate []) ≡ replicate 128 0 ++ (17 ∷ 17 ∷ 17 ∷ 0 ∷ 6 ∷ 10 ∷ 0 ∷ 17 ∷ [])
+  pub full : numbers (Arrive (stateOf 4 0) ∷ Arrive 1 ∷ Arrive 0 ∷ Withdraw ∷ Arrive (stateOf 4 0) ∷ Arrive 1 ∷ Arrive 0 ∷ Arrive 0 ∷ []) holding128
+      ≡ 17 ∷ 17 ∷ 17 ∷ 0 ∷ 6 ∷ 10 ∷ 0 ∷ 17 ∷ []
   -- 18, in a new session and after the last state was withdrawn
   pub empty : numbers (Withdraw ∷ Arrive 0 ∷ Withdraw ∷ Withdraw ∷ []) (session nextGate []) ≡ 18 ∷ 0 ∷ 0 ∷ 18 ∷ []
   -- on other contents: C or the number of states outside its limits
