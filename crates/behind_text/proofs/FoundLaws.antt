@@ -30,7 +30,7 @@ use Rattle.theorems.proofs.RunStates.{few-runs}
 use Rattle.walk.proofs.WalkLaws.{node-at}
 use Rattle.judges.proofs.CheckedNodes.{nodes-there}
 use Rattle.evidence_text.specs.Pairs.{maxPairBytes, pairIn, pairsIn, PairReady}
-use Rattle.evidence_text.proofs.StateLaws.{state-low}
+use Rattle.place_states.proofs.StateLaws.{state-low}
 use Rattle.evidence_text.proofs.LineLaws.{line-length}
 
 -- what holds of each pair holds of the number that it is in lent space

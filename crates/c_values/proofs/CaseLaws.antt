@@ -1,7 +1,7 @@
--- One law for each case of an answer.
+-- One law for each case of an answer, and one for what the joint reading found.
 use mathlib.Core.Path.{_≡_, refl}
 use mathlib.Core.Bool.{Bool, true, false}
-use mathlib.Core.List.{[], _∷_}
+use mathlib.Core.List.{[], _∷_, _++_}
 use Prim.Native.Nat.{ℕ}
 use lib.Dec.{eqb}
 use mir.Val.{boolByte}
@@ -31,7 +31,10 @@ use Rattle.evidence.specs.declared.evidence.Explanation.the-variants as explana
 use Rattle.rewriting.specs.Answers.{answerOf as rewritten}
 use Rattle.rewriting.specs.declared.rewrite.Rewriting.{Rewriting}
 use Rattle.rewriting.specs.declared.rewrite.Rewriting.the-variants as rewriting
-use Rattle.c_values.specs.Values.{heading}
+use Rattle.joint_scan.specs.Scanning.{partOf}
+use Rattle.joint_scan.specs.declared.scan.Found.{Found}
+use Rattle.joint_text.specs.Joining.{headingOf}
+use Rattle.c_values.specs.Values.{heading, partValues}
 
 -- ---- the cases of each answer
 module _ (w : RuleRead) where
@@ -124,3 +127,11 @@ pub ruleset case-laws = (
   rewriting-laid,
   rewriting-refused,
 )
+
+-- ---- the joint reading
+pub found-laid : (f : Found) (text : ℕ) → text ≡ pick (f .«of_rule») 0 1 →
+    f .number ∷ f .controller ∷ f .count ∷ f .controllers ∷ f .states ∷ text ∷ f .from ∷ f .len ∷ [] ≡ headingOf f ++ partValues (partOf f)
+unfolding partValues
+found-laid f text e = rw e
+
+pub ruleset found-laws = (needs, found-laid)

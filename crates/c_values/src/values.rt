@@ -1,6 +1,6 @@
 // Each answer as C has it: its number, and its values in an array of fixed length, zeros on a refusal.
 ghost use mathlib.Core.Path.{_≡_};
-ghost use mathlib.Core.List.{_∷_};
+ghost use mathlib.Core.List.{_∷_, _++_};
 ghost use Rattle.formula_reader.specs.Reading.{readAnswer as ruleRead};
 ghost use Rattle.formula_writer.specs.Writing.{writeAnswer as ruleWritten};
 ghost use Rattle.trace_reader.specs.Reading.{readAnswer as recordingRead};
@@ -8,11 +8,15 @@ ghost use Rattle.projection.specs.Answers.{answerOf as projected};
 ghost use Rattle.judges.specs.Verdicts.{answerOf as judged};
 ghost use Rattle.evidence.specs.Answers.{answerOf as explained};
 ghost use Rattle.rewriting.specs.Answers.{answerOf as rewritten};
-ghost use Rattle.c_values.specs.Values.{heading};
+ghost use Rattle.joint_scan.specs.Scanning.{partOf};
+ghost use Rattle.joint_text.specs.Joining.{headingOf};
+ghost use Rattle.c_values.specs.Values.{heading, partValues};
 use evidence::evidence::Explanation;
 use formula_reader::RuleRead;
 use formula_writer::RuleWritten;
+use formulas::choice::pick_index;
 use formulas::limits::Refusal;
+use joint_scan::scan::Found;
 use judges::verdicts::Judgement;
 use projection::project::Projection;
 use rewriting::rewrite::Rewriting;
@@ -35,6 +39,17 @@ pub struct Three {
     pub number: u8,
     pub values: [usize; 3],
 }
+
+// A number and seven values.
+pub struct Seven {
+    pub number: u8,
+    pub values: [usize; 7],
+}
+
+// Which text a part lies in.
+const RULE_TEXT: usize = 0;
+
+const RECORDING_TEXT: usize = 1;
 
 pub fn of_rule_read(answer: RuleRead) -> Two
     ensures { λ r. ⌜ r .number ∷ r .values ≡ heading 2 (ruleRead answer) ⌝ }
@@ -138,5 +153,24 @@ pub fn of_rewriting(answer: Rewriting) -> Three
             number,
             values: [0, 0, 0],
         },
+    }
+}
+
+// The heading of the joint reading, and of the part handed back: which text it lies in, start, length.
+pub fn of_found(found: Found) -> Seven
+    ensures { λ r. ⌜ r .number ∷ r .values ≡ headingOf found ++ partValues (partOf found) ⌝ }
+{
+    let text = pick_index(found.of_rule, RULE_TEXT, RECORDING_TEXT);
+    Seven {
+        number: found.number,
+        values: [
+            found.controller as usize,
+            found.count as usize,
+            found.controllers as usize,
+            found.states as usize,
+            text,
+            found.from,
+            found.len,
+        ],
     }
 }

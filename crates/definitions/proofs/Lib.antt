@@ -11,3 +11,4 @@ pub mod OneLineTrials
 pub mod LongestTrials
 pub mod ElevenTrials
 pub mod PastTrials
+pub mod SessionTrials

@@ -12,6 +12,7 @@ pub mod Lines
 pub mod RuleText
 pub mod RecordingText
 pub mod Operations
+pub mod Sessions
 pub mod Program
 pub mod LinePrograms
 pub mod Longest

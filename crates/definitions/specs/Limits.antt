@@ -117,6 +117,14 @@ lineForm = 15
 abbrev pub bracketsDeep : ℕ
 bracketsDeep = 16
 
+-- "17, an arrival when 128 states are held, tested before 6 and 10"
+abbrev pub sessionFull : ℕ
+sessionFull = 17
+
+-- "18, a withdrawal from an empty session"
+abbrev pub sessionEmpty : ℕ
+sessionEmpty = 18
+
 -- "Lent space for fewer than 8,192 pairs is refused with 13": the readings behind a verdict, one for each place and node
 abbrev pub maxPairs : ℕ
 maxPairs = maxStates * maxRuleNodes

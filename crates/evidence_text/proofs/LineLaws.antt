@@ -21,7 +21,7 @@ use Rattle.report.specs.Reporting.{countedLine}
 use Rattle.report.proofs.ReportLaws.{first-room, rest-room, both}
 use Rattle.evidence_text.specs.Pairs.{maxPairBytes, pairOf, lineText, placeText, readingText, pairIn, pairsIn, PairReady, PairsReady}
 use Rattle.evidence_text.specs.declared.line.Line.{Line}
-use Rattle.evidence_text.proofs.StateLaws.{state-low}
+use Rattle.place_states.proofs.StateLaws.{state-low}
 
 -- ---- `line_of`
 module _ (c : ℕ) (nodes : List ℕ) (N : ℕ) (states places : List ℕ) (w : ℕ) (so : PairReady c nodes N states places w) where

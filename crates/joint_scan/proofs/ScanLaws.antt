@@ -23,9 +23,9 @@ use Rattle.lines.specs.declared.next.Line.{Line}
 use Rattle.lines.proofs.NextLaws.{length-le}
 use Rattle.formula_reader.specs.Reading.{RuleScanned}
 use Rattle.formula_reader.specs.declared.Scanned as ruled
-use Rattle.trace_reader.specs.Reading.{RecordingScanned}
-use Rattle.trace_reader.specs.declared.Scanned as recorded
-use Rattle.trace_reader.proofs.ScanLaws.{recording-low, recording-end}
+use Rattle.trace_scan.specs.Scanning.{RecordingScanned}
+use Rattle.trace_scan.specs.declared.Scanned as recorded
+use Rattle.trace_scan.proofs.ScanLaws.{recording-low, recording-end}
 use Rattle.joint_scan.specs.Scanning.{refusedAt, jointValues, Held, JointScanned}
 use Rattle.joint_scan.specs.declared.scan.Found.{Found}
 

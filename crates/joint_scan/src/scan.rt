@@ -8,7 +8,7 @@ ghost use Rattle.joint_scan.specs.Scanning.{refusedAt, JointScanned};
 use formula_reader::scan_rule;
 use formulas::limits::Refusal;
 use lines::next::first_line;
-use trace_reader::scan_recording;
+use trace_scan::scan_recording;
 
 // The number and, accepted, controller, node count, C and N; and the part handed back: of which text, from where, how long.
 pub struct Found {

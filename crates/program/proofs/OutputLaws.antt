@@ -27,10 +27,10 @@ use Rattle.printing.specs.Printing.{laidAt, Printed}
 use Rattle.printing.proofs.PrintLaws.{digits-fit}
 use Rattle.scanning.proofs.PartLaws.{part-to-end}
 use Rattle.formula_reader.proofs.ReadLaws.{rule-low}
-use Rattle.trace_reader.proofs.ScanLaws.{recording-low}
+use Rattle.trace_scan.proofs.ScanLaws.{recording-low}
 use Rattle.joint_text.specs.Joining.{ReadJoint}
 use Rattle.report.specs.Reporting.{maxOutputBytes, reportText}
-use Rattle.program.specs.Judged.{ReportIs}
+use Rattle.judged_tables.specs.Judged.{ReportIs}
 use Rattle.input_split.specs.Splitting.{SplitAt}
 use Rattle.program.specs.Output.{TextsRoom, foundRule, foundRecording, Found, OutputIs}
 use Rattle.report.specs.declared.Report.{Report}

@@ -17,7 +17,7 @@ use Rattle.definitions.specs.Program.{scanned}
 use Rattle.theorems.proofs.Choice.{by-test, accept-yes, none-or-else}
 use Rattle.theorems.proofs.Inversions.{must-pass, passes}
 use Rattle.theorems.proofs.NextLines.{on-next, next-back, next-some}
-use Rattle.trace_reader.proofs.ScanLaws.{masks-counted, states-counted}
+use Rattle.trace_scan.proofs.ScanLaws.{masks-counted, states-counted}
 
 -- ---- an accepted line is read as an entry that is accepted
 abbrev MasksFine : List ℕ → Scan → Type 0

@@ -2,12 +2,12 @@
 ghost use Rattle.definitions.specs.Program.{textsOutput, programOutput};
 ghost use Rattle.printing.specs.Printing.{Printed};
 ghost use Rattle.program.specs.Output.{TextsRoom, foundRule, foundRecording, Found, OutputIs};
-ghost use Rattle.program.specs.Judged.{ReportIs};
-use super::tables::judge_tables;
+ghost use Rattle.judged_tables.specs.Judged.{ReportIs};
 use formulas::limits::Limits;
 use formulas::limits::Refusal;
 use input_split::split::split;
 use joint_text::joint::read_joint;
+use judged_tables::tables::judge_tables;
 use judges::headings::RecordingHeading;
 use judges::headings::RuleHeading;
 use report::Report;

@@ -1,11 +1,12 @@
 -- Laws of the interface for C: one that carries an operation's answer over, and one for the joint reading.
 use mathlib.Core.Path.{_≡_, ap, _∙_}
-use mathlib.Core.List.{List, [], _∷_, _++_}
+use mathlib.Core.List.{List, _++_}
 use Prim.Native.Nat.{ℕ}
 use borrow.Author.Needs.{needs}
-use Rattle.definitions.specs.Bounded.{pick}
+use Rattle.definitions.specs.RecordingText.{Part}
 use Rattle.definitions.specs.Operations.{Answer, readJointHeading, readJointPart}
-use Rattle.joint_text.specs.Joining.{Joined}
+use Rattle.joint_scan.specs.Scanning.{partOf}
+use Rattle.joint_text.specs.Joining.{headingOf, Joined}
 use Rattle.joint_scan.specs.declared.scan.Found.{Found}
 use Rattle.c_values.specs.Values.{heading, partValues}
 
@@ -16,11 +17,12 @@ carried width l a b e f = e ∙ ap (heading width) f
 pub ruleset operation-laws = (needs, carried)
 
 -- ---- the joint reading
-pub joint-laid : (rule recording nodes masks states : List ℕ) (f : Found) (nodes′ masks′ states′ : List ℕ) (text : ℕ) →
-    Joined rule recording nodes masks states f nodes′ masks′ states′ → text ≡ pick (f .«of_rule») 0 1 →
-    f .number ∷ f .controller ∷ f .count ∷ f .controllers ∷ f .states ∷ text ∷ f .from ∷ f .len ∷ []
-    ≡ readJointHeading rule recording nodes masks states ++ partValues (readJointPart rule recording nodes masks states)
-unfolding partValues
-joint-laid rule recording nodes masks states f nodes′ masks′ states′ text j e = rw (e, ← j .heading, ← j .part)
+pub joint-laid : (rule recording nodes masks states : List ℕ) (f : Found) (nodes′ masks′ states′ l : List ℕ) →
+    Joined rule recording nodes masks states f nodes′ masks′ states′ → l ≡ headingOf f ++ partValues (partOf f) →
+    l ≡ readJointHeading rule recording nodes masks states ++ partValues (readJointPart rule recording nodes masks states)
+joint-laid rule recording nodes masks states f nodes′ masks′ states′ l j e =
+    e
+    ∙ (ap (λ (x : List ℕ). x ++ partValues (partOf f)) (j .heading)
+    ∙ ap (λ (p : Part). readJointHeading rule recording nodes masks states ++ partValues p) (j .part))
 
 pub ruleset joint-laws = (needs, joint-laid)

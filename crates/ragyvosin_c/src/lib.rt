@@ -10,19 +10,14 @@ ghost use Rattle.definitions.specs.Operations.{evidenceAnswer, evidencePairs, r
 ghost use Rattle.definitions.specs.OneLine.{readLineAnswer, readLineNodes};
 ghost use Rattle.c_values.specs.Values.{heading, partValues, isSet};
 use c_values::values::of_explanation;
+use c_values::values::of_found;
 use c_values::values::of_judgement;
 use c_values::values::of_projection;
 use c_values::values::of_recording_read;
 use c_values::values::of_rewriting;
 use c_values::values::of_rule_read;
 use c_values::values::of_rule_written;
-use formulas::choice::pick_index;
 use joint_text::joint::join;
-
-// Which text a part lies in.
-const RULE_TEXT: usize = 0;
-
-const RECORDING_TEXT: usize = 1;
 
 // Values: controller, node count.
 #[no_mangle]
@@ -109,17 +104,10 @@ pub extern "C" fn rgv_read_joint(
     ensures { λ _. ⌜ now (states .exit) ≡ readJointStates (now (rule .entry)) (now (recording .entry)) (now (nodes .entry)) (now (masks .entry)) (now (states .entry)) ⌝ }
 {
     let found = join(rule, recording, nodes, masks, states);
-    let text = pick_index(found.of_rule, RULE_TEXT, RECORDING_TEXT);
-    *values = [
-        found.controller as usize,
-        found.count as usize,
-        found.controllers as usize,
-        found.states as usize,
-        text,
-        found.from,
-        found.len,
-    ];
-    found.number
+    let laid = of_found(found);
+    let laid_values = laid.values;
+    *values = laid_values;
+    laid.number
 }
 
 // Value: length of the local trace.

@@ -70,6 +70,15 @@ pub none-or-else : (a b : ℕ) → a ≡ 0 → b ≡ 0 → orElse a b ≡ 0
 unfolding orElse pick
 none-or-else a b p q = rw (eq-eqb a 0 p) q
 
+-- an acceptance after a refusal
+pub or-else-accepted : (a : ℕ) → orElse a 0 ≡ a
+unfolding orElse pick
+or-else-accepted a = by-test (eqb a 0) (λ z. rw z (sym (eqb-true a 0 z))) (λ z. rw z)
+
+pub or-else-assoc : (a b c : ℕ) → orElse (orElse a b) c ≡ orElse a (orElse b c)
+unfolding orElse pick
+or-else-assoc a b c = by-test (eqb a 0) (λ z. rw z) (λ z. rw (z, z))
+
 -- what the bounded quantifiers say of each place
 pub some-no : (f : ℕ → Bool) (n k j : ℕ) → someOf n k f ≡ false → k ≤ j → j < k + n → f j ≡ false
 some-no f zero k j h a b = absurd (omega arith)

@@ -10,6 +10,7 @@ pub mod Counts
 pub mod ShorterPast
 pub mod RefusalBounds
 pub mod LentSpace
+pub mod LentContents
 pub mod RewrittenAccepted
 pub mod Walk
 pub mod Operators
@@ -61,3 +62,8 @@ pub mod OneLineMeaning
 pub mod OneLineTables
 pub mod OneLineAnswers
 pub mod FlatRefusal
+pub mod SessionChecks
+pub mod Sessions
+pub mod SessionCalls
+pub mod SessionVerdicts
+pub mod MadeSessions

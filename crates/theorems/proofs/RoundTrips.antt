@@ -100,7 +100,7 @@ written r buffer e h =
     record { answered = rw z; holds = rw z (left-accepted maxRuleBytes (textOf r) buffer) }
 
 -- entries past the count are not read
-nodes-past : (b : Bool) (i n : ℕ) (ws : List ℕ) → nodesRefusal b i n (take n ws) ≡ nodesRefusal b i n ws
+pub nodes-past : (b : Bool) (i n : ℕ) (ws : List ℕ) → nodesRefusal b i n (take n ws) ≡ nodesRefusal b i n ws
 unfolding nodesRefusal
 nodes-past b i zero ws = refl
 nodes-past b i (suc n) [] = refl

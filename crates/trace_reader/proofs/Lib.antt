@@ -1,3 +1,1 @@
-pub mod ScanLaws
-pub mod LoopLaws
 pub mod ReadLaws

@@ -7,20 +7,8 @@ use Rattle.ragyvosin_c.proofs.rgv_read_joint.Tie as tie
 join-requires : tie.Need-join-requires
 join-requires c κs = search needs
 
-pick-index-requires : tie.Need-pick-index-requires
-pick-index-requires c κs = search needs
-
-cast-t15 : tie.Need-cast-t15
-cast-t15 c = search needs
-
-cast-t16 : tie.Need-cast-t16
-cast-t16 c = search needs
-
-cast-t17 : tie.Need-cast-t17
-cast-t17 c = search needs
-
-cast-t18 : tie.Need-cast-t18
-cast-t18 c = search needs
+of-found-requires : tie.Need-of-found-requires
+of-found-requires c κs = search needs
 
 same-length : tie.Need-same-length
 same-length c = search needs
@@ -35,16 +23,4 @@ returns : tie.Need-returns
 returns c = (search joint-laws, (search needs, (search needs, search needs)))
 
 pub rgv-read-joint-spec : {M : Type 1} → statement M
-rgv-read-joint-spec =
-    tie.close
-    (tie.spec
-    join-requires
-    pick-index-requires
-    cast-t15
-    cast-t16
-    cast-t17
-    cast-t18
-    same-length
-    same-length-2
-    same-length-3
-    returns)
+rgv-read-joint-spec = tie.close (tie.spec join-requires of-found-requires same-length same-length-2 same-length-3 returns)

@@ -1,0 +1,245 @@
+-- The calls of a session: a refused one changes nothing, each does in lent space what it does to what is held, and so does every list of them.
+use mathlib.Core.Path.{_≡_, refl, sym, ap, _∙_}
+use Prim.Native.Nat.{ℕ, _-_, _<_}
+use native.Mathlib.Omega.{arith}
+use native.Mathlib.Decide.{decLt}
+use mathlib.Core.Bool.{Bool, true, false, _||_, true≢false}
+use mathlib.Core.List.{List, [], _∷_, _++_}
+use lib.ListN.{length, take, getD, length-append}
+use lib.Dec.{eqb, ltb}
+use lib.Seq.{take-at}
+use borrow.Author.Tests.{le-ltb, lt-ltb, lt-leb, ne-eqb, eq-eqb, eqb-true, ltb-true, ltb-false}
+use Rattle.definitions.specs.Limits.{maxControllers, maxStates, maxRuleNodes, accepted, lentShort, sessionFull, sessionEmpty}
+use Rattle.definitions.specs.Bounded.{pick}
+use Rattle.definitions.specs.Tables.{Rule}
+use Rattle.definitions.specs.Recordings.{stateRefusal, recordingRefusal}
+use Rattle.definitions.specs.Operations.{tooShort}
+use Rattle.definitions.specs.Sessions.{headingSize, Space, Held, recordingHeld, image, controllersRefusal, openRefusal, openNumber, arrivalRefusal, arriveNumber, withdrawalRefusal, withdrawNumber, opened, arrived, withdrawn, Call, Open, Arrive, Withdraw, numberOf, acceptedLeaves, leaves, leavesAll, withStates, oneMore, oneLess, takes, after, afterAll, Sound, Full, Made}
+use Rattle.theorems.proofs.Choice.{both-false, pick-true, pick-false, pick-must, pick-other}
+use Rattle.theorems.proofs.Inversions.{first-accepted}
+use Rattle.theorems.proofs.SessionChecks.{held-limits, few-states, first-state, recording-more, opened-sound, less-sound}
+use Rattle.theorems.proofs.Sessions.{image-controllers, image-held, image-masks, image-last, image-full, image-over, image-arrived, image-withdrawn}
+
+-- "A refused call, the opening too, changes nothing, lent space included": on any contents
+pub refused-changes-nothing : (c : Call) (h : Space) → (numberOf c h ≡ 0 → ⊥) → leaves c h ≡ h
+unfolding leaves
+refused-changes-nothing c h n = pick-false (eqb (numberOf c h) accepted) (acceptedLeaves c h) h (ne-eqb (numberOf c h) accepted n)
+
+pub accepted-leaves : (c : Call) (h : Space) → numberOf c h ≡ 0 → leaves c h ≡ acceptedLeaves c h
+unfolding leaves
+accepted-leaves c h e = pick-true (eqb (numberOf c h) accepted) (acceptedLeaves c h) h (eq-eqb (numberOf c h) accepted e)
+
+-- ---- the numbers that a session's calls answer
+module _ (a : Held) (h : Space) (k : Sound a) (f : Full h) where
+  full : Full (image a h)
+  full = image-full a h k f
+
+  enough-heading : tooShort headingSize ((image a h) .heading) ≡ false
+  enough-heading = le-ltb (length ((image a h) .heading)) headingSize (full .heading)
+
+  enough-masks : tooShort maxControllers ((image a h) .masks) ≡ false
+  enough-masks = le-ltb (length ((image a h) .masks)) maxControllers (full .masks)
+
+  enough-nodes : tooShort maxRuleNodes ((image a h) .nodes) ≡ false
+  enough-nodes = le-ltb (length ((image a h) .nodes)) maxRuleNodes (full .nodes)
+
+  enough-states : tooShort maxStates ((image a h) .states) ≡ false
+  enough-states = le-ltb (length ((image a h) .states)) maxStates (full .states)
+
+  -- an opening over a session
+  pub open-number : (C : ℕ) (masks : List ℕ) (r : Rule) → openNumber C masks r (image a h) ≡ openRefusal C masks r
+  unfolding openNumber pick
+  open-number C masks r = rw (enough-heading, enough-masks, enough-nodes, enough-states)
+
+  -- the state before an arrival
+  state-before : (s : ℕ) →
+      stateRefusal (length (a .masks)) (a .masks) (length (a .states)) (getD ((image a h) .states) (length (a .states) - 1) 0) s
+      ≡ stateRefusal (length (a .masks)) (a .masks) (length (a .states)) (getD (a .states) (length (a .states) - 1) 0) s
+  state-before s = go (decLt 0 (length (a .states)))
+    where
+      go : Dec (0 < length (a .states)) →
+          stateRefusal (length (a .masks)) (a .masks) (length (a .states)) (getD ((image a h) .states) (length (a .states) - 1) 0) s
+          ≡ stateRefusal (length (a .masks)) (a .masks) (length (a .states)) (getD (a .states) (length (a .states) - 1) 0) s
+      go (yes p) = rw (image-last a h p)
+      go (no p) =
+          let z : length (a .states) ≡ 0 = omega arith in
+          rw z (first-state (length (a .masks)) (a .masks) (getD ((image a h) .states) (0 - 1) 0) (getD (a .states) (0 - 1) 0) s)
+
+  -- with under 128 states an arrival is refused exactly as the recording with it is
+  pub arrive-number : (s : ℕ) → length (a .states) < maxStates → arriveNumber s (image a h) ≡ recordingRefusal (recordingHeld (oneMore s a))
+  unfolding arriveNumber arrivalRefusal pick
+  arrive-number s l =
+      rw (enough-heading, enough-states, image-held a h, image-controllers a h, image-masks a h, lt-leb maxStates (length (a .states)) l)
+      (first-accepted (controllersRefusal (length (a .masks))) _ (held-limits a k) ∙ (state-before s ∙ sym (recording-more a s k l)))
+
+  -- "17, an arrival when 128 states are held", whatever arrives
+  pub arrive-full : (s : ℕ) → length (a .states) ≡ maxStates → arriveNumber s (image a h) ≡ sessionFull
+  unfolding arriveNumber arrivalRefusal pick
+  arrive-full s e = rw (enough-heading, enough-states, image-held a h, e)
+
+  pub withdraw-number : 0 < length (a .states) → withdrawNumber (image a h) ≡ 0
+  unfolding withdrawNumber withdrawalRefusal pick
+  withdraw-number p =
+      rw (enough-heading, enough-states, image-held a h, ne-eqb (length (a .states)) 0 (λ e. omega arith), le-ltb maxStates (length (a .states)) (few-states a k))
+
+  -- "18, a withdrawal from an empty session"
+  pub withdraw-empty : length (a .states) ≡ 0 → withdrawNumber (image a h) ≡ sessionEmpty
+  unfolding withdrawNumber withdrawalRefusal pick
+  withdraw-empty z = rw (enough-heading, enough-states, image-held a h, z)
+
+  pub arrive-takes : (s : ℕ) → eqb (arriveNumber s (image a h)) accepted ≡ takes s a
+  unfolding takes pick
+  arrive-takes s = go (decLt (length (a .states)) maxStates)
+    where
+      go : Dec (length (a .states) < maxStates) →
+          eqb (arriveNumber s (image a h)) accepted ≡ pick (ltb (length (a .states)) maxStates) (eqb (recordingRefusal (recordingHeld (oneMore s a))) accepted) false
+      go (yes l) = rw (arrive-number s l, lt-ltb (length (a .states)) maxStates l)
+      go (no l) = rw (arrive-full s (omega (arith, few-states a k)), le-ltb (length (a .states)) maxStates (omega arith))
+
+-- ---- what is held stays accepted
+
+sound-pick : (t : Bool) (a b : Held) → (t ≡ true → Sound a) → Sound b → Sound (pick t a b)
+unfolding pick
+sound-pick true a b f g = f refl
+sound-pick false a b f g = g
+
+takes-parts : (s : ℕ) (a : Held) → takes s a ≡ true → (length (a .states) < maxStates) × (recordingRefusal (recordingHeld (oneMore s a)) ≡ 0)
+unfolding takes
+takes-parts s a t =
+    let (z, e) = pick-must true (ltb (length (a .states)) maxStates) (eqb (recordingRefusal (recordingHeld (oneMore s a))) accepted) false t (λ q. true≢false (sym q)) in
+    (ltb-true (length (a .states)) maxStates z, eqb-true (recordingRefusal (recordingHeld (oneMore s a))) accepted e)
+
+more-sound : (a : Held) (s : ℕ) → Sound a → takes s a ≡ true → Sound (oneMore s a)
+more-sound a s k t = record { opens = k .opens; nodes = k .nodes; states = λ p. (takes-parts s a t) .1 }
+
+pub after-sound : (c : Call) (a : Held) → Sound a → Sound (after c a)
+unfolding after
+after-sound (Open C masks r) a k =
+    sound-pick (eqb (openRefusal C masks r) accepted) (opened C masks r) a (λ t. opened-sound C masks r (eqb-true (openRefusal C masks r) accepted t)) k
+after-sound (Arrive s) a k = sound-pick (takes s a) (oneMore s a) a (more-sound a s k) k
+after-sound Withdraw a k = less-sound a k
+
+-- ---- and is what lent space holds
+
+pick-image : (t u : Bool) (x : Space) (a b : Held) (h : Space) → t ≡ u → (u ≡ true → x ≡ image a h) → pick t x (image b h) ≡ image (pick u a b) h
+unfolding pick
+pick-image t true x a b h e f = rw e (f refl)
+pick-image t false x a b h e f = rw e
+
+-- of no states all but the last are these
+none-less : (ss : List ℕ) → length ss ≡ 0 → take (length ss - 1) ss ≡ ss
+none-less [] z = refl
+none-less (s ∷ ss) z = absurd (omega arith)
+
+pub held-same : (a : Held) (h : Space) → image (withStates a (a .states)) h ≡ image a h
+unfolding image
+held-same a h = refl
+
+withdrawal-image : (a : Held) (h : Space) → Sound a → Full h → Dec (0 < length (a .states)) →
+    pick (eqb (withdrawNumber (image a h)) accepted) (withdrawn (image a h)) (image a h) ≡ image (oneLess a) h
+unfolding pick
+withdrawal-image a h k f (yes p) = rw (withdraw-number a h k f p) (image-withdrawn a h k p)
+withdrawal-image a h k f (no p) =
+    let z : length (a .states) ≡ 0 = omega arith in
+    rw (withdraw-empty a h k f z, none-less (a .states) z) (sym (held-same a h))
+
+pub leaves-image : (c : Call) (a : Held) (h : Space) → Sound a → Full h → leaves c (image a h) ≡ image (after c a) h
+unfolding leaves after
+leaves-image (Open C masks r) a h k f =
+    pick-image (eqb (openNumber C masks r (image a h)) accepted) (eqb (openRefusal C masks r) accepted) (image (opened C masks r) (image a h)) (opened C masks r) a h
+    (rw (open-number a h k f C masks r)) (λ t. image-over a h k (opened C masks r))
+leaves-image (Arrive s) a h k f =
+    pick-image (eqb (arriveNumber s (image a h)) accepted) (takes s a) (arrived s (image a h)) (oneMore s a) a h
+    (arrive-takes a h k f s) (λ t. image-arrived a h k s ((takes-parts s a t) .0))
+leaves-image Withdraw a h k f = withdrawal-image a h k f (decLt 0 (length (a .states)))
+
+-- ---- a list of calls
+
+pub calls-sound : (cs : List Call) (a : Held) → Sound a → Sound (afterAll cs a)
+unfolding afterAll
+calls-sound [] a k = k
+calls-sound (c ∷ cs) a k = calls-sound cs (after c a) (after-sound c a k)
+
+pub calls-image : (cs : List Call) (a : Held) (h : Space) → Sound a → Full h → leavesAll cs (image a h) ≡ image (afterAll cs a) h
+unfolding afterAll leavesAll
+calls-image [] a h k f = refl
+calls-image (c ∷ cs) a h k f = ap (leavesAll cs) (leaves-image c a h k f) ∙ calls-image cs (after c a) h (after-sound c a k) f
+
+-- arrivals and withdrawals
+abbrev pub Steps : List Call → Type 0
+Steps [] = Unit {0}
+Steps (Open C masks r ∷ cs) = ⊥
+Steps (Arrive s ∷ cs) = Steps cs
+Steps (Withdraw ∷ cs) = Steps cs
+
+pick-same : {A : Type 0} (f : Held → A) (t : Bool) (a b : Held) → f a ≡ f b → f (pick t a b) ≡ f b
+unfolding pick
+pick-same f true a b e = e
+pick-same f false a b e = refl
+
+-- keep what is neither an opening's nor theirs
+module _ {A : Type 0} (f : Held → A) (kept : (a : Held) (ss : List ℕ) → f (withStates a ss) ≡ f a) where
+  steps-keep : (cs : List Call) → Steps cs → (a : Held) → f (afterAll cs a) ≡ f a
+  unfolding afterAll after
+  steps-keep [] t a = refl
+  steps-keep (Open C masks r ∷ cs) t a = absurd t
+  steps-keep (Arrive s ∷ cs) t a = steps-keep cs t (pick (takes s a) (oneMore s a) a) ∙ pick-same f (takes s a) (oneMore s a) a (kept a (a .states ++ (s ∷ [])))
+  steps-keep (Withdraw ∷ cs) t a = steps-keep cs t (oneLess a) ∙ kept a (take (length (a .states) - 1) (a .states))
+
+pub steps-masks : (cs : List Call) → Steps cs → (a : Held) → (afterAll cs a) .masks ≡ a .masks
+steps-masks cs t a = steps-keep (λ x. x .masks) (λ x ss. refl) cs t a
+
+pub steps-rule : (cs : List Call) → Steps cs → (a : Held) → (afterAll cs a) .rule ≡ a .rule
+steps-rule cs t a = steps-keep (λ x. x .rule) (λ x ss. refl) cs t a
+
+-- ---- an opening is accepted where every slice has its full size and its masks and rule are accepted
+pub open-parts : (C : ℕ) (masks : List ℕ) (r : Rule) (h : Space) → openNumber C masks r h ≡ 0 → Full h × (openRefusal C masks r ≡ 0)
+unfolding openNumber
+open-parts C masks r h e =
+    let a = tooShort headingSize (h .heading) in
+    let b = tooShort maxControllers (h .masks) in
+    let c = tooShort maxRuleNodes (h .nodes) in
+    let d = tooShort maxStates (h .states) in
+    let (s, z) = pick-other 0 (a || b || c || d) lentShort (openRefusal C masks r) e (λ q. omega arith) in
+    let (abc, u) = both-false (a || b || c) d s in
+    let (ab, t) = both-false (a || b) c abc in
+    let (p, q) = both-false a b ab in (
+      record {
+        heading = ltb-false (length (h .heading)) headingSize p;
+        masks = ltb-false (length (h .masks)) maxControllers q;
+        nodes = ltb-false (length (h .nodes)) maxRuleNodes t;
+        states = ltb-false (length (h .states)) maxStates u;
+      },
+      z,
+    )
+
+-- ---- an arrival that was taken, then a withdrawal
+
+more-less : (ss : List ℕ) (s : ℕ) → take (length (ss ++ (s ∷ [])) - 1) (ss ++ (s ∷ [])) ≡ ss
+more-less ss s =
+    let e : length ss ≡ length (ss ++ (s ∷ [])) - 1 = omega (arith, length-append ss (s ∷ [])) in
+    take-at ss (s ∷ []) (length (ss ++ (s ∷ [])) - 1) e
+
+pub taken-after : (s : ℕ) (a : Held) → takes s a ≡ true → after (Arrive s) a ≡ oneMore s a
+unfolding after
+taken-after s a t = pick-true (takes s a) (oneMore s a) a t
+
+withdrawn-after : (a : Held) → after Withdraw a ≡ oneLess a
+unfolding after
+withdrawn-after a = refl
+
+arrive-withdraw : (s : ℕ) (a : Held) → takes s a ≡ true → afterAll (Arrive s ∷ Withdraw ∷ []) a ≡ oneLess (oneMore s a)
+unfolding afterAll
+arrive-withdraw s a t = ap (after Withdraw) (taken-after s a t) ∙ withdrawn-after (oneMore s a)
+
+-- leaves every entry as it was
+pub withdrawal-undoes : (s : ℕ) (h : Space) → Made h → arriveNumber s h ≡ 0 → leavesAll (Arrive s ∷ Withdraw ∷ []) h ≡ h
+withdrawal-undoes s h m e =
+    let a : Held = m .held in
+    let k = m .sound in
+    let f = m .full in
+    let t : takes s a ≡ true = sym (arrive-takes a h k f s) ∙ eq-eqb (arriveNumber s (image a h)) 0 (ap (arriveNumber s) (sym (m .is)) ∙ e) in
+    ap (leavesAll (Arrive s ∷ Withdraw ∷ [])) (m .is)
+    ∙ (calls-image (Arrive s ∷ Withdraw ∷ []) a h k f
+    ∙ (ap (λ (x : Held). image x h) (arrive-withdraw s a t)
+    ∙ (ap (λ (x : List ℕ). image (withStates a x) h) (more-less (a .states) s) ∙ (held-same a h ∙ sym (m .is)))))

@@ -1,0 +1,218 @@
+-- "After every list of arrivals and withdrawals from an empty session, refused ones included, both verdicts equal those of judging the remaining states
+-- from the start. An empty session has no verdict, and its answer says so" (document 02).
+use mathlib.Core.Path.{_≡_, refl, sym, ap, _∙_}
+use Prim.Native.Nat.{ℕ, suc, _<_}
+use native.Mathlib.Omega.{arith}
+use mathlib.Core.Bool.{false, _&&_}
+use mathlib.Core.List.{List, [], _∷_, map}
+use lib.ListN.{length, take, getD}
+use lib.Seq.{take-length, take-all, take-take}
+use lib.Dec.{eqb, ltb}
+use borrow.Author.Tests.{ne-eqb}
+use Rattle.definitions.specs.Limits.{accepted}
+use Rattle.definitions.specs.Bounded.{pick}
+use Rattle.definitions.specs.Nodes.{nodeOf}
+use Rattle.definitions.specs.Tables.{Rule, ruleOf}
+use Rattle.definitions.specs.Recordings.{Recording, recordingOf, atomsOf, marked, masksOf, statesOf, recordingRefusal}
+use Rattle.definitions.specs.Projection.{runStates, placesOf}
+use Rattle.definitions.specs.Readings.{localVerdicts}
+use Rattle.definitions.specs.Operations.{Answer, answer, left, verdictValues, judgeLocalNumber, judgeLocalAnswer}
+use Rattle.definitions.specs.Sessions.{Space, Held, recordingHeld, image, heldIn, ruleIn, recordingIn, openNumber, ruleRead, opened, Call, Open, leaves, leavesAll, verdictsAnswer, afterAll, Sound, Made}
+use Rattle.theorems.proofs.Choice.{pick-false}
+use Rattle.theorems.proofs.RecordingLaws.{checked}
+use Rattle.theorems.proofs.Beginnings.{Beginning, beginnings-accepted}
+use Rattle.theorems.proofs.ScheduleIndependence.{Accepted, local-accepted, local-judging}
+use Rattle.theorems.proofs.RoundTrips.{same-accepted}
+use Rattle.theorems.proofs.SessionChecks.{oneState, open-accepts, held-rule, held-controller, opened-sound}
+use Rattle.theorems.proofs.Sessions.{image-held, image-masks, image-nodes, image-states, image-made}
+use Rattle.theorems.proofs.SessionCalls.{accepted-leaves, calls-sound, calls-image, open-parts, Steps, steps-masks, steps-rule}
+
+-- an accepted rule and recording are judged by their entries up to the counts
+unfoldable judgedOn : (c : ℕ) (nodes masks states : List ℕ) (N : ℕ) → Answer
+judgedOn c nodes masks states N =
+    let mask = getD masks c 0 in
+    answer accepted
+    (verdictValues (localVerdicts (map nodeOf nodes) mask
+    (placesOf (λ k. atomsOf (getD states k 0)) mask (runStates (λ k. ltb (suc k) N && marked c (getD states k 0)) N))))
+
+judged-on : (r : Rule) (R : Recording) → Accepted r R → judgeLocalAnswer r R ≡ judgedOn (r .controller) (take (r .count) (r .nodes)) (masksOf R) (statesOf R) (R .count)
+unfolding judgedOn
+judged-on r R A = local-judging r R A
+
+same-judged : (r q : Rule) (R S : Recording) → Accepted r R → Accepted q S → r .controller ≡ q .controller →
+    take (r .count) (r .nodes) ≡ take (q .count) (q .nodes) → R .count ≡ S .count → masksOf R ≡ masksOf S → statesOf R ≡ statesOf S →
+    judgeLocalAnswer r R ≡ judgeLocalAnswer q S
+same-judged r q R S A B c ns n ms ss = rw (judged-on r R A, judged-on q S B, c, ns, ms, ss, n)
+
+verdicts-some : (h : Space) → eqb (heldIn h) 0 ≡ false → verdictsAnswer h ≡ judgeLocalAnswer (ruleIn h) (recordingIn h)
+unfolding verdictsAnswer
+verdicts-some h e = pick-false (eqb (heldIn h) 0) (answer accepted []) (judgeLocalAnswer (ruleIn h) (recordingIn h)) e
+
+module _ (a : Held) (h : Space) (k : Sound a) where
+  -- the rule and the recording that the contents are
+  abbrev ruleThere : Rule
+  ruleThere = ruleOf (a .rule .controller) (a .rule .count) ((image a h) .nodes)
+
+  abbrev recordingThere : Recording
+  recordingThere = recordingOf (length (a .masks)) (length (a .states)) ((image a h) .masks) ((image a h) .states)
+
+  rule-there : ruleIn (image a h) ≡ ruleThere
+  unfolding image left pick
+  rule-there = refl
+
+  recording-there : recordingIn (image a h) ≡ recordingThere
+  unfolding image left pick
+  recording-there = refl
+
+  module _ (p : 0 < length (a .states)) where
+    there-begins : Beginning recordingThere (recordingHeld a)
+    there-begins = record {
+      some = p;
+      few = omega arith;
+      controllers = refl;
+      masks = image-masks a h ∙ sym (take-length (a .masks));
+      states = image-states a h ∙ sym (ap (take (length (a .states))) (take-length (a .states)) ∙ take-length (a .states));
+    }
+
+    there-accepted : recordingRefusal recordingThere ≡ 0
+    there-accepted = beginnings-accepted recordingThere (recordingHeld a) there-begins (k .states p)
+
+    -- the recording that the contents are is accepted
+    pub contents-accepted : recordingRefusal (recordingIn (image a h)) ≡ 0
+    contents-accepted = rw recording-there there-accepted
+
+    held : Accepted (a .rule) (recordingHeld a)
+    held = record { rule = held-rule a k; recording = k .states p; controller = held-controller a k }
+
+    there : Accepted ruleThere recordingThere
+    there = record {
+      rule = same-accepted (a .rule) ((image a h) .nodes) (image-nodes a h (k .nodes)) (held-rule a k);
+      recording = there-accepted;
+      controller = held-controller a k;
+    }
+
+    -- and so are the rule and the recording of the remaining states
+    pub held-number : judgeLocalNumber (a .rule) (recordingHeld a) ≡ 0
+    held-number = local-accepted (a .rule) (recordingHeld a) held
+
+    same-answer : judgeLocalAnswer ruleThere recordingThere ≡ judgeLocalAnswer (a .rule) (recordingHeld a)
+    same-answer =
+        let n : take (a .rule .count) (a .rule .nodes) ≡ a .rule .nodes = take-all (a .rule .count) (a .rule .nodes) (omega (arith, k .nodes)) in
+        same-judged ruleThere (a .rule) recordingThere (recordingHeld a) there held refl (image-nodes a h (k .nodes) ∙ sym n) refl
+        (image-masks a h ∙ sym (take-length (a .masks))) (image-states a h ∙ sym (take-length (a .states)))
+
+    -- "both verdicts equal those of judging the remaining states from the start"
+    pub verdicts-held : verdictsAnswer (image a h) ≡ judgeLocalAnswer (a .rule) (recordingHeld a)
+    verdicts-held =
+        let z : eqb (heldIn (image a h)) 0 ≡ false = rw (image-held a h) (ne-eqb (length (a .states)) 0 (λ e. omega arith)) in
+        verdicts-some (image a h) z
+        ∙ (ap (λ (r : Rule). judgeLocalAnswer r (recordingIn (image a h))) rule-there ∙ (ap (judgeLocalAnswer ruleThere) recording-there ∙ same-answer))
+
+  -- "An empty session has no verdict, and its answer says so"
+  pub verdicts-none : length (a .states) ≡ 0 → verdictsAnswer (image a h) ≡ answer accepted []
+  unfolding verdictsAnswer pick
+  verdicts-none z = rw (image-held a h, z)
+
+-- ---- the promise
+
+-- the contents g in the lent space h hold these masks, this rule and these states, and answer as judging them from the start does
+pub record Holds (a : Held) (h g : Space) : Type 0 where
+  pub contents : g ≡ image a h
+  pub sound : Sound a
+  pub accepted : 0 < length (a .states) → recordingRefusal (recordingHeld a) ≡ 0
+  pub read : 0 < length (a .states) → recordingRefusal (recordingIn g) ≡ 0
+  pub judged : 0 < length (a .states) → judgeLocalNumber (a .rule) (recordingHeld a) ≡ 0
+  pub verdicts : 0 < length (a .states) → verdictsAnswer g ≡ judgeLocalAnswer (a .rule) (recordingHeld a)
+  pub none : length (a .states) ≡ 0 → verdictsAnswer g ≡ answer 0 []
+
+image-holds : (a : Held) (h g : Space) → Sound a → g ≡ image a h → Holds a h g
+image-holds a h g k e = record {
+  contents = e;
+  sound = k;
+  accepted = k .states;
+  read = λ p. rw e (contents-accepted a h k p);
+  judged = held-number a h k;
+  verdicts = λ p. rw e (verdicts-held a h k p);
+  none = λ z. rw e (verdicts-none a h k z);
+}
+
+-- an accepted opening, then any calls, refused ones and openings among them
+pub session : (C : ℕ) (masks : List ℕ) (r : Rule) (h : Space) → openNumber C masks r h ≡ 0 → (cs : List Call) →
+    Holds (afterAll cs (opened C masks r)) h (leavesAll (Open C masks r ∷ cs) h)
+unfolding leavesAll
+session C masks r h e cs =
+    let (f, z) = open-parts C masks r h e in
+    let k = opened-sound C masks r z in
+    image-holds (afterAll cs (opened C masks r)) h (leavesAll cs (leaves (Open C masks r) h)) (calls-sound cs (opened C masks r) k)
+    (ap (leavesAll cs) (accepted-leaves (Open C masks r) h e) ∙ calls-image cs (opened C masks r) h k f)
+
+-- what it leaves is "made by its own calls"
+pub session-made : (C : ℕ) (masks : List ℕ) (r : Rule) (h : Space) → openNumber C masks r h ≡ 0 → (cs : List Call) → Made (leavesAll (Open C masks r ∷ cs) h)
+session-made C masks r h e cs =
+    let s = session C masks r h e cs in
+    rw (s .contents) (image-made (afterAll cs (opened C masks r)) h (s .sound) ((open-parts C masks r h e) .0))
+
+-- on contents made by a session's own calls, whichever they were, any calls do the same
+pub made-holds : (h : Space) (m : Made h) (cs : List Call) → Holds (afterAll cs (m .held)) h (leavesAll cs h)
+made-holds h m cs =
+    image-holds (afterAll cs (m .held)) h (leavesAll cs h) (calls-sound cs (m .held) (m .sound))
+    (ap (leavesAll cs) (m .is) ∙ calls-image cs (m .held) h (m .sound) (m .full))
+
+-- ---- in the request's own words: arrivals and withdrawals alone, on the masks and the rule as they were given
+
+-- the states that remain of an opened session after these calls
+abbrev pub remaining : (C : ℕ) (masks : List ℕ) (r : Rule) (cs : List Call) → List ℕ
+remaining C masks r cs = (afterAll cs (opened C masks r)) .states
+
+-- their recording
+abbrev pub remainingRecording : (C : ℕ) (masks : List ℕ) (r : Rule) (cs : List Call) → Recording
+remainingRecording C masks r cs = recordingOf C (length (remaining C masks r cs)) masks (remaining C masks r cs)
+
+-- what is said of the contents g after them
+pub record Running (C : ℕ) (masks : List ℕ) (r : Rule) (cs : List Call) (g : Space) : Type 0 where
+  pub accepts : 0 < length (remaining C masks r cs) → recordingRefusal (remainingRecording C masks r cs) ≡ 0
+  pub verdicts : 0 < length (remaining C masks r cs) → verdictsAnswer g ≡ judgeLocalAnswer r (remainingRecording C masks r cs)
+  pub none : length (remaining C masks r cs) ≡ 0 → verdictsAnswer g ≡ answer 0 []
+
+module _ (C : ℕ) (masks : List ℕ) (r : Rule) (h : Space) (e : openNumber C masks r h ≡ 0) (cs : List Call) (steps : Steps cs) where
+  abbrev a : Held
+  a = afterAll cs (opened C masks r)
+
+  holds : Holds a h (leavesAll (Open C masks r ∷ cs) h)
+  holds = session C masks r h e cs
+
+  given : Accepted r (oneState C masks)
+  given = open-accepts C masks r ((open-parts C masks r h e) .1)
+
+  same-masks : a .masks ≡ take C masks
+  same-masks = steps-masks cs steps (opened C masks r)
+
+  same-rule : a .rule ≡ ruleRead r
+  same-rule = steps-rule cs steps (opened C masks r)
+
+  count-masks : length (a .masks) ≡ C
+  count-masks = ap length same-masks ∙ (checked (oneState C masks) (given .recording)) .masks
+
+  masks-read : take C masks ≡ take (length (a .masks)) (a .masks)
+  masks-read = sym same-masks ∙ sym (take-length (a .masks))
+
+  nodes-read : take (a .rule .count) (a .rule .nodes) ≡ take (r .count) (r .nodes)
+  nodes-read = ap (λ (q : Rule). take (q .count) (q .nodes)) same-rule ∙ take-take (r .count) (r .count) (r .nodes) (omega arith)
+
+  module _ (p : 0 < length (a .states)) where
+    remaining-accepted : recordingRefusal (remainingRecording C masks r cs) ≡ 0
+    remaining-accepted =
+        let B : Beginning (remainingRecording C masks r cs) (recordingHeld a)
+        = record { some = p; few = omega arith; controllers = sym count-masks; masks = masks-read; states = sym (ap (take (length (a .states))) (take-length (a .states))) } in
+        beginnings-accepted (remainingRecording C masks r cs) (recordingHeld a) B (holds .accepted p)
+
+    remaining-judged : verdictsAnswer (leavesAll (Open C masks r ∷ cs) h) ≡ judgeLocalAnswer r (remainingRecording C masks r cs)
+    remaining-judged =
+        holds .verdicts p
+        ∙ same-judged (a .rule) r (recordingHeld a) (remainingRecording C masks r cs)
+        (record { rule = held-rule a (holds .sound); recording = holds .accepted p; controller = held-controller a (holds .sound) })
+        (record { rule = given .rule; recording = remaining-accepted; controller = given .controller })
+        (ap (λ (q : Rule). q .controller) same-rule) nodes-read refl (sym masks-read) refl
+
+  pub the-rack-as-it-runs : Running C masks r cs (leavesAll (Open C masks r ∷ cs) h)
+  the-rack-as-it-runs = record { accepts = remaining-accepted; verdicts = remaining-judged; none = holds .none }
