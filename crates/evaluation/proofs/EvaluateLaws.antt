@@ -14,15 +14,15 @@ use Rattle.definitions.specs.Nodes.{Node, node, nodeOf, kindOf}
 use Rattle.definitions.specs.Tables.{nodesIn}
 use Rattle.definitions.specs.Readings.{Trace, Rows, noRows, nodeRows, rowsOf, rowWords, pairsWords}
 use Rattle.theorems.proofs.Choice.{both-true}
-use Rattle.formulas.specs.Meaning.{meaning, OfWord}
-use Rattle.formulas.specs.declared.node.Node as code
+use Rattle.rules.specs.Meaning.{meaning, OfWord}
+use Rattle.rules.specs.declared.node.Node as code
 use Rattle.rows.specs.Marks.{marks}
-use Rattle.stored_rows.proofs.StoredLaws.{loaded, pairs-length, weak-words, strong-words, pair-laid}
-use Rattle.row_pairs.specs.declared.pair.Pair.{Pair}
+use Rattle.rows.proofs.StoredLaws.{loaded, pairs-length, weak-words, strong-words, pair-laid}
+use Rattle.rows.specs.declared.pair.Pair.{Pair}
 use Rattle.evaluation.specs.Nodes.{slots, again, Fit, Evaluable, Ready, rowsTo, rowsAt}
-use Rattle.row_pairs.specs.Pairs.{isLeaf, rowsIn, PairMade, Counted, Operable, operated, pairAt, pairOfNode, Operands, operatorRows}
-use Rattle.leaf_rows.specs.Traced.{LeafReady, traceOf}
-use Rattle.row_pairs.proofs.KindLaws.{leaf-is}
+use Rattle.rows.specs.Pairs.{isLeaf, rowsIn, PairMade, Counted, Operable, operated, pairAt, pairOfNode, Operands, operatorRows}
+use Rattle.evaluation.specs.Traced.{LeafReady, traceOf}
+use Rattle.rows.proofs.KindLaws.{leaf-is}
 use Rattle.evaluation.proofs.TableLaws.{rows-more, rows-length, rows-sized, nodes-more, nodes-length, operated-is, leaf-rows, rows-at}
 
 -- ---- pairs

@@ -13,9 +13,9 @@ use Rattle.definitions.specs.Tables.{nodesIn}
 use Rattle.definitions.specs.Readings.{Trace, Rows, noRows, nodeRows, reading, readFrom, rowsAfter, rowsOf}
 use Rattle.theorems.proofs.Tabulations.{tabulate-length}
 use Rattle.mark_words.proofs.OperatorLaws.{lt-or-le}
-use Rattle.leaf_rows.specs.Traced.{traceOf}
+use Rattle.evaluation.specs.Traced.{traceOf}
 use Rattle.evaluation.specs.Nodes.{rowsTo, rowsAt}
-use Rattle.row_pairs.specs.Pairs.{isLeaf, operated}
+use Rattle.rows.specs.Pairs.{isLeaf, operated}
 
 -- every row of a list covers n places
 abbrev pub Sized : ℕ → List Rows → Type 0

@@ -9,8 +9,8 @@ use Rattle.definitions.specs.Limits.{atomCount, maxStates, maxControllers, pair
 use Rattle.definitions.specs.Nodes.{Atom, Unknown, Node, nodeOf}
 use Rattle.definitions.specs.Tables.{nodesIn}
 use Rattle.definitions.specs.Readings.{Rows, nodeRows, rowsOf, pairsWords}
-use Rattle.row_pairs.specs.Pairs.{isLeaf}
-use Rattle.leaf_rows.specs.Traced.{traceOf}
+use Rattle.rows.specs.Pairs.{isLeaf}
+use Rattle.evaluation.specs.Traced.{traceOf}
 
 -- node i of an accepted table: its atom is an atom, its operands are earlier nodes (an unused one is 0)
 pub record Fit (i : ℕ) (n : Node) : Type 0 where

@@ -17,16 +17,16 @@ use Rattle.definitions.specs.Operations.{evidenceOf}
 use Rattle.theorems.proofs.NodeLaws.{accepted-rule}
 use Rattle.theorems.proofs.RuleNodes.{rule-some, rule-few, rule-length, rule-nodes}
 use Rattle.theorems.proofs.ScheduleIndependence.{Accepted}
-use Rattle.state_words.proofs.WordLaws.{own-mask}
-use Rattle.row_pairs.specs.Pairs.{pairOfNode}
+use Rattle.recordings.proofs.WordLaws.{own-mask}
+use Rattle.rows.specs.Pairs.{pairOfNode}
 use Rattle.evaluation.proofs.EvaluateLaws.{rows-in, pair-of-rows}
 use Rattle.walk.specs.Wanted.{Held}
 use Rattle.walk.specs.Walking.{wordNode, Walkable, Walked}
 use Rattle.walk.proofs.WalkLaws.{held-laid, node-at}
-use Rattle.evidence_pairs.specs.Finding.{foundBy, placesOf, pairsOf}
-use Rattle.evidence_pairs.specs.Laying.{PairsReady, PairsLaid}
-use Rattle.evidence_pairs.proofs.LayLaws.{found-same}
-use Rattle.local_judge.specs.Local.{ownTrace, OwnReady, OwnRows}
+use Rattle.evidence.specs.Finding.{foundBy, placesOf, pairsOf}
+use Rattle.evidence.specs.Laying.{PairsReady, PairsLaid}
+use Rattle.evidence.proofs.LayLaws.{found-same}
+use Rattle.judges.specs.Local.{ownTrace, OwnReady, OwnRows}
 use Rattle.judges.proofs.CheckedNodes.{nodes-fit, nodes-there}
 use Rattle.evidence.specs.Accepted.{OwnWanted, EvidenceReady, EvidenceLaid}
 

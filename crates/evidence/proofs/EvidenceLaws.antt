@@ -17,8 +17,8 @@ use Rattle.definitions.specs.Operations.{answer, judgeLocalNumber, evidenceOf, 
 use Rattle.theorems.proofs.Choice.{or-else-none}
 use Rattle.lent.specs.Space.{cleared}
 use Rattle.lent.proofs.LeftLaws.{lent-number, lent-full, zeroed-within, zeroed-left}
-use Rattle.local_judge.proofs.LocalLaws.{local-accepted}
-use Rattle.evidence.specs.declared.evidence.Explanation.the-variants.{Pairs, Refused}
+use Rattle.judges.proofs.LocalLaws.{local-accepted}
+use Rattle.evidence.specs.declared.Explanation.the-variants.{Pairs, Refused}
 use Rattle.evidence.specs.Accepted.{EvidenceReady, EvidenceLaid}
 use Rattle.evidence.specs.Answers.{answerOf, EvidenceIs}
 

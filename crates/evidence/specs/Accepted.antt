@@ -13,7 +13,7 @@ use Rattle.definitions.specs.Evidence.{wantedRows, pairWord}
 use Rattle.definitions.specs.Operations.{left, evidenceOf}
 use Rattle.theorems.proofs.ScheduleIndependence.{Accepted}
 use Rattle.walk.specs.Wanted.{Held}
-use Rattle.local_judge.specs.Local.{ownTrace}
+use Rattle.judges.specs.Local.{ownTrace}
 
 -- how many places the local trace of a rule has, and the places of each node to which the walk from the rule comes there
 pub record OwnWanted (r : Rule) (R : Recording) (weak : Bool) (places : ℕ) (exit : List ℕ) : Type 0 where

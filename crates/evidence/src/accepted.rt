@@ -1,14 +1,14 @@
 // The readings behind a verdict of what is accepted.
 ghost use Rattle.judges.specs.Headings.{ruleIn, recordingIn};
-ghost use Rattle.local_judge.specs.Local.{OwnReady};
+ghost use Rattle.judges.specs.Local.{OwnReady};
 ghost use Rattle.evidence.specs.Accepted.{OwnWanted, EvidenceReady, EvidenceLaid};
-use evidence_pairs::lay::lay;
-use formulas::limits::Limits;
+use super::pairs::lay;
 use judges::headings::RecordingHeading;
 use judges::headings::RuleHeading;
-use local_judge::local::local_rows;
-use state_words::masks::mask_at;
-use walk::walk::walk;
+use judges::local::local_rows;
+use recordings::masks::mask_at;
+use rules::limits::Limits;
+use walk::walk;
 
 // The places to which the walk from the rule comes, of an accepted rule on its local trace; answers how many places that has.
 fn wanted_places(

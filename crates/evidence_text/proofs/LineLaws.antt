@@ -11,17 +11,17 @@ use mir.Val.{Fits}
 use borrow.Author.Needs.{needs}
 use Rattle.definitions.specs.Lines.{bytes, tab, newline, digits}
 use Rattle.definitions.specs.Why.{stateOfPlace, named, pairText}
-use Rattle.passes.specs.Places.{statesOnly, Countable}
+use Rattle.projection.specs.Places.{statesOnly, Countable}
 use Rattle.mark_words.proofs.WordLaws.{bit-number}
-use Rattle.formulas.specs.Meaning.{OfWord}
-use Rattle.formulas.specs.declared.node.Node as code
+use Rattle.rules.specs.Meaning.{OfWord}
+use Rattle.rules.specs.declared.node.Node as code
 use Rattle.printing.specs.Printing.{Printed}
 use Rattle.printing.proofs.PrintLaws.{digits-fit, printed-none}
 use Rattle.report.specs.Reporting.{countedLine}
 use Rattle.report.proofs.ReportLaws.{first-room, rest-room, both}
 use Rattle.evidence_text.specs.Pairs.{maxPairBytes, pairOf, lineText, placeText, readingText, pairIn, pairsIn, PairReady, PairsReady}
 use Rattle.evidence_text.specs.declared.line.Line.{Line}
-use Rattle.place_states.proofs.StateLaws.{state-low}
+use Rattle.projection.proofs.StateLaws.{state-low}
 
 -- ---- `line_of`
 module _ (c : ℕ) (nodes : List ℕ) (N : ℕ) (states places : List ℕ) (w : ℕ) (so : PairReady c nodes N states places w) where

@@ -8,7 +8,7 @@ use Rattle.definitions.specs.Nodes.{nodeOf}
 use Rattle.definitions.specs.Evidence.{Found, found}
 use Rattle.definitions.specs.Lines.{bytes, tab, newline}
 use Rattle.definitions.specs.Why.{stateOfPlace, named, pairText}
-use Rattle.passes.specs.Places.{statesOnly, Countable}
+use Rattle.projection.specs.Places.{statesOnly, Countable}
 use Rattle.evidence_text.specs.declared.line.Line.{Line}
 
 -- the longest line: the five words, nine tabs, byte 10, and digits of numbers below 1,000 (twice), 100, 10 and 100

@@ -4,12 +4,12 @@ ghost use Prim.Native.Nat.{_+_, _≤_};
 ghost use lib.ListN.{length};
 ghost use Rattle.printing.specs.Printing.{Printed};
 ghost use Rattle.evidence_text.specs.Pairs.{pairOf, lineText, placeText, readingText, pairIn, pairsIn, PairReady, PairsReady};
-use formulas::limits::Limits;
-use formulas::node::Node;
 use judges::headings::RecordingHeading;
 use judges::headings::RuleHeading;
-use place_states::state::state_of_place;
+use projection::place_state::state_of_place;
 use report::put_line;
+use rules::limits::Limits;
+use rules::node::Node;
 
 // What is said of a pair: the state of the recording, the controller's step, the atom, its bit there, the rule's node.
 struct Line {

@@ -17,14 +17,14 @@ use Rattle.definitions.specs.Nodes as words
 use Rattle.definitions.specs.Nodes.{Kind, node, nodeOf, nodeWord, kindOf, operandSpan}
 use Rattle.definitions.specs.Rewriting as table
 use Rattle.definitions.specs.Rewriting.{Emit, emitted, opening, closing}
-use Rattle.formulas.proofs.KindLaws.{kind-cases}
-use Rattle.blocks.specs.Emission.{Room, Emitted, Follows, Holds}
-use Rattle.blocks.specs.Blocks.{dot, Lists, rowsOf, forms, formOf, closingLists, FineRows, rowsIn, IsBlock, naming, SmallNames, laid}
+use Rattle.rules.proofs.KindLaws.{kind-cases}
+use Rattle.images.specs.Emission.{Room, Emitted, Follows, Holds}
+use Rattle.images.specs.Blocks.{dot, Lists, rowsOf, forms, formOf, closingLists, FineRows, rowsIn, IsBlock, naming, SmallNames, laid}
 use Rattle.images.specs.Images.{meant, Small, Begun, Named, partOf, formBy, tolerantBy, Stepped, ClosedBy}
-use Rattle.blocks.specs.declared.blocks.Block.{Block}
-use Rattle.images.specs.declared.image.Image.{Image}
-use Rattle.blocks.proofs.EmitLaws.{emitted-follows}
-use Rattle.blocks.proofs.BlockLaws.{fine-rows}
+use Rattle.images.specs.declared.blocks.Block.{Block}
+use Rattle.images.specs.declared.Image.{Image}
+use Rattle.images.proofs.EmitLaws.{emitted-follows}
+use Rattle.images.proofs.BlockLaws.{fine-rows}
 
 -- every name stands for a small number
 data Low : List ℕ → Type 0 where

@@ -12,9 +12,9 @@ use Rattle.definitions.specs.Readings.{Trace, noRows, rowsOf, verdict, pairsWor
 use Rattle.rows.specs.declared.row.Row.{Row}
 use Rattle.mark_words.specs.Marks.{markAt}
 use Rattle.rows.specs.Marks.{marks, Whole, Made}
-use Rattle.stored_rows.specs.Stored.{rowAt}
-use Rattle.stored_rows.proofs.StoredLaws.{pairs-length}
-use Rattle.row_pairs.specs.Pairs.{pairAt, pairOfNode}
+use Rattle.rows.specs.Stored.{rowAt}
+use Rattle.rows.proofs.StoredLaws.{pairs-length}
+use Rattle.rows.specs.Pairs.{pairAt, pairOfNode}
 use Rattle.evaluation.proofs.TableLaws.{rows-length}
 use Rattle.evaluation.proofs.EvaluateLaws.{pair-of-rows}
 use Rattle.judges.specs.declared.verdicts.Verdicts.{Verdicts}

@@ -19,10 +19,10 @@ use Rattle.definitions.specs.Operations.{answer, verdictValues, judgeRecordingN
 use Rattle.theorems.proofs.Choice.{both-true, accept-yes, or-else-none}
 use Rattle.theorems.proofs.RecordingLaws.{Checked, checked}
 use Rattle.lent.specs.Space.{laid, cleared}
-use Rattle.stored_rows.proofs.StoredLaws.{pairs-length}
+use Rattle.rows.proofs.StoredLaws.{pairs-length}
 use Rattle.lent.proofs.LeftLaws.{laid-past, laid-begins, left-filled, lent-number, lent-full, zeroed-within, zeroed-left}
-use Rattle.traces.specs.Joining.{traceRefusal}
-use Rattle.leaf_rows.specs.Traced.{everyAtom}
+use Rattle.recordings.specs.Joining.{traceRefusal}
+use Rattle.evaluation.specs.Traced.{everyAtom}
 use Rattle.evaluation.specs.Nodes.{Evaluable, rowsTo}
 use Rattle.evaluation.proofs.TableLaws.{rows-length, nodes-length}
 use Rattle.judges.specs.declared.verdicts.Verdicts.{Verdicts}

@@ -1,4 +1,5 @@
-// The judge of a table over the whole recording, and what both judges share: headings and verdicts.
+// Both judges: of a table over the whole recording, and of a rule on its own local trace. They rewrite nothing.
 pub mod headings;
+pub mod local;
 pub mod verdicts;
 pub mod whole;

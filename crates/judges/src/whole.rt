@@ -7,15 +7,15 @@ use super::headings::TableHeading;
 use super::verdicts::Judgement;
 use super::verdicts::Verdicts;
 use super::verdicts::at_tops;
-use evaluation::evaluate::evaluate;
-use formulas::choice::or_else;
-use formulas::choice::pick;
-use formulas::choice::pick_index;
-use formulas::limits::Limits;
-use formulas::limits::Refusal;
+use evaluation::evaluate;
 use lent::clear_u64;
-use table_check::table_refusal;
-use traces::check::trace_refusal;
+use recordings::check::trace_refusal;
+use rules::choice::or_else;
+use rules::choice::pick;
+use rules::choice::pick_index;
+use rules::limits::Limits;
+use rules::limits::Refusal;
+use rules::table_check::table_refusal;
 
 // An accepted table over the n states of an accepted recording: every atom is "read as recorded", so none is foreign.
 // Only what no row covers is cleared.

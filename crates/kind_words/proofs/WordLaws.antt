@@ -8,7 +8,7 @@ use lib.ListN.{getD}
 use borrow.Author.Needs.{needs}
 use Rattle.definitions.specs.Bounded.{pick}
 use Rattle.definitions.specs.Nodes.{Kind, kindNumber, kindOf}
-use Rattle.formulas.proofs.KindLaws.{kind-cases}
+use Rattle.rules.proofs.KindLaws.{kind-cases}
 use Rattle.kind_words.specs.declared.Word.{Word}
 use Rattle.kind_words.specs.Words.{WordIs}
 

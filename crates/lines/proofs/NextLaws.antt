@@ -16,9 +16,9 @@ use Rattle.definitions.specs.Lines.{newline, carriageReturn, before, isEmpty, l
 use Rattle.theorems.proofs.Choice.{by-test, pick-must, pick-other}
 use Rattle.theorems.proofs.EndingLaws.{length-within, length-empty, length-open, length-returned, length-other}
 use Rattle.lines.specs.Reading.{Ending, FirstLine, endRefusal}
-use Rattle.scanning.specs.Parts.{Located}
-use Rattle.scanning.proofs.ScanLaws.{before-le}
-use Rattle.scanning.proofs.PartLaws.{empty-yes, empty-no}
+use Rattle.lines.specs.Parts.{Located}
+use Rattle.lines.proofs.ScanLaws.{before-le}
+use Rattle.lines.proofs.PartLaws.{empty-yes, empty-no}
 
 -- ---- the first line, by the byte before its byte 10
 pub length-le : (t : List ℕ) → lineLength t ≤ length t

@@ -1,2 +1,3 @@
-// Lines of texts: the one function that finds the first line and what is after it, and loops over lines. Nothing here knows what a line means.
+// Lines of a text: bytes and the rest after one, the first line with either ending, how the next line is refused for its end. What a line says is not asked here.
 pub mod next;
+pub mod scan;

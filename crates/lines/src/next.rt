@@ -2,7 +2,7 @@
 ghost use mathlib.Core.Path.{_≡_};
 ghost use Rattle.definitions.specs.Lines.{lineLength};
 ghost use Rattle.lines.specs.Reading.{Ending, FirstLine, endRefusal};
-use scanning::scan;
+use super::scan;
 
 // The first line of a text: how many bytes it has without its ending, and where the text after its ending begins.
 pub struct Line {

@@ -4,7 +4,7 @@ ghost use mathlib.Core.List.{[], _∷_};
 ghost use lib.ListN.{length};
 ghost use Rattle.definitions.specs.Lines.{tab, digits};
 ghost use Rattle.printing.specs.Printing.{Printed};
-use scanning::scan;
+use lines::scan;
 
 // Writes the digits of `n` from `at` on, highest first. The place after them.
 pub fn print(n: u32, at: usize, text: &mut [u8]) -> usize

@@ -15,12 +15,12 @@ use Rattle.definitions.specs.Operations.{answer, projectNumber, projectAnswer, 
 use Rattle.theorems.proofs.Choice.{accept-yes, or-else-none}
 use Rattle.lent.specs.Space.{laid, cleared}
 use Rattle.lent.proofs.LeftLaws.{laid-past, laid-begins, left-filled, lent-number, lent-full, zeroed-within, zeroed-left}
-use Rattle.traces.specs.Joining.{traceRefusal}
-use Rattle.state_words.proofs.WordLaws.{own-mask}
-use Rattle.passes.specs.Places.{runsIn, placesIn, Projectable}
+use Rattle.recordings.specs.Joining.{traceRefusal}
+use Rattle.recordings.proofs.WordLaws.{own-mask}
+use Rattle.projection.specs.Places.{runsIn, placesIn, Projectable}
 use Rattle.projection.specs.Answers.{answerOf, ProjectIs}
-use Rattle.projection.specs.declared.project.Projection.the-variants.{Places, Refused}
-use Rattle.passes.proofs.LengthLaws.{length-local}
+use Rattle.projection.specs.declared.Projection.the-variants.{Places, Refused}
+use Rattle.projection.proofs.LengthLaws.{length-local}
 use Rattle.projection.proofs.PlaceLaws.{projectable, local-places, few-local}
 
 module _ (C N : ℕ) (masks states : List ℕ) (c : ℕ) (entry : List ℕ) (short other r : ℕ) (s : short ≡ pick (ltb (length entry) maxStates) lentShort accepted)

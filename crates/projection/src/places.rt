@@ -3,9 +3,9 @@ ghost use mathlib.Core.Path.{_≡_};
 ghost use Prim.Native.Nat.{_+_};
 ghost use lib.ListN.{length};
 ghost use Rattle.lent.specs.Space.{laid};
-ghost use Rattle.passes.specs.Places.{runsIn, placesIn, Countable, Projectable};
-use formulas::limits::Limits;
-use passes::pass::pass_over;
+ghost use Rattle.projection.specs.Places.{runsIn, placesIn, Countable, Projectable};
+use super::pass::pass_over;
+use rules::limits::Limits;
 
 // The places, over the start of what is lent; the answer is the last one's number.
 pub fn project_into(count: usize, mask: u32, c: usize, states: &[u64], places: &mut [u32]) -> usize

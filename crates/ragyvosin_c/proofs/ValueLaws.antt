@@ -5,10 +5,10 @@ use Prim.Native.Nat.{ℕ}
 use borrow.Author.Needs.{needs}
 use Rattle.definitions.specs.RecordingText.{Part}
 use Rattle.definitions.specs.Operations.{Answer, readJointHeading, readJointPart}
-use Rattle.joint_scan.specs.Scanning.{partOf}
-use Rattle.joint_text.specs.Joining.{headingOf, Joined}
-use Rattle.joint_scan.specs.declared.scan.Found.{Found}
-use Rattle.c_values.specs.Values.{heading, partValues}
+use Rattle.joint_reading.specs.Scanning.{partOf}
+use Rattle.joint_reading.specs.Joining.{headingOf, Joined}
+use Rattle.joint_reading.specs.declared.scan.Found.{Found}
+use Rattle.c_answers.specs.Values.{heading, partValues}
 
 -- ---- the operations: what was laid is the operation's answer
 pub carried : (width : ℕ) (l : List ℕ) (a b : Answer) → l ≡ heading width a → a ≡ b → l ≡ heading width b

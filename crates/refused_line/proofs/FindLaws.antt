@@ -11,13 +11,13 @@ use Rattle.definitions.specs.Limits.{lentShort, maxInputBytes, maxRuleNodes, ma
 use Rattle.definitions.specs.Bounded.{pick}
 use Rattle.definitions.specs.RecordingText.{jointNumber, jointPart}
 use Rattle.definitions.specs.Operations.{readJointNumber, readJointHeading, readJointPart}
-use Rattle.scanning.proofs.PartLaws.{part-to-end}
-use Rattle.joint_scan.specs.Scanning.{partOf}
-use Rattle.joint_text.specs.Joining.{Joined}
-use Rattle.joint_scan.specs.declared.scan.Found.{Found}
-use Rattle.input_split.specs.Splitting.{SplitAt}
-use Rattle.input_split.specs.declared.split.Parts.{Parts}
-use Rattle.program.proofs.OutputLaws.{joint-low, rule-counted}
+use Rattle.lines.proofs.PartLaws.{part-to-end}
+use Rattle.joint_reading.specs.Scanning.{partOf}
+use Rattle.joint_reading.specs.Joining.{Joined}
+use Rattle.joint_reading.specs.declared.scan.Found.{Found}
+use Rattle.program_input.specs.Splitting.{SplitAt}
+use Rattle.program_input.specs.declared.split.Parts.{Parts}
+use Rattle.judge_program.proofs.OutputLaws.{joint-low, rule-counted}
 use Rattle.refused_line.specs.Numbering.{lineNumber, LineStart}
 use Rattle.refused_line.specs.Finding.{Texts, Readable, partLine, textsLine, inputLine}
 use Rattle.refused_line.specs.declared.find.Line.{Line}

@@ -15,7 +15,7 @@ use Rattle.definitions.specs.Bounded.{pick}
 use Rattle.definitions.specs.Lines.{isEmpty, restOf}
 use Rattle.theorems.proofs.Choice.{by-test}
 use Rattle.theorems.proofs.InputSplit.{rest-length}
-use Rattle.scanning.proofs.PartLaws.{part-to-end, empty-yes, empty-no}
+use Rattle.lines.proofs.PartLaws.{part-to-end, empty-yes, empty-no}
 use Rattle.lines.specs.Reading.{FirstLine}
 use Rattle.lines.specs.declared.next.Line.{Line}
 use Rattle.lines.proofs.LoopLaws.{after-line, line-inside}

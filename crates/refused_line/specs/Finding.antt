@@ -7,7 +7,7 @@ use Rattle.definitions.specs.Limits.{accepted, maxInputBytes}
 use Rattle.definitions.specs.Bounded.{pick}
 use Rattle.definitions.specs.RecordingText.{Part, jointNumber, jointPart}
 use Rattle.definitions.specs.Program.{ruleIn, recordingIn}
-use Rattle.joint_space.specs.Room.{Room}
+use Rattle.joint_reading.specs.Room.{Room}
 use Rattle.refused_line.specs.Numbering.{lineNumber}
 use Rattle.refused_line.specs.declared.find.Line.{Line}
 use Rattle.refused_line.specs.declared.find.Line.the-variants.{OfRule, OfRecording, Nowhere}

@@ -2,10 +2,10 @@
 ghost use mathlib.Core.Path.{_≡_};
 ghost use Rattle.refused_line.specs.Finding.{Texts, Readable, textsLine, inputLine};
 use super::number::line_number;
-use formulas::limits::Limits;
-use formulas::limits::Refusal;
-use input_split::split::split;
-use joint_text::joint::join;
+use joint_reading::join;
+use program_input::split::split;
+use rules::limits::Limits;
+use rules::limits::Refusal;
 
 // The text that has the refused line and the line's number in it, or neither: the input is accepted or too long.
 pub enum Line {

@@ -13,7 +13,7 @@ use Rattle.theorems.proofs.Choice.{by-test}
 use Rattle.printing.specs.Printing.{Printed}
 use Rattle.printing.proofs.PrintLaws.{printed-seq}
 use Rattle.judges.specs.declared.verdicts.Verdicts.{Verdicts}
-use Rattle.judging.specs.declared.rewritten.Rewritten.{Rewritten}
+use Rattle.rewritten_judge.specs.declared.Rewritten.{Rewritten}
 use Rattle.report.specs.Reporting.{verdictsEnd, Ends, countedLine, ownLine, rewrittenLine, reportText}
 use Rattle.report.specs.declared.Report.{Report}
 use Rattle.report.specs.declared.Ending.{Ending}

@@ -8,7 +8,7 @@ use Rattle.definitions.specs.Lines.{tab, digits}
 use Rattle.definitions.specs.Program.{ownWord, plainWord, shortWord, localText, verdictsText}
 use Rattle.judges.specs.Verdicts.{meant}
 use Rattle.judges.specs.declared.verdicts.Verdicts.{Verdicts}
-use Rattle.judging.specs.declared.rewritten.Rewritten.{Rewritten}
+use Rattle.rewritten_judge.specs.declared.Rewritten.{Rewritten}
 use Rattle.report.specs.declared.Report.{Report}
 use Rattle.report.specs.declared.Ending.{Ending}
 

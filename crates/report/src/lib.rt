@@ -1,15 +1,17 @@
 // What the program prints, line by line: of a refusal, and of an accepted rule and recording. Nothing is decided here.
+pub mod tables;
+
 ghost use Prim.Native.Nat.{_+_, _≤_};
 ghost use lib.ListN.{length};
 ghost use Rattle.definitions.specs.Program.{refusedText};
 ghost use Rattle.printing.specs.Printing.{Printed};
 ghost use Rattle.report.specs.Reporting.{verdictsEnd, Ends, countedLine, ownLine, rewrittenLine, reportText};
 use judges::verdicts::Verdicts;
-use judging::rewritten::Rewritten;
+use lines::scan;
 use printing::put;
 use printing::put_byte;
 use printing::put_field;
-use scanning::scan;
+use rewritten_judge::Rewritten;
 
 // All that is printed of an accepted rule and recording.
 pub struct Report {

@@ -21,13 +21,13 @@ use Rattle.theorems.proofs.RuleNodes.{rule-some, rule-few}
 use Rattle.theorems.proofs.RefusalBounds.{rule-low}
 use Rattle.theorems.proofs.LentSpace.{left-short, left-accepted, left-refused}
 use Rattle.lent.specs.Space.{cleared}
-use Rattle.drafts.specs.declared.drafts.Draft.{Draft}
-use Rattle.rewriting.specs.declared.rewrite.Rewriting.the-variants.{Rewritten, Refused}
-use Rattle.images.specs.declared.image.Tops.{Tops}
+use Rattle.rewriting.specs.declared.drafts.Draft.{Draft}
+use Rattle.rewriting.specs.declared.Rewriting.the-variants.{Rewritten, Refused}
+use Rattle.images.specs.declared.Tops.{Tops}
 use Rattle.images.specs.Images.{meant, ClosedBy}
-use Rattle.drafts.specs.Drafts.{Ruled, Drawn, draftOf}
+use Rattle.rewriting.specs.Drafts.{Ruled, Drawn, draftOf}
 use Rattle.rewriting.specs.Answers.{Tabled, TableOf, Rewrote}
-use Rattle.blocks.proofs.EmitLaws.{emit-append, holds-more, map-length, seam-take, seam-drop}
+use Rattle.images.proofs.EmitLaws.{emit-append, holds-more, map-length, seam-take, seam-drop}
 
 module _ (short : Bool) (mask count : ℕ) (ws o : List ℕ) (d : Draft) (o′ : List ℕ) (w : Drawn short mask count ws o d o′) where
   is-closed : rewriting short mask (nodesIn count ws) ≡ closed (short && d .last .tolerant) ((draftOf short mask count ws) .nodes) (meant (d .last))

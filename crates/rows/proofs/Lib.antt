@@ -1,2 +1,5 @@
 pub mod PackedLaws
 pub mod RowLaws
+pub mod StoredLaws
+pub mod KindLaws
+pub mod PairLaws

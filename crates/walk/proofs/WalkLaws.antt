@@ -21,15 +21,15 @@ use Rattle.theorems.proofs.EvidenceRows.{firstMarks, secondMarks}
 use Rattle.theorems.proofs.EvidenceWalk.{by-at, read-by}
 use Rattle.theorems.proofs.EvidenceTurns.{turn-of}
 use Rattle.mark_words.specs.Marks.{markAt}
-use Rattle.formulas.specs.Meaning.{meaning, OfWord}
-use Rattle.formulas.specs.declared.node.Node as code
-use Rattle.row_pairs.specs.declared.pair.Pair.{Pair}
+use Rattle.rules.specs.Meaning.{meaning, OfWord}
+use Rattle.rules.specs.declared.node.Node as code
+use Rattle.rows.specs.declared.pair.Pair.{Pair}
 use Rattle.evaluation.specs.Nodes.{Fit}
-use Rattle.row_pairs.specs.Pairs.{isLeaf, rowsIn, PairMade, Operable, pairOfNode}
+use Rattle.rows.specs.Pairs.{isLeaf, rowsIn, PairMade, Operable, pairOfNode}
 use Rattle.evaluation.proofs.EvaluateLaws.{rows-in, both-made}
 use Rattle.evaluation.proofs.TableLaws.{nodes-length}
-use Rattle.walk_steps.specs.declared.taken.Taken.{Taken}
-use Rattle.walk_steps.specs.Steps.{PairsEven, bothOf, takenFirst, takenSecond, TakenMade}
+use Rattle.walk.specs.declared.taken.Taken.{Taken}
+use Rattle.walk.specs.Steps.{PairsEven, bothOf, takenFirst, takenSecond, TakenMade}
 use Rattle.walk.specs.Wanted.{Wished, Held, started, wished}
 use Rattle.walk.specs.Walking.{Laid, Taking, OperatorReady, wordNode, Turning, turnFirst, turnSecond, Turned, Walkable, Walked}
 use Rattle.walk.proofs.WantedLaws.{both-at, pair-by, held-by, held-over, pair-recounted, wish-held}

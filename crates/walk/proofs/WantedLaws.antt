@@ -22,13 +22,13 @@ use Rattle.rows.specs.Marks.{marks, Whole, Made}
 use Rattle.rows.specs.declared.row.Row.{Row}
 use Rattle.rows.proofs.PackedLaws.{marks-length, retold}
 use Rattle.rows.proofs.RowLaws.{not-on, prev-on}
-use Rattle.stored_rows.proofs.StoredLaws.{row-here, row-before, row-past}
-use Rattle.row_pairs.specs.declared.pair.Pair.{Pair}
-use Rattle.row_pairs.specs.Pairs.{PairMade, Operable, operated, pairAt, pairOfNode}
-use Rattle.row_pairs.proofs.KindLaws.{kind-or}
-use Rattle.row_pairs.proofs.PairLaws.{pairOf, or-pair}
+use Rattle.rows.proofs.StoredLaws.{row-here, row-before, row-past}
+use Rattle.rows.specs.declared.pair.Pair.{Pair}
+use Rattle.rows.specs.Pairs.{PairMade, Operable, operated, pairAt, pairOfNode}
+use Rattle.rows.proofs.KindLaws.{kind-or}
+use Rattle.rows.proofs.PairLaws.{pairOf, or-pair}
 use Rattle.evaluation.proofs.EvaluateLaws.{rows-in, both-made}
-use Rattle.walk_steps.specs.Steps.{bothOf}
+use Rattle.walk.specs.Steps.{bothOf}
 use Rattle.walk.specs.Wanted.{PairWhole, Put, Wished, Held, none, chosen, started, wished}
 
 -- ---- a pair put

@@ -10,9 +10,9 @@ use Rattle.definitions.specs.Readings.{Rows, rowOf}
 use Rattle.definitions.specs.Evidence.{sameReading}
 use Rattle.mark_words.specs.Marks.{markAt}
 use Rattle.rows.specs.Marks.{Whole}
-use Rattle.row_pairs.specs.declared.pair.Pair.{Pair}
-use Rattle.row_pairs.specs.Pairs.{rowsIn, PairMade, operated, pairOfNode}
-use Rattle.walk_steps.specs.Steps.{bothOf}
+use Rattle.rows.specs.declared.pair.Pair.{Pair}
+use Rattle.rows.specs.Pairs.{rowsIn, PairMade, operated, pairOfNode}
+use Rattle.walk.specs.Steps.{bothOf}
 
 -- both rows of a pair are whole
 pub record PairWhole (p : Pair) : Type 0 where

@@ -2,13 +2,13 @@
 ghost use Prim.Native.Nat.{_+_, _*_, _<_, _≤_};
 ghost use lib.ListN.{length};
 ghost use Rattle.definitions.specs.Limits.{maxStates, pairWords};
-ghost use Rattle.row_pairs.specs.Pairs.{PairMade, pairOfNode, Operable};
+ghost use Rattle.rows.specs.Pairs.{PairMade, pairOfNode, Operable};
 ghost use Rattle.walk.specs.Wanted.{PairWhole, Put, Wished, Held, none, chosen, started};
-use evaluation::evaluate::pair_of_node;
-use formulas::limits::Limits;
-use row_pairs::pair::Pair;
+use evaluation::pair_of_node;
+use rows::pair::Pair;
 use rows::row::Row;
-use stored_rows::stored::store;
+use rows::stored::store;
+use rules::limits::Limits;
 
 // Lays a pair over that of node j.
 fn put(wanted: &mut [u64], j: usize, p: Pair)

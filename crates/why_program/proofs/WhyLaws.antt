@@ -15,18 +15,18 @@ use Rattle.definitions.specs.Program.{ruleIn, recordingIn, refusedText}
 use Rattle.definitions.specs.Why.{asks, whyTexts, whyOutput}
 use Rattle.theorems.proofs.Choice.{by-test}
 use Rattle.printing.specs.Printing.{Printed}
-use Rattle.scanning.proofs.PartLaws.{part-to-end}
-use Rattle.joint_text.specs.Joining.{ReadJoint}
-use Rattle.input_split.specs.Splitting.{SplitAt}
-use Rattle.program.specs.Output.{foundRule, foundRecording, OutputIs}
-use Rattle.input_split.specs.declared.split.Parts.{Parts}
-use Rattle.program.proofs.OutputLaws.{refused-length, first-is, line-is, rule-is, recording-is, refusal-room, tables-found, nodes-counted, masks-counted, states-counted, rule-counted, printed-all}
-use Rattle.behind_text.specs.Behind.{behindOf, BehindReady}
-use Rattle.asked_reading.specs.Asking.{askedIn, AskedIs}
+use Rattle.lines.proofs.PartLaws.{part-to-end}
+use Rattle.joint_reading.specs.Joining.{ReadJoint}
+use Rattle.program_input.specs.Splitting.{SplitAt}
+use Rattle.judge_program.specs.Output.{foundRule, foundRecording, OutputIs}
+use Rattle.program_input.specs.declared.split.Parts.{Parts}
+use Rattle.judge_program.proofs.OutputLaws.{refused-length, first-is, line-is, rule-is, recording-is, refusal-room, tables-found, nodes-counted, masks-counted, states-counted, rule-counted, printed-all}
+use Rattle.evidence_text.specs.Behind.{behindOf, BehindReady}
+use Rattle.program_input.specs.Asking.{askedIn, AskedIs}
 use Rattle.why_program.specs.Output.{maxWhyBytes, FoundRoom, WhyRoom, InputRoom}
-use Rattle.asked_reading.specs.declared.Asked.{Asked}
-use Rattle.asked_reading.specs.declared.Asked.the-variants.{Reading, Nothing}
-use Rattle.asked_reading.proofs.AskedLaws.{reading-inside, nothing-counts}
+use Rattle.program_input.specs.declared.asked.Asked.{Asked}
+use Rattle.program_input.specs.declared.asked.Asked.the-variants.{Reading, Nothing}
+use Rattle.program_input.proofs.AskedLaws.{reading-inside, nothing-counts}
 
 -- ---- `put_found`
 module _ (heading nodes masks states text : List ℕ) (f : FoundRoom heading nodes masks states text) where

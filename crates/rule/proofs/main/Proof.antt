@@ -1,4 +1,4 @@
-use Rattle.line_program.proofs.PrintLaws.{caller-laws}
+use Rattle.line_programs.proofs.PrintLaws.{caller-laws}
 use Rattle.standard_streams.proofs.InputLaws.{main-laws}
 use borrow.Author.Needs.{needs}
 use Rattle.rule.proofs.main.Statement.{statement}

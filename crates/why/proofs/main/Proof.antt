@@ -1,5 +1,5 @@
 -- `main` meets its contract.
-use Rattle.told_line.proofs.ToldLaws.{told-laws}
+use Rattle.standard_streams.proofs.ToldLaws.{told-laws}
 use borrow.Author.Needs.{needs}
 use Rattle.why.proofs.main.Statement.{statement}
 use Rattle.why.proofs.main.Tie as tie

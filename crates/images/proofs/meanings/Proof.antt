@@ -1,0 +1,26 @@
+-- `meanings` meets its contract.
+use borrow.Author.Needs.{needs}
+use Rattle.images.proofs.ImageLaws.{names-laws}
+use Rattle.images.proofs.meanings.Statement.{statement}
+use Rattle.images.proofs.meanings.Tie as tie
+
+sub-dot : tie.Need-sub-dot
+sub-dot c = search needs
+
+cast-dot : tie.Need-cast-dot
+cast-dot c = search needs
+
+cast-x : tie.Need-cast-x
+cast-x c = search needs
+
+add-g : tie.Need-add-g
+add-g c = search needs
+
+cast-g : tie.Need-cast-g
+cast-g c = search needs
+
+returns : tie.Need-returns
+returns c = search names-laws
+
+pub meanings-spec : {M : Type 1} → statement M
+meanings-spec = tie.close (tie.spec sub-dot cast-dot cast-x add-g cast-g returns)

@@ -1,0 +1,3 @@
+pub mod RecordingAccepted
+pub mod OutputLaws
+pub mod PrintedEarly

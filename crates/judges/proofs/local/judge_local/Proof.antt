@@ -1,0 +1,21 @@
+-- `local_judge::local::judge_local` meets its contract.
+use borrow.Author.Needs.{needs}
+use Rattle.judges.proofs.LocalLaws.{local-laws}
+use Rattle.judges.proofs.local.judge_local.Statement.{statement}
+use Rattle.judges.proofs.local.judge_local.Tie as tie
+
+local-refusal-requires : tie.Need-local-refusal-requires
+local-refusal-requires c κs = search needs
+
+returns : tie.Need-returns
+returns c = search local-laws
+
+judge-accepted-requires : tie.Need-judge-accepted-requires
+judge-accepted-requires c κs = search local-laws
+
+returns-2 : tie.Need-returns-2
+returns-2 c = search local-laws
+
+pub judge-local-spec : {M : Type 1} → statement M
+judge-local-spec =
+    tie.close (tie.spec local-refusal-requires returns judge-accepted-requires returns-2)

@@ -1,0 +1,6 @@
+// A rule in one line, flat: from bytes to the codes of signs, and which of 15, 16 and 2 refuses them, in one pass. No tree is made here.
+pub mod refusal;
+pub mod scan;
+pub mod sign;
+pub mod tally;
+pub mod token;

@@ -1,0 +1,14 @@
+-- Where the input is split.
+use mathlib.Core.Path.{_≡_}
+use Prim.Native.Nat.{ℕ, _≤_}
+use mathlib.Core.List.{List}
+use lib.ListN.{length, take, drop}
+use Rattle.definitions.specs.Program.{ruleIn, recordingIn}
+use Rattle.program_input.specs.declared.split.Parts.{Parts}
+
+-- the two texts of the input, as its parts
+pub record SplitAt (input : List ℕ) (s : Parts) : Type 0 where
+  pub ruleInside : s .«rule_end» ≤ length input
+  pub recordingInside : s .«recording_at» ≤ length input
+  pub rule : take (s .«rule_end») input ≡ ruleIn input
+  pub recording : drop (s .«recording_at») input ≡ recordingIn input

@@ -1,0 +1,17 @@
+-- `state_words::state::runs` meets its contract.
+use borrow.Author.Needs.{needs}
+use Rattle.recordings.proofs.WordLaws.{word-laws}
+use Rattle.recordings.proofs.state.runs.Statement.{statement}
+use Rattle.recordings.proofs.state.runs.Tie as tie
+
+add-result : tie.Need-add-result
+add-result c = search needs
+
+shr-result : tie.Need-shr-result
+shr-result c = search needs
+
+returns : tie.Need-returns
+returns c = search word-laws
+
+pub runs-spec : {M : Type 1} → statement M
+runs-spec = tie.close (tie.spec add-result shr-result returns)

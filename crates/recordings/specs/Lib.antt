@@ -1,0 +1,4 @@
+pub mod Unions
+pub mod Held
+pub mod Joining
+pub mod Turns

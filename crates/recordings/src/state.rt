@@ -1,0 +1,29 @@
+// A state in lent space is one word: its atoms in the low half, the run marks above.
+ghost use mathlib.Core.Path.{_≡_};
+ghost use Prim.Native.Nat.{_<_};
+ghost use Rattle.definitions.specs.Limits.{atomCount};
+ghost use Rattle.definitions.specs.Recordings.{atomsOf, marksOf, marked};
+use rules::limits::Limits;
+
+// There are this many words of atoms.
+pub const ATOM_WORDS: u64 = 1 << Limits::ATOMS;
+
+pub fn atoms_of(state: u64) -> u32
+    ensures { λ r. ⌜ r ≡ atomsOf state ⌝ }
+{
+    (state % ATOM_WORDS) as u32
+}
+
+pub fn marks_of(state: u64) -> u64
+    ensures { λ r. ⌜ r ≡ marksOf state ⌝ }
+{
+    state >> Limits::ATOMS
+}
+
+// Component c is scheduled in this state: one shift, since a pass over the states asks nothing else of the marks.
+pub fn runs(c: usize, state: u64) -> bool
+    requires { ⌜ c < atomCount ⌝ }
+    ensures { λ r. ⌜ r ≡ marked c state ⌝ }
+{
+    (state >> (Limits::ATOMS + c)) % 2 == 1
+}

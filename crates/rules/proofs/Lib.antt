@@ -1,0 +1,4 @@
+pub mod KindLaws
+pub mod ChoiceLaws
+pub mod FitLaws
+pub mod TableLaws
