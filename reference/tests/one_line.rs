@@ -3,8 +3,8 @@
 
 use reference::generate::lines::{alphabet, damaged, full, line, short_list, spelled};
 use reference::generate::random::Random;
-use reference::model::formula::{Node, ATOM, NEXT, NOT, OR, SINCE, TRUE, UNTIL};
 use reference::model::one_line::{derivations, read, spellings};
+use reference::model::rule::{Node, ATOM, NEXT, NOT, OR, SINCE, TRUE, UNTIL};
 use reference::model::{read_line, rule_program};
 
 /// The nodes of a line, as kinds and operands.

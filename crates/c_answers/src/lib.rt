@@ -23,25 +23,25 @@ use rules::choice::pick_index;
 use rules::limits::Refusal;
 
 // A number and one value.
-pub struct One {
+pub struct OneValue {
     pub number: u8,
     pub values: [usize; 1],
 }
 
 // A number and two values.
-pub struct Two {
+pub struct TwoValues {
     pub number: u8,
     pub values: [usize; 2],
 }
 
 // A number and three values.
-pub struct Three {
+pub struct ThreeValues {
     pub number: u8,
     pub values: [usize; 3],
 }
 
 // A number and seven values.
-pub struct Seven {
+pub struct SevenValues {
     pub number: u8,
     pub values: [usize; 7],
 }
@@ -51,105 +51,105 @@ const RULE_TEXT: usize = 0;
 
 const RECORDING_TEXT: usize = 1;
 
-pub fn of_rule_read(answer: RuleRead) -> Two
+pub fn of_rule_read(answer: RuleRead) -> TwoValues
     ensures { λ r. ⌜ r .number ∷ r .values ≡ heading 2 (ruleRead answer) ⌝ }
 {
     match answer {
-        RuleRead::Rule(controller, count) => Two {
+        RuleRead::Rule(controller, count) => TwoValues {
             number: Refusal::NONE,
             values: [controller, count],
         },
-        RuleRead::Refused(number) => Two {
+        RuleRead::Refused(number) => TwoValues {
             number,
             values: [0, 0],
         },
     }
 }
 
-pub fn of_rule_written(answer: RuleWritten) -> One
+pub fn of_rule_written(answer: RuleWritten) -> OneValue
     ensures { λ r. ⌜ r .number ∷ r .values ≡ heading 1 (ruleWritten answer) ⌝ }
 {
     match answer {
-        RuleWritten::Length(length) => One {
+        RuleWritten::Length(length) => OneValue {
             number: Refusal::NONE,
             values: [length],
         },
-        RuleWritten::Refused(number) => One {
+        RuleWritten::Refused(number) => OneValue {
             number,
             values: [0],
         },
     }
 }
 
-pub fn of_recording_read(answer: RecordingRead) -> Two
+pub fn of_recording_read(answer: RecordingRead) -> TwoValues
     ensures { λ r. ⌜ r .number ∷ r .values ≡ heading 2 (recordingRead answer) ⌝ }
 {
     match answer {
-        RecordingRead::Recording(controllers, count) => Two {
+        RecordingRead::Recording(controllers, count) => TwoValues {
             number: Refusal::NONE,
             values: [controllers, count],
         },
-        RecordingRead::Refused(number) => Two {
+        RecordingRead::Refused(number) => TwoValues {
             number,
             values: [0, 0],
         },
     }
 }
 
-pub fn of_projection(answer: Projection) -> One
+pub fn of_projection(answer: Projection) -> OneValue
     ensures { λ r. ⌜ r .number ∷ r .values ≡ heading 1 (projected answer) ⌝ }
 {
     match answer {
-        Projection::Places(length) => One {
+        Projection::Places(length) => OneValue {
             number: Refusal::NONE,
             values: [length],
         },
-        Projection::Refused(number) => One {
+        Projection::Refused(number) => OneValue {
             number,
             values: [0],
         },
     }
 }
 
-pub fn of_judgement(answer: Judgement) -> Two
+pub fn of_judgement(answer: Judgement) -> TwoValues
     ensures { λ r. ⌜ r .number ∷ r .values ≡ heading 2 (judged answer) ⌝ }
 {
     match answer {
-        Judgement::Judged(verdicts) => Two {
+        Judgement::Judged(verdicts) => TwoValues {
             number: Refusal::NONE,
             values: [verdicts.weak as usize, verdicts.strong as usize],
         },
-        Judgement::Refused(number) => Two {
+        Judgement::Refused(number) => TwoValues {
             number,
             values: [0, 0],
         },
     }
 }
 
-pub fn of_explanation(answer: Explanation) -> One
+pub fn of_explanation(answer: Explanation) -> OneValue
     ensures { λ r. ⌜ r .number ∷ r .values ≡ heading 1 (explained answer) ⌝ }
 {
     match answer {
-        Explanation::Pairs(count) => One {
+        Explanation::Pairs(count) => OneValue {
             number: Refusal::NONE,
             values: [count],
         },
-        Explanation::Refused(number) => One {
+        Explanation::Refused(number) => OneValue {
             number,
             values: [0],
         },
     }
 }
 
-pub fn of_rewriting(answer: Rewriting) -> Three
+pub fn of_rewriting(answer: Rewriting) -> ThreeValues
     ensures { λ r. ⌜ r .number ∷ r .values ≡ heading 3 (rewritten answer) ⌝ }
 {
     match answer {
-        Rewriting::Rewritten(count, weak_top, strong_top) => Three {
+        Rewriting::Rewritten(count, weak_top, strong_top) => ThreeValues {
             number: Refusal::NONE,
             values: [count, weak_top, strong_top],
         },
-        Rewriting::Refused(number) => Three {
+        Rewriting::Refused(number) => ThreeValues {
             number,
             values: [0, 0, 0],
         },
@@ -157,11 +157,11 @@ pub fn of_rewriting(answer: Rewriting) -> Three
 }
 
 // The heading of the joint reading, and of the part handed back: which text it lies in, start, length.
-pub fn of_found(found: Found) -> Seven
+pub fn of_found(found: Found) -> SevenValues
     ensures { λ r. ⌜ r .number ∷ r .values ≡ headingOf found ++ partValues (partOf found) ⌝ }
 {
     let text = pick_index(found.of_rule, RULE_TEXT, RECORDING_TEXT);
-    Seven {
+    SevenValues {
         number: found.number,
         values: [
             found.controller as usize,

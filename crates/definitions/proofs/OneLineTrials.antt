@@ -14,7 +14,7 @@ use Rattle.definitions.specs.LinePrograms.{inputRefusal, refusalText, re
 use Rattle.definitions.specs.OneLineSigns as sign
 use Rattle.definitions.specs.OneLineSigns.{Sign, atom, before, between, opening, closing, Spells, last, next, spaced}
 use Rattle.definitions.specs.OneLineGrammar.{reading, one, two, Sentence, arrow, noArrow, or, noOr, and, noAnd, until, since, noUntil, prefix, noPrefix, isAtom, bracketed, larger, mostOpen}
-use Rattle.definitions.specs.OneLineNodes.{formulaOf, size, nodesFrom, largestAtom}
+use Rattle.definitions.specs.OneLineNodes.{ruleTreeOf, size, nodesFrom, largestAtom}
 use Rattle.definitions.specs.OneLineReading.{past, signAmong, digitsAhead, atomFirst, signFirst, afterSpace, signsBy, signsOf, closed, operandBy, whole, treeOf}
 use Rattle.definitions.specs.OneLine.{sentenceRefusal, lineRefusal, lineNodes, readLineNumber, readLineAnswer, readLineNodes, lineOutput, typedOutput, ruleOutput}
 
@@ -95,7 +95,7 @@ pub record Shapes : Type 0 where
   pub eventually : lineNodes (bytes "F Y X true") ≡ node True 0 0 ∷ node True 0 0 ∷ node Next 1 0 ∷ node Prev 2 0 ∷ node Until 0 3 ∷ []
 
 shapes : Shapes
-unfolding pick lines.before lines.newlineNext lines.isReturn lines.lineLength onParsed decimalOn decimal digitsBy digits larger mostOpen formulaOf size nodesFrom largestAtom past signAmong digitsAhead atomFirst signFirst afterSpace signsBy signsOf closed operandBy whole treeOf sentenceRefusal lineRefusal lineNodes
+unfolding pick lines.before lines.newlineNext lines.isReturn lines.lineLength onParsed decimalOn decimal digitsBy digits larger mostOpen ruleTreeOf size nodesFrom largestAtom past signAmong digitsAhead atomFirst signFirst afterSpace signsBy signsOf closed operandBy whole treeOf sentenceRefusal lineRefusal lineNodes
 shapes = record {
   always = refl;
   untils = refl;
@@ -151,7 +151,7 @@ pub record Numbers : Type 0 where
   pub bytes1025 : lineRefusal 0 (times 13 (nested 16 ++ bytes " | ") ++ (nested 16 ++ (bytes " |" ++ (times 12 (nested 16 ++ bytes "|") ++ nested 16)))) ≡ 15
 
 numbers : Numbers
-unfolding pick lines.before lines.newlineNext lines.isReturn lines.lineLength onParsed decimalOn decimal digitsBy digits larger mostOpen formulaOf size nodesFrom largestAtom past signAmong digitsAhead atomFirst signFirst afterSpace signsBy signsOf closed operandBy whole treeOf sentenceRefusal lineRefusal lineNodes
+unfolding pick lines.before lines.newlineNext lines.isReturn lines.lineLength onParsed decimalOn decimal digitsBy digits larger mostOpen ruleTreeOf size nodesFrom largestAtom past signAmong digitsAhead atomFirst signFirst afterSpace signsBy signsOf closed operandBy whole treeOf sentenceRefusal lineRefusal lineNodes
 numbers = record {
   unspaced = refl;
   twoSpaces = refl;
@@ -201,7 +201,7 @@ pub record Answers : Type 0 where
   pub unclosedReturn : ruleOutput (bytes "2\tX a31\r") ≡ bytes "refused\t1\n"
 
 answers : Answers
-unfolding pick lines.before lines.newlineNext lines.isReturn lines.lineLength onParsed decimalOn decimal digitsBy digits larger mostOpen formulaOf size nodesFrom largestAtom past signAmong digitsAhead atomFirst signFirst afterSpace signsBy signsOf closed operandBy whole treeOf sentenceRefusal lineRefusal lineNodes readLineNumber readLineAnswer readLineNodes answer left kindOf nodeText nodesText ruleText inputRefusal refusalText refusalOr lineOutput typedOutput ruleOutput
+unfolding pick lines.before lines.newlineNext lines.isReturn lines.lineLength onParsed decimalOn decimal digitsBy digits larger mostOpen ruleTreeOf size nodesFrom largestAtom past signAmong digitsAhead atomFirst signFirst afterSpace signsBy signsOf closed operandBy whole treeOf sentenceRefusal lineRefusal lineNodes readLineNumber readLineAnswer readLineNodes answer left kindOf nodeText nodesText ruleText inputRefusal refusalText refusalOr lineOutput typedOutput ruleOutput
 answers = record {
   accepts = refl;
   acceptedNodes = refl;

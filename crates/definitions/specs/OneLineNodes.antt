@@ -7,20 +7,20 @@ use Rattle.definitions.specs.OneLineSigns.{Prefix, Not, Next, Prev, Futu
 use Rattle.definitions.specs.OneLineGrammar.{Tree, always, reading, one, two, larger}
 
 -- a rule in the kinds that a table has
-pub data Formula : Type 0 where
-  leaf : Kind → ℕ → Formula
-  unary : Kind → Formula → Formula
-  binary : Kind → Formula → Formula → Formula
+pub data RuleTree : Type 0 where
+  leaf : Kind → ℕ → RuleTree
+  unary : Kind → RuleTree → RuleTree
+  binary : Kind → RuleTree → RuleTree → RuleTree
 
-abbrev pub negation : Formula → Formula
+abbrev pub negation : RuleTree → RuleTree
 negation p = unary table.Not p
 
 -- "`F p` becomes true, p, until"
-abbrev pub eventually : Formula → Formula
+abbrev pub eventually : RuleTree → RuleTree
 eventually p = binary table.Until (leaf table.True 0) p
 
 -- "`! | X Y U S` are not, or, next, prev, until and since"; "`G p` is `!F!p`"
-abbrev pub prefixed : Prefix → (p : Formula) → Formula
+abbrev pub prefixed : Prefix → (p : RuleTree) → RuleTree
 prefixed Not p = negation p
 prefixed Next p = unary table.Next p
 prefixed Prev p = unary table.Prev p
@@ -28,7 +28,7 @@ prefixed Future p = eventually p
 prefixed Always p = negation (eventually (negation p))
 
 -- "`p & q` is `!(!p|!q)`; `p -> q` is `!p|q`"
-abbrev pub joined : Infix → (p q : Formula) → Formula
+abbrev pub joined : Infix → (p q : RuleTree) → RuleTree
 joined Implies p q = binary table.Or (negation p) q
 joined Or p q = binary table.Or p q
 joined And p q = negation (binary table.Or (negation p) (negation q))
@@ -36,27 +36,27 @@ joined Until p q = binary table.Until p q
 joined Since p q = binary table.Since p q
 
 -- what a tree stands for
-unfoldable pub formulaOf : Tree → Formula
-formulaOf always = leaf table.True 0
-formulaOf (reading n) = leaf table.Atom n
-formulaOf (one x p) = prefixed x (formulaOf p)
-formulaOf (two x p q) = joined x (formulaOf p) (formulaOf q)
+unfoldable pub ruleTreeOf : Tree → RuleTree
+ruleTreeOf always = leaf table.True 0
+ruleTreeOf (reading n) = leaf table.Atom n
+ruleTreeOf (one x p) = prefixed x (ruleTreeOf p)
+ruleTreeOf (two x p q) = joined x (ruleTreeOf p) (ruleTreeOf q)
 
 -- how many nodes come out
-unfoldable pub size : Formula → ℕ
+unfoldable pub size : RuleTree → ℕ
 size (leaf k n) = 1
 size (unary k p) = size p + 1
 size (binary k p q) = size p + (size q + 1)
 
 -- "Operands come out before their operator, left first": the first node is node b
-unfoldable pub nodesFrom : (b : ℕ) → Formula → List Node
+unfoldable pub nodesFrom : (b : ℕ) → RuleTree → List Node
 nodesFrom b (leaf k n) = node k n 0 ∷ []
 nodesFrom b (unary k p) = nodesFrom b p ++ (node k (b + size p - 1) 0 ∷ [])
 nodesFrom b (binary k p q) = nodesFrom b p ++ (nodesFrom (b + size p) q ++ (node k (b + size p - 1) (b + size p + size q - 1) ∷ []))
 
 -- the nodes of a tree
 abbrev pub nodesOf : Tree → List Node
-nodesOf t = nodesFrom 0 (formulaOf t)
+nodesOf t = nodesFrom 0 (ruleTreeOf t)
 
 -- the largest atom number of a tree, 0 where there is none
 unfoldable pub largestAtom : Tree → ℕ

@@ -17,7 +17,7 @@ use Rattle.definitions.specs.Readings.{nodeRows, untilAt}
 use Rattle.mark_words.specs.Marks.{markAt, lastAt}
 use Rattle.mark_words.proofs.WordLaws.{bit-shr}
 use Rattle.rows.specs.Marks.{marks, Made}
-use Rattle.rows.specs.declared.row.Row.{Row}
+use Rattle.rows.specs.declared.Row.{Row}
 use Rattle.theorems.proofs.Tabulations.{tabulate-at, tabulate-same}
 use Rattle.rows.proofs.RowLaws.{not-on, until-on, last-on}
 use Rattle.rows.specs.declared.pair.Pair.{Pair}

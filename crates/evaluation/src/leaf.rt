@@ -9,8 +9,8 @@ ghost use Rattle.definitions.specs.Readings.{nodeRows};
 ghost use Rattle.rows.specs.Marks.{Made};
 ghost use Rattle.evaluation.specs.Traced.{Gathered, LeafReady, traceOf, atomRows, stateRun};
 ghost use Rattle.rows.specs.Pairs.{PairMade};
+use rows::Row;
 use rows::pair::Pair;
-use rows::row::Row;
 use rules::limits::Limits;
 use rules::node::Node;
 

@@ -1,4 +1,5 @@
-// The evaluator of a table over a trace of state words, both readings, into lent rows.
+// The evaluator of a table over a trace of state words: a weak and a strong row for each node, into lent rows. `leaf`: the rows of a node without operands.
+// It gives no verdict.
 pub mod leaf;
 
 ghost use mathlib.Core.Path.{_≡_};

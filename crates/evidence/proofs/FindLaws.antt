@@ -21,7 +21,7 @@ use Rattle.rules.specs.declared.node.Node as code
 use Rattle.rules.proofs.KindLaws.{kind-cases}
 use Rattle.rows.specs.Marks.{marks, Whole, Made}
 use Rattle.rows.specs.Stored.{rowAt}
-use Rattle.rows.specs.declared.row.Row.{Row}
+use Rattle.rows.specs.declared.Row.{Row}
 use Rattle.rows.proofs.PackedLaws.{retold, recounted}
 use Rattle.rows.proofs.RowLaws.{last-on}
 use Rattle.rows.proofs.StoredLaws.{row-here, row-before}

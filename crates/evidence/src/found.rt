@@ -3,7 +3,7 @@ ghost use Rattle.definitions.specs.Bounded.{tabulate};
 ghost use Rattle.rows.specs.Marks.{Made};
 ghost use Rattle.evidence.specs.Finding.{NodeReady, placesOf, Findable, FoundRows};
 use evaluation::pair_of_node;
-use rows::row::Row;
+use rows::Row;
 use rows::stored::store;
 use rules::node::Node;
 

@@ -1,4 +1,5 @@
-// The readings behind a verdict as an operation: of any rule on any recording, in lent space.
+// The readings behind a verdict as an operation: of any rule on any recording, in lent space. `accepted`: of what is accepted already; `found`, `pairs`: the
+// pairs of a node of kind atom and a place, from the places that are wanted.
 pub mod accepted;
 pub mod found;
 pub mod pairs;

@@ -1,4 +1,5 @@
-// The verdict, and a line for each reading behind it.
+// What is printed of an accepted rule and recording: the verdict that is asked for, and a line for each reading behind it. `verdict`, `line`: these lines.
+// Nothing is refused here.
 pub mod line;
 pub mod verdict;
 

@@ -1,3 +1,3 @@
-// Fields of a line: decimal and hexadecimal numbers, and the forms of lines. No number is tested against a limit here.
+// Fields of a line. `number`: decimal and hexadecimal numbers; `form`: the forms of lines. No number is tested against a limit here.
 pub mod form;
 pub mod number;

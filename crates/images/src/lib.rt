@@ -1,4 +1,5 @@
-// The images of one node of a rule, from the images of its operands; the opening before the first and the closing after the last.
+// The images of one node of a rule, from those of its operands; the opening before the first and the closing after the last. `blocks`: the documents' lists
+// of nodes as data; `lay`: the loop that lays them.
 pub mod blocks;
 pub mod lay;
 

@@ -19,7 +19,7 @@ use Rattle.lent.specs.Space.{laid}
 use Rattle.lent.proofs.LeftLaws.{laid-begins}
 use Rattle.lines.proofs.PartLaws.{part-to-end}
 use Rattle.lines.specs.Reading.{FirstLine}
-use Rattle.lines.specs.declared.next.Line.{Line}
+use Rattle.lines.specs.declared.Line.{Line}
 use Rattle.lines.proofs.NextLaws.{length-le}
 use Rattle.rule_reader.specs.Reading.{RuleScanned}
 use Rattle.rule_reader.specs.declared.Scanned as ruled

@@ -5,7 +5,7 @@ ghost use lib.ListN.{length, drop};
 ghost use Rattle.definitions.specs.Lines.{lineLength};
 ghost use Rattle.joint_reading.specs.Room.{Room};
 ghost use Rattle.joint_reading.specs.Scanning.{refusedAt, JointScanned};
-use lines::next::first_line;
+use lines::first_line;
 use recording_reader::scan::scan_recording;
 use rule_reader::scan_rule;
 use rules::limits::Refusal;

@@ -1,7 +1,7 @@
 // Judges the rule and the recording on standard input, and prints to standard output. On standard error it says where a
 // refused line stands, or what could not be read or written.
 use libc::STDOUT_FILENO;
-use refused_line::find::refused_line;
+use refused_line::refused_line;
 use rules::limits::Limits;
 use standard_streams::failures;
 use standard_streams::input::read_input;

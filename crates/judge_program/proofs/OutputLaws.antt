@@ -34,7 +34,7 @@ use Rattle.report.specs.Judged.{ReportIs}
 use Rattle.program_input.specs.Splitting.{SplitAt}
 use Rattle.judge_program.specs.Output.{TextsRoom, foundRule, foundRecording, Found, OutputIs}
 use Rattle.report.specs.declared.Report.{Report}
-use Rattle.program_input.specs.declared.split.Parts.{Parts}
+use Rattle.program_input.specs.declared.Parts.{Parts}
 use Rattle.judge_program.proofs.RecordingAccepted.{TextsAccepted, texts-accepted, recording-fine, masks-count, states-count}
 
 -- ---- how long a refusal is

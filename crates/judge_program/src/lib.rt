@@ -6,7 +6,7 @@ ghost use Rattle.report.specs.Judged.{ReportIs};
 use joint_reading::read_joint;
 use judges::headings::RecordingHeading;
 use judges::headings::RuleHeading;
-use program_input::split::split;
+use program_input::split;
 use report::Report;
 use report::put_refused;
 use report::put_report;

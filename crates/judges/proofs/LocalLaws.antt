@@ -23,7 +23,7 @@ use Rattle.theorems.proofs.NodeLaws.{accepted-rule}
 use Rattle.theorems.proofs.RuleNodes.{rule-some, rule-few, rule-length}
 use Rattle.theorems.proofs.ScheduleIndependence.{Accepted}
 use Rattle.lent.specs.Space.{laid}
-use Rattle.recordings.specs.Joining.{traceRefusal}
+use Rattle.recordings.specs.Joining.{joinedRefusal}
 use Rattle.recordings.proofs.WordLaws.{own-mask}
 use Rattle.projection.specs.Places.{runsIn, placesIn, Projectable}
 use Rattle.projection.proofs.LengthLaws.{length-of}
@@ -188,7 +188,7 @@ module _ (c count : ℕ) (nodes : List ℕ) (C n : ℕ) (masks states : List ℕ
 
 -- ---- the check, and the answers
 
-pub local-number : (r : Rule) (R : Recording) (refusal trace number : ℕ) → refusal ≡ ruleRefusal r → trace ≡ traceRefusal R (r .controller) → number ≡ orElse refusal trace
+pub local-number : (r : Rule) (R : Recording) (refusal trace number : ℕ) → refusal ≡ ruleRefusal r → trace ≡ joinedRefusal R (r .controller) → number ≡ orElse refusal trace
     → number ≡ judgeLocalNumber r R
 unfolding judgeLocalNumber
 local-number r R refusal trace number a b e = cc
@@ -209,7 +209,7 @@ module _ (c count : ℕ) (nodes : List ℕ) (C n : ℕ) (masks states : List ℕ
     pub local-accepted : Accepted rule recording
     unfolding judgeLocalNumber
     local-accepted =
-        let p = or-else-none (ruleRefusal rule) (traceRefusal recording c) (sym e ∙ none) in
+        let p = or-else-none (ruleRefusal rule) (joinedRefusal recording c) (sym e ∙ none) in
         let q = or-else-none (recordingRefusal recording) (controllerRefusal C c) (p .1) in
         record { rule = p .0; recording = q .0; controller = accepted-controller C c (q .1) }
 

@@ -9,7 +9,7 @@ use borrow.Author.Needs.{needs}
 use Rattle.definitions.specs.Limits.{maxStates, pairWords}
 use Rattle.definitions.specs.Nodes.{Node}
 use Rattle.definitions.specs.Readings.{Trace, noRows, rowsOf, verdict, pairsWords, verdicts}
-use Rattle.rows.specs.declared.row.Row.{Row}
+use Rattle.rows.specs.declared.Row.{Row}
 use Rattle.mark_words.specs.Marks.{markAt}
 use Rattle.rows.specs.Marks.{marks, Whole, Made}
 use Rattle.rows.specs.Stored.{rowAt}

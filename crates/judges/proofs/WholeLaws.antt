@@ -21,7 +21,7 @@ use Rattle.theorems.proofs.RecordingLaws.{Checked, checked}
 use Rattle.lent.specs.Space.{laid, cleared}
 use Rattle.rows.proofs.StoredLaws.{pairs-length}
 use Rattle.lent.proofs.LeftLaws.{laid-past, laid-begins, left-filled, lent-number, lent-full, zeroed-within, zeroed-left}
-use Rattle.recordings.specs.Joining.{traceRefusal}
+use Rattle.recordings.specs.Joining.{joinedRefusal}
 use Rattle.evaluation.specs.Traced.{everyAtom}
 use Rattle.evaluation.specs.Nodes.{Evaluable, rowsTo}
 use Rattle.evaluation.proofs.TableLaws.{rows-length, nodes-length}
@@ -136,10 +136,10 @@ answer-refused number values some = rw (ne-eqb number accepted some)
 -- ---- the answers
 
 module _ (count : ℕ) (nodes : List ℕ) (weakTop strongTop C n : ℕ) (masks states : List ℕ) (c : ℕ) (entry : List ℕ)
-    (short unread untraced both number : ℕ) (s : short ≡ pick (ltb (length entry) maxRowWords) lentShort accepted)
+    (short unread unjoined both number : ℕ) (s : short ≡ pick (ltb (length entry) maxRowWords) lentShort accepted)
     (a : unread ≡ tableRefusal (tableOf count nodes weakTop strongTop))
-    (b : untraced ≡ traceRefusal (recordingOf C n masks states) c)
-    (o : both ≡ orElse unread untraced) (e : number ≡ orElse short both) where
+    (b : unjoined ≡ joinedRefusal (recordingOf C n masks states) c)
+    (o : both ≡ orElse unread unjoined) (e : number ≡ orElse short both) where
   abbrev table : Table
   table = tableOf count nodes weakTop strongTop
 
@@ -161,7 +161,7 @@ module _ (count : ℕ) (nodes : List ℕ) (weakTop strongTop C n : ℕ) (masks s
   module _ (none : number ≡ 0) where
     pub whole-accepted : WholeReady table n states c entry
     whole-accepted =
-        let p = or-else-none unread untraced (sym o ∙ (or-else-none short both (sym e ∙ none)) .1) in
+        let p = or-else-none unread unjoined (sym o ∙ (or-else-none short both (sym e ∙ none)) .1) in
         let q = or-else-none (recordingRefusal R) (controllerRefusal C c) (sym b ∙ p .1) in
         whole-ready table R c entry (sym a ∙ p .0) (q .0) (accepted-controller C c (q .1)) (lent-full maxRowWords entry short both number s e (λ w. omega arith))
 

@@ -17,7 +17,7 @@ use super::verdicts::Verdicts;
 use super::verdicts::at_tops;
 use evaluation::evaluate;
 use projection::places::project_into;
-use recordings::check::trace_refusal;
+use recordings::check::joined_refusal;
 use recordings::masks::mask_at;
 use rules::choice::or_else;
 use rules::limits::Limits;
@@ -36,7 +36,7 @@ pub fn local_refusal(
 {
     let c = rule.controller;
     let refusal = rule_refusal(c, rule.count, nodes);
-    let trace = trace_refusal(recording.controllers, recording.count, masks, states, c);
+    let trace = joined_refusal(recording.controllers, recording.count, masks, states, c);
     or_else(refusal, trace)
 }
 

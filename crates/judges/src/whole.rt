@@ -9,7 +9,7 @@ use super::verdicts::Verdicts;
 use super::verdicts::at_tops;
 use evaluation::evaluate;
 use lent::clear_u64;
-use recordings::check::trace_refusal;
+use recordings::check::joined_refusal;
 use rules::choice::or_else;
 use rules::choice::pick;
 use rules::choice::pick_index;
@@ -58,8 +58,8 @@ pub fn judge_recording(
         Refusal::NONE,
     );
     let unread = table_refusal(count, nodes, weak_top, strong_top);
-    let untraced = trace_refusal(controllers, states_count, masks, states, c);
-    let refusal = or_else(short, or_else(unread, untraced));
+    let unjoined = joined_refusal(controllers, states_count, masks, states, c);
+    let refusal = or_else(short, or_else(unread, unjoined));
     if refusal != Refusal::NONE {
         let zeroed = pick_index(refusal == Refusal::LENT_SHORT, 0, Limits::ROW_WORDS);
         clear_u64(rows, 0, zeroed);

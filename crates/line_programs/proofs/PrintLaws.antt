@@ -23,7 +23,7 @@ use Rattle.lent.specs.Space.{cleared}
 use Rattle.printing.specs.Printing.{laidAt, Printed}
 use Rattle.printing.proofs.PrintLaws.{digits-fit, printed-seq}
 use Rattle.lines.specs.Reading.{FirstLine}
-use Rattle.lines.specs.declared.next.Line.{Line}
+use Rattle.lines.specs.declared.Line.{Line}
 use Rattle.lines.proofs.NextLaws.{short-closed, whole-open, line-part}
 use Rattle.rule_writer.specs.Writing.{WroteRule, writeAnswer}
 use Rattle.rule_writer.specs.declared.RuleWritten.{RuleWritten}

@@ -1,6 +1,6 @@
 // The only line of an input.
 ghost use Rattle.line_programs.specs.Printing.{OnlyLineOf};
-use lines::next::first_line;
+use lines::first_line;
 use rules::choice::pick;
 use rules::limits::Limits;
 use rules::limits::Refusal;

@@ -1,4 +1,5 @@
-// The programs that read one line and print a rule's text: `rule`, from a controller and a typed rule, and `longest`, from a number of nodes.
+// The programs that read one line and print a rule's text. `typed`: `rule`, from a controller and a typed rule; `longest`: from a number of nodes; `input`,
+// `print`: what they share.
 pub mod input;
 pub mod longest;
 pub mod print;

@@ -5,7 +5,7 @@ ghost use lib.ListN.{length};
 ghost use Rattle.definitions.specs.Limits.{maxLineBytes, maxRuleNodes};
 ghost use Rattle.lent.specs.Space.{laid};
 ghost use Rattle.one_line.specs.Reading.{LineChecked, ReadLine};
-use one_line_readers::read::arrows;
+use one_line_readers::arrows;
 use one_line_signs::refusal::refusal;
 use one_line_signs::scan::Signs;
 use one_line_signs::scan::scan;

@@ -18,7 +18,7 @@ use Rattle.definitions.specs.Nodes as table
 use Rattle.definitions.specs.Nodes.{Node, node, nodeWord, operandSpan}
 use Rattle.definitions.specs.OneLineSigns.{Sign, truth, atom, before, between, opening, closing, Prefix, Not, Next, Prev, Future, Always, Infix, Implies, Or, And, Until, Since}
 use Rattle.definitions.specs.OneLineGrammar.{Tree, always, reading, one, two, Level, Arrows, Ors, Ands, Untils, Prefixes, Primaries, Phrase, arrow, noArrow, or, noOr, and, noAnd, until, since, noUntil, prefix, noPrefix, isTrue, isAtom, bracketed, larger, mostOpen}
-use Rattle.definitions.specs.OneLineNodes.{formulaOf, size, nodesFrom}
+use Rattle.definitions.specs.OneLineNodes.{ruleTreeOf, size, nodesFrom}
 use Rattle.theorems.proofs.Choice.{by-test}
 use Rattle.theorems.proofs.Phrases.{flat, operand, operator, tight, signStrength, tight-most, prefixNodes, infixNodes, signNodes, weight, phrase-flat, phrase-shorter, phrase-weight, larger-second, most-grows, phrase-opened}
 use Rattle.theorems.proofs.OneLineTables.{nodes-size, size-some}
@@ -45,8 +45,8 @@ words-append : (ms ns : List Node) → words (ms ++ ns) ≡ words ms ++ words ns
 words-append [] ns = refl
 words-append (m ∷ ms) ns = rw (words-append ms ns)
 
-tree-words-length : (t : Tree) (b : ℕ) → length (treeWords t b) ≡ size (formulaOf t)
-tree-words-length t b = words-length (nodesFrom b (formulaOf t)) ∙ nodes-size (formulaOf t) b
+tree-words-length : (t : Tree) (b : ℕ) → length (treeWords t b) ≡ size (ruleTreeOf t)
+tree-words-length t b = words-length (nodesFrom b (ruleTreeOf t)) ∙ nodes-size (ruleTreeOf t) b
 
 -- a sign adds as many nodes as stand between and after its operands
 infix-adds : (x : Infix) (m e : ℕ) → length (infixMiddle x m) + length (infixLast x m e) ≡ infixNodes x
@@ -66,36 +66,36 @@ prefix-adds Future b e = refl
 prefix-adds Always b e = refl
 
 -- the nodes of two operands and a sign, in their order
-infix-nodes : (x : Infix) (p q : Tree) (made m n e : ℕ) → m ≡ made + size (formulaOf p) → n ≡ m + length (infixMiddle x m) → e ≡ n + size (formulaOf q)
-    → nodesFrom made (formulaOf (two x p q)) ≡ nodesFrom made (formulaOf p) ++ (infixMiddle x m ++ (nodesFrom n (formulaOf q) ++ infixLast x m e))
-unfolding nodesFrom formulaOf size infixMiddle infixLast
+infix-nodes : (x : Infix) (p q : Tree) (made m n e : ℕ) → m ≡ made + size (ruleTreeOf p) → n ≡ m + length (infixMiddle x m) → e ≡ n + size (ruleTreeOf q)
+    → nodesFrom made (ruleTreeOf (two x p q)) ≡ nodesFrom made (ruleTreeOf p) ++ (infixMiddle x m ++ (nodesFrom n (ruleTreeOf q) ++ infixLast x m e))
+unfolding nodesFrom ruleTreeOf size infixMiddle infixLast
 infix-nodes Implies p q made m n e i j k =
-    let a : made + (size (formulaOf p) + 1) ≡ n = omega arith in
+    let a : made + (size (ruleTreeOf p) + 1) ≡ n = omega arith in
     let c : n - 1 ≡ m = omega arith in
-    let d : n + size (formulaOf q) ≡ e = omega arith in
-    let f : made + size (formulaOf p) ≡ m = omega arith in
+    let d : n + size (ruleTreeOf q) ≡ e = omega arith in
+    let f : made + size (ruleTreeOf p) ≡ m = omega arith in
     rw (a, c, d, f) (simp append-assoc)
 infix-nodes Or p q made m n e i j k =
-    let f : made + size (formulaOf p) ≡ m = omega arith in
-    let d : m + size (formulaOf q) ≡ e = omega arith in
+    let f : made + size (ruleTreeOf p) ≡ m = omega arith in
+    let d : m + size (ruleTreeOf q) ≡ e = omega arith in
     let h : n ≡ m = omega arith in
     rw (f, d, h)
 infix-nodes And p q made m n e i j k =
-    let h : made + (size (formulaOf p) + 1 + (size (formulaOf q) + 1 + 1)) - 1 ≡ e + 1 = omega arith in
-    let a : made + (size (formulaOf p) + 1) ≡ n = omega arith in
+    let h : made + (size (ruleTreeOf p) + 1 + (size (ruleTreeOf q) + 1 + 1)) - 1 ≡ e + 1 = omega arith in
+    let a : made + (size (ruleTreeOf p) + 1) ≡ n = omega arith in
     let c : n - 1 ≡ m = omega arith in
-    let g : n + (size (formulaOf q) + 1) - 1 ≡ e = omega arith in
-    let d : n + size (formulaOf q) ≡ e = omega arith in
-    let f : made + size (formulaOf p) ≡ m = omega arith in
+    let g : n + (size (ruleTreeOf q) + 1) - 1 ≡ e = omega arith in
+    let d : n + size (ruleTreeOf q) ≡ e = omega arith in
+    let f : made + size (ruleTreeOf p) ≡ m = omega arith in
     rw (h, a, c, g, d, f) (simp append-assoc)
 infix-nodes Until p q made m n e i j k =
-    let f : made + size (formulaOf p) ≡ m = omega arith in
-    let d : m + size (formulaOf q) ≡ e = omega arith in
+    let f : made + size (ruleTreeOf p) ≡ m = omega arith in
+    let d : m + size (ruleTreeOf q) ≡ e = omega arith in
     let h : n ≡ m = omega arith in
     rw (f, d, h)
 infix-nodes Since p q made m n e i j k =
-    let f : made + size (formulaOf p) ≡ m = omega arith in
-    let d : m + size (formulaOf q) ≡ e = omega arith in
+    let f : made + size (ruleTreeOf p) ≡ m = omega arith in
+    let d : m + size (ruleTreeOf q) ≡ e = omega arith in
     let h : n ≡ m = omega arith in
     rw (f, d, h)
 
@@ -104,32 +104,32 @@ three [] a b c = refl
 three (x ∷ l) a b c = rw (three l a b c)
 
 -- the nodes of an operand and a prefix, in their order
-prefix-nodes : (x : Prefix) (p : Tree) (b n e : ℕ) → n ≡ b + length (prefixFirst x) → e ≡ n + size (formulaOf p)
-    → nodesFrom b (formulaOf (one x p)) ≡ prefixFirst x ++ (nodesFrom n (formulaOf p) ++ prefixLast x b e)
-unfolding nodesFrom formulaOf size prefixFirst prefixLast
-prefix-nodes Not p b n e i j = let h : n ≡ b = omega arith in let d : b + size (formulaOf p) ≡ e = omega arith in rw (d, h)
-prefix-nodes Next p b n e i j = let h : n ≡ b = omega arith in let d : b + size (formulaOf p) ≡ e = omega arith in rw (d, h)
-prefix-nodes Prev p b n e i j = let h : n ≡ b = omega arith in let d : b + size (formulaOf p) ≡ e = omega arith in rw (d, h)
+prefix-nodes : (x : Prefix) (p : Tree) (b n e : ℕ) → n ≡ b + length (prefixFirst x) → e ≡ n + size (ruleTreeOf p)
+    → nodesFrom b (ruleTreeOf (one x p)) ≡ prefixFirst x ++ (nodesFrom n (ruleTreeOf p) ++ prefixLast x b e)
+unfolding nodesFrom ruleTreeOf size prefixFirst prefixLast
+prefix-nodes Not p b n e i j = let h : n ≡ b = omega arith in let d : b + size (ruleTreeOf p) ≡ e = omega arith in rw (d, h)
+prefix-nodes Next p b n e i j = let h : n ≡ b = omega arith in let d : b + size (ruleTreeOf p) ≡ e = omega arith in rw (d, h)
+prefix-nodes Prev p b n e i j = let h : n ≡ b = omega arith in let d : b + size (ruleTreeOf p) ≡ e = omega arith in rw (d, h)
 prefix-nodes Future p b n e i j =
     let a : b + 1 ≡ n = omega arith in
     let c : n - 1 ≡ b = omega arith in
-    let d : n + size (formulaOf p) ≡ e = omega arith in
+    let d : n + size (ruleTreeOf p) ≡ e = omega arith in
     rw (a, c, d)
 prefix-nodes Always p b n e i j =
-    let h : b + (1 + (size (formulaOf p) + 1 + 1)) - 1 ≡ e + 1 = omega arith in
+    let h : b + (1 + (size (ruleTreeOf p) + 1 + 1)) - 1 ≡ e + 1 = omega arith in
     let a : b + 1 ≡ n = omega arith in
     let c : n - 1 ≡ b = omega arith in
-    let g : n + (size (formulaOf p) + 1) - 1 ≡ e = omega arith in
-    let d : n + size (formulaOf p) ≡ e = omega arith in
-    rw (h, a, c, g, d) (ap (λ (l : List Node). node table.True 0 0 ∷ l) (three (nodesFrom n (formulaOf p)) _ _ _))
+    let g : n + (size (ruleTreeOf p) + 1) - 1 ≡ e = omega arith in
+    let d : n + size (ruleTreeOf p) ≡ e = omega arith in
+    rw (h, a, c, g, d) (ap (λ (l : List Node). node table.True 0 0 ∷ l) (three (nodesFrom n (ruleTreeOf p)) _ _ _))
 
-infix-words : (x : Infix) (p q : Tree) (made m n e : ℕ) → m ≡ made + size (formulaOf p) → n ≡ m + length (words (infixMiddle x m)) → e ≡ n + size (formulaOf q)
+infix-words : (x : Infix) (p q : Tree) (made m n e : ℕ) → m ≡ made + size (ruleTreeOf p) → n ≡ m + length (words (infixMiddle x m)) → e ≡ n + size (ruleTreeOf q)
     → treeWords p made ++ (words (infixMiddle x m) ++ (treeWords q n ++ words (infixLast x m e))) ≡ treeWords (two x p q) made
 infix-words x p q made m n e i j k =
     let l : n ≡ m + length (infixMiddle x m) = j ∙ ap (λ (z : ℕ). m + z) (words-length (infixMiddle x m)) in
     rw (infix-nodes x p q made m n e i l k) (simp words-append)
 
-prefix-words : (x : Prefix) (p : Tree) (b n e : ℕ) → n ≡ b + length (words (prefixFirst x)) → e ≡ n + size (formulaOf p)
+prefix-words : (x : Prefix) (p : Tree) (b n e : ℕ) → n ≡ b + length (words (prefixFirst x)) → e ≡ n + size (ruleTreeOf p)
     → words (prefixFirst x) ++ (treeWords p n ++ words (prefixLast x b e)) ≡ treeWords (one x p) b
 prefix-words x p b n e i j =
     let l : n ≡ b + length (prefixFirst x) = i ∙ ap (λ (z : ℕ). b + z) (words-length (prefixFirst x)) in
@@ -208,7 +208,7 @@ prefix-sign =
 
 -- ---- behind a phrase
 
-read-size : {l : Level} {b at made a m : ℕ} {cs out o : List ℕ} (r : Read l b cs at made out a m o) → m ≡ made + size (formulaOf (r .tree))
+read-size : {l : Level} {b at made a m : ℕ} {cs out o : List ℕ} (r : Read l b cs at made out a m o) → m ≡ made + size (ruleTreeOf (r .tree))
 read-size {made = made} r = r .laid .next ∙ ap (λ (k : ℕ). made + k) (tree-words-length (r .tree) made)
 
 record Going (left : ℕ) (cs : List ℕ) (at made a m : ℕ) (o : List ℕ) : Type 0 where
@@ -231,7 +231,7 @@ going {at = at} {a = a} {cs = cs} w r =
       deep = omega (arith, w .deep, p .on);
       room = omega (arith, w .room, read-size r, phrase-weight (r .phrase));
       held = omega (arith, w .held, r .laid .kept);
-      behind = omega (arith, read-size r, size-some (formulaOf (r .tree)));
+      behind = omega (arith, read-size r, size-some (ruleTreeOf (r .tree)));
       onwards = omega (arith, phrase-shorter (r .phrase), ahead-length cs at, ahead-length cs a);
     }
 
@@ -998,7 +998,7 @@ module _ (left at made c : ℕ) (cs out : List ℕ) (pr : Primed left cs at made
     primaries-true-next = record { fits = omega (arith, true-room) }
 
     pub primaries-true : (w : ℕ) → w ≡ nodeWord (node table.True 0 0) → Read Primaries 5 cs at made out (at + 1) (made + 1) (set out made w)
-    unfolding nodesFrom formulaOf
+    unfolding nodesFrom ruleTreeOf
     primaries-true w e = record { tree = always; phrase = rw true-ahead isTrue; stops = tight-most (ahead cs (at + 1)); laid = relaid (rw e) (laid-one w out made (omega (arith, true-room, pr .ready .held))) }
 
   module _ (n1 : c ≡ 1 → ⊥) (n2 : c ≡ 2 → ⊥) where
@@ -1028,7 +1028,7 @@ module _ (left at made c : ℕ) (cs out : List ℕ) (pr : Primed left cs at made
     primaries-atom-next = record { fits = omega (arith, atom-room) }
 
     pub primaries-atom : (w : ℕ) → w ≡ nodeWord (node table.Atom (c - 13) 0) → Read Primaries 5 cs at made out (at + 1) (made + 1) (set out made w)
-    unfolding nodesFrom formulaOf
+    unfolding nodesFrom ruleTreeOf
     primaries-atom w e = record { tree = reading (c - 13); phrase = rw atom-ahead (isAtom (c - 13)); stops = tight-most (ahead cs (at + 1)); laid = relaid (rw e) (laid-one w out made (omega (arith, atom-room, pr .ready .held))) }
 
 pub ruleset primaries-laws = (needs, primaries-index, primaries-depth, primaries-falls, primaries-ready, primaries-after, primaries-bracket, primaries-true-write, primaries-true-next, primaries-true, primaries-atom-code, primaries-atom-low, primaries-atom-cast, primaries-atom-write, primaries-atom-next, primaries-atom)

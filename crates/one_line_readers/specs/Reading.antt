@@ -7,7 +7,7 @@ use lib.ListN.{length, getD}
 use Rattle.definitions.specs.Limits.{maxRuleNodes, maxLineBytes}
 use Rattle.definitions.specs.OneLineSigns.{Sign, truth, atom, before, between, opening, closing}
 use Rattle.definitions.specs.OneLineGrammar.{Tree, Level, Phrase, mostOpen}
-use Rattle.definitions.specs.OneLineNodes.{formulaOf, nodesFrom}
+use Rattle.definitions.specs.OneLineNodes.{ruleTreeOf, nodesFrom}
 use Rattle.theorems.proofs.Phrases.{flat, operand, weight, tight}
 use Rattle.one_line_signs.specs.Codes.{signOf, ahead}
 use Rattle.one_line_readers.specs.Nodes.{words}
@@ -41,7 +41,7 @@ pub record Primed (left : ℕ) (cs : List ℕ) (at made : ℕ) (out : List ℕ) 
 
 -- the words of a tree's nodes, the first of them at place b
 abbrev pub treeWords : Tree → ℕ → List ℕ
-treeWords t b = words (nodesFrom b (formulaOf t))
+treeWords t b = words (nodesFrom b (ruleTreeOf t))
 
 -- a phrase of the level was read, up to sign at′, and its nodes are laid, up to node made′; no sign after it binds with strength b
 pub record Read (l : Level) (b : ℕ) (cs : List ℕ) (at made : ℕ) (out : List ℕ) (at′ made′ : ℕ) (out′ : List ℕ) : Type 0 where

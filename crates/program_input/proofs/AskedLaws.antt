@@ -13,7 +13,7 @@ use Rattle.definitions.specs.Lines.{newline, before, isClosed, restAt, same}
 use Rattle.definitions.specs.Why.{readingWord, asks}
 use Rattle.theorems.proofs.InputSplit.{rest-length}
 use Rattle.lines.specs.Reading.{FirstLine}
-use Rattle.lines.specs.declared.next.Line.{Line}
+use Rattle.lines.specs.declared.Line.{Line}
 use Rattle.lines.proofs.NextLaws.{short-closed, whole-open, line-counts}
 use Rattle.program_input.specs.Asking.{askedIn, AskedIs}
 use Rattle.program_input.specs.declared.asked.Asked.{Asked}

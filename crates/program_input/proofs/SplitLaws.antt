@@ -14,7 +14,7 @@ use Rattle.definitions.specs.Program.{splitLine, ruleLength}
 use Rattle.theorems.proofs.InputSplit.{split-open, split-here, split-later, split-enough, split-inside, empty-open, rest-length}
 use Rattle.lines.proofs.PartLaws.{part-to-end}
 use Rattle.lines.specs.Reading.{FirstLine}
-use Rattle.lines.specs.declared.next.Line.{Line}
+use Rattle.lines.specs.declared.Line.{Line}
 use Rattle.lines.proofs.NextLaws.{line-part, line-part-laws, short-closed, whole-open}
 use Rattle.lines.proofs.LoopLaws.{after-line, line-inside}
 use Rattle.program_input.specs.Splitting.{SplitAt}

@@ -4,7 +4,7 @@ use Prim.Native.Nat.{ℕ, _≤_}
 use mathlib.Core.List.{List}
 use lib.ListN.{length, take, drop}
 use Rattle.definitions.specs.Program.{ruleIn, recordingIn}
-use Rattle.program_input.specs.declared.split.Parts.{Parts}
+use Rattle.program_input.specs.declared.Parts.{Parts}
 
 -- the two texts of the input, as its parts
 pub record SplitAt (input : List ℕ) (s : Parts) : Type 0 where

@@ -1,6 +1,6 @@
 // What the first line of the input of the program `why` asks for. The texts after it are not read here.
 ghost use Rattle.program_input.specs.Asking.{AskedIs};
-use lines::next::first_line;
+use lines::first_line;
 use lines::scan;
 
 // A reading, weak or strong, of the texts that begin at this byte; or nothing, in a first line of so many bytes.

@@ -17,7 +17,7 @@ use Rattle.theorems.proofs.OneStateMore.{OneMore, first-states-more, longer-idl
 use Rattle.lent.specs.Space.{laid}
 use Rattle.mark_words.specs.Marks.{yesMarks}
 use Rattle.rows.specs.Marks.{marks, Made}
-use Rattle.rows.specs.declared.row.Row.{Row}
+use Rattle.rows.specs.declared.Row.{Row}
 use Rattle.rows.proofs.PackedLaws.{marks-length}
 use Rattle.projection.specs.declared.pass.Pass.{Pass}
 use Rattle.projection.specs.Passes.{Holds, Ready, Passed, Closed, Counted}

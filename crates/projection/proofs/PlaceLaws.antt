@@ -82,7 +82,7 @@ pub local-places : (R : Recording) (c : ℕ) → placesIn (R .count) (maskOf R c
 unfolding placesIn
 local-places R c = refl
 
--- an accepted recording has fewer runs of a component than states
+-- an accepted recording has fewer runs of a controller than states
 pub few-local : (N c : ℕ) (states places : List ℕ) → Projectable N c states places → length (runsIn N c states) < N
 few-local N c states places P =
     rw (last-adds-none (statesOnly N states) c (P .someState)) (omega (arith, few-runs (runsAt (statesOnly N states) c) (N - 1), P .someState))

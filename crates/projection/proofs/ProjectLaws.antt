@@ -15,7 +15,7 @@ use Rattle.definitions.specs.Operations.{answer, projectNumber, projectAnswer, 
 use Rattle.theorems.proofs.Choice.{accept-yes, or-else-none}
 use Rattle.lent.specs.Space.{laid, cleared}
 use Rattle.lent.proofs.LeftLaws.{laid-past, laid-begins, left-filled, lent-number, lent-full, zeroed-within, zeroed-left}
-use Rattle.recordings.specs.Joining.{traceRefusal}
+use Rattle.recordings.specs.Joining.{joinedRefusal}
 use Rattle.recordings.proofs.WordLaws.{own-mask}
 use Rattle.projection.specs.Places.{runsIn, placesIn, Projectable}
 use Rattle.projection.specs.Answers.{answerOf, ProjectIs}
@@ -24,7 +24,7 @@ use Rattle.projection.proofs.LengthLaws.{length-local}
 use Rattle.projection.proofs.PlaceLaws.{projectable, local-places, few-local}
 
 module _ (C N : ℕ) (masks states : List ℕ) (c : ℕ) (entry : List ℕ) (short other r : ℕ) (s : short ≡ pick (ltb (length entry) maxStates) lentShort accepted)
-    (o : other ≡ traceRefusal (recordingOf C N masks states) c) (e : r ≡ orElse short other) where
+    (o : other ≡ joinedRefusal (recordingOf C N masks states) c) (e : r ≡ orElse short other) where
   abbrev R : Recording
   R = recordingOf C N masks states
 

@@ -21,7 +21,7 @@ use Rattle.theorems.proofs.LastMarks.{last-adds-none}
 use Rattle.projection.specs.Places.{statesOnly, Countable}
 use Rattle.theorems.proofs.RunStates.{runs-on, runs-off, few-runs, after-snoc, after-near}
 
--- ---- the states in which a component runs
+-- ---- the states in which a controller runs
 module _ (run : ℕ → Bool) where
   longer : (m j n : ℕ) → n ≡ m + j → length (runStates run m) ≤ length (runStates run n)
   longer m zero n e = let q : n ≡ m = omega arith in rw q (omega arith)

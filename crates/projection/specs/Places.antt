@@ -26,7 +26,7 @@ pub record Projectable (N c : ℕ) (states places : List ℕ) : Type 0 where
   pub room : maxStates ≤ length places
   pub controller : c < atomCount
 
--- what counting the run marks of a component asks
+-- what counting the run marks of a controller asks
 pub record Countable (N c : ℕ) (states : List ℕ) : Type 0 where
   pub someState : 0 < N
   pub fewStates : N ≤ maxStates

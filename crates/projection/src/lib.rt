@@ -1,4 +1,5 @@
-// Projection as an operation: the local trace of one controller of any recording, in lent space.
+// Projection as an operation: the local trace of one controller of any recording, in lent space. `pass`: one pass over the states, which after each holds the
+// local trace so far; `places`: of an accepted recording; `place_state`: the state that a place is. No atom is read here.
 pub mod pass;
 pub mod place_state;
 pub mod places;
@@ -7,7 +8,7 @@ ghost use Rattle.definitions.specs.Recordings.{recordingOf};
 ghost use Rattle.projection.specs.Answers.{ProjectIs};
 use lent::clear_u32;
 use places::project_counted;
-use recordings::check::trace_refusal;
+use recordings::check::joined_refusal;
 use recordings::masks::mask_at;
 use rules::choice::or_else;
 use rules::choice::pick;
@@ -36,7 +37,7 @@ pub fn project(
         Refusal::LENT_SHORT,
         Refusal::NONE,
     );
-    let refusal = or_else(short, trace_refusal(controllers, count, masks, states, c));
+    let refusal = or_else(short, joined_refusal(controllers, count, masks, states, c));
     if refusal != Refusal::NONE {
         let zeroed = pick_index(refusal == Refusal::LENT_SHORT, 0, Limits::STATES);
         clear_u32(places, 0, zeroed);

@@ -10,7 +10,7 @@ ghost use Rattle.projection.specs.Passes.{Holds, Ready, Passed, Closed, 
 ghost use Rattle.projection.specs.Places.{Projectable};
 use recordings::state::atoms_of;
 use recordings::state::runs;
-use rows::row::Row;
+use rows::Row;
 use rules::choice::pick_index;
 use rules::choice::pick_word;
 
@@ -36,7 +36,7 @@ impl Pass {
         }
     }
 
-    // One state more. The word of the state before it is written to the last place, and kept there if the component ran: no branch
+    // One state more. The word of the state before it is written to the last place, and kept there if the controller ran: no branch
     // that the marks decide.
     pub fn take(self, c: usize, mask: u32, state: u64, places: &mut [u32]) -> Pass
         requires { ⌜ Ready c self (now places) ⌝ }

@@ -1,4 +1,4 @@
-// The local trace of one component, by one pass over the states.
+// The local trace of one controller, by one pass over the states.
 ghost use mathlib.Core.Path.{_≡_};
 ghost use Prim.Native.Nat.{_+_};
 ghost use lib.ListN.{length};

@@ -17,7 +17,7 @@ use Rattle.definitions.specs.RecordingText.{stateLine, scanMasks, scanStates}
 use Rattle.theorems.proofs.Choice.{by-test, pick-true, pick-false}
 use Rattle.recordings.specs.Unions.{unionOf}
 use Rattle.lines.specs.Reading.{FirstLine, LinesScanned}
-use Rattle.lines.specs.declared.next.Line.{Line}
+use Rattle.lines.specs.declared.Line.{Line}
 use Rattle.lines.proofs.PartLaws.{part-to-end, empty-yes, empty-no}
 use Rattle.lines.proofs.LoopLaws.{Lines, lines-none, lines-stop, lines-next, after-line, line-inside}
 use Rattle.recording_reader.specs.NextLines.{maskAnswer, stateAnswer, seenLine}

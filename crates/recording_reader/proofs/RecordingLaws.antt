@@ -14,8 +14,8 @@ use Rattle.definitions.specs.RecordingText.{recordingHeadingLine, scanMasks, sc
 use Rattle.lent.specs.Space.{laid}
 use Rattle.lent.proofs.LeftLaws.{laid-past}
 use Rattle.lines.specs.Reading.{FirstLine, LinesScanned}
-use Rattle.lines.specs.declared.next.Line.{Line}
-use Rattle.lines.specs.declared.next.Stopped.{Stopped}
+use Rattle.lines.specs.declared.Line.{Line}
+use Rattle.lines.specs.declared.Stopped.{Stopped}
 use Rattle.lines.proofs.LoopLaws.{Counted}
 use Rattle.recording_reader.specs.NextLines.{headingAnswer}
 use Rattle.recording_reader.specs.declared.line.HeadingRead.{HeadingRead}

@@ -1,5 +1,5 @@
-// The reader of a recording text: masks and states into lent space, C and N as the answer.
-// What is left of a refused text in lent space is zeros.
+// The reader of a recording text: masks and states into lent space, C and N as the answer; refused, lent space is zeros. `line`: one line each; `scan`: all
+// lines up to the first refusal.
 pub mod line;
 pub mod scan;
 

@@ -8,7 +8,7 @@ ghost use Rattle.recording_reader.specs.NextLines.{headingAnswer, maskAn
 use fields::form;
 use fields::form::Pair;
 use fields::number::Field;
-use lines::next::end_refusal;
+use lines::end_refusal;
 use recordings::check;
 use recordings::masks;
 use rules::choice::pick_index;

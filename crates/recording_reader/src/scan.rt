@@ -11,8 +11,8 @@ use super::line::StateRead;
 use super::line::next_heading;
 use super::line::next_mask;
 use super::line::next_state;
-use lines::next::Stopped;
-use lines::next::first_line;
+use lines::Stopped;
+use lines::first_line;
 use rules::choice;
 use rules::limits::Refusal;
 

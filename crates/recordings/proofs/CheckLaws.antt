@@ -17,7 +17,7 @@ use Rattle.definitions.specs.Bounded.{pick, within, orElse}
 use Rattle.definitions.specs.Recordings.{Recording, stateOf, atomsOf, marksOf, marked, outputBroken, stateRefusal, recordingHeadingRefusal, masksRefusal, statesRefusal, recordingLinesRefusal, recordingRefusal, controllerRefusal, recordingOf}
 use Rattle.theorems.proofs.Choice.{accept-yes, both-true}
 use Rattle.theorems.proofs.Recursions.{some-cong}
-use Rattle.recordings.specs.Joining.{traceRefusal}
+use Rattle.recordings.specs.Joining.{joinedRefusal}
 use Rattle.recordings.specs.Turns.{stepRefusal}
 use Rattle.recordings.specs.Held.{heldGroup, heldAt, heldChanged}
 use Rattle.recordings.proofs.TurnLaws.{or-else-stop, or-else-go, from-next, from-missing, from-end}
@@ -162,7 +162,7 @@ module _ (C N : ℕ) (masks states : List ℕ) where
 
 -- ---- a controller of the recording
 pub joining-is : (R : Recording) (c recording joining r : ℕ) → recording ≡ recordingRefusal R → joining ≡ pick (ltb c (R .controllers)) accepted noController →
-    r ≡ orElse recording joining → r ≡ traceRefusal R c
+    r ≡ orElse recording joining → r ≡ joinedRefusal R c
 unfolding controllerRefusal
 joining-is R c recording joining r e f g = cc
 

@@ -4,5 +4,5 @@ use Rattle.definitions.specs.Bounded.{orElse}
 use Rattle.definitions.specs.Recordings.{Recording, recordingRefusal, controllerRefusal}
 
 -- the recording, then "11 rule's controller not below C"
-abbrev pub traceRefusal : Recording → ℕ → ℕ
-traceRefusal R c = orElse (recordingRefusal R) (controllerRefusal (R .controllers) c)
+abbrev pub joinedRefusal : Recording → ℕ → ℕ
+joinedRefusal R c = orElse (recordingRefusal R) (controllerRefusal (R .controllers) c)

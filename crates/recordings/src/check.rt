@@ -4,7 +4,7 @@ ghost use Prim.Native.Nat.{_^_, _≤_};
 ghost use lib.ListN.{take};
 ghost use Rattle.definitions.specs.Limits.{maxControllers};
 ghost use Rattle.definitions.specs.Recordings.{stateOf, stateRefusal, recordingHeadingRefusal, statesRefusal, recordingLinesRefusal, recordingRefusal, recordingOf};
-ghost use Rattle.recordings.specs.Joining.{traceRefusal};
+ghost use Rattle.recordings.specs.Joining.{joinedRefusal};
 ghost use Rattle.recordings.specs.Turns.{stepRefusal};
 use super::held::held_at;
 use super::held::held_changed;
@@ -115,14 +115,14 @@ pub fn recording_refusal(controllers: usize, count: usize, masks: &[u32], states
 }
 
 // The recording, then the controller that it is asked for.
-pub fn trace_refusal(
+pub fn joined_refusal(
     controllers: usize,
     count: usize,
     masks: &[u32],
     states: &[u64],
     c: usize,
 ) -> u8
-    ensures { λ r. ⌜ r ≡ traceRefusal (recordingOf controllers count (now (masks .entry)) (now (states .entry))) c ⌝ }
+    ensures { λ r. ⌜ r ≡ joinedRefusal (recordingOf controllers count (now (masks .entry)) (now (states .entry))) c ⌝ }
 {
     let recording = recording_refusal(controllers, count, masks, states);
     let joining = pick(c < controllers, Refusal::NONE, Refusal::NO_CONTROLLER);

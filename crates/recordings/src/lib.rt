@@ -1,5 +1,5 @@
-// What a recording is in code: a state's run marks and atoms, the masks, the atoms that a state may not change, and the check of all states, one against
-// the prior one. It reads no text and judges nothing.
+// What a recording is in code. `state`: a state's run marks and atoms; `masks`: the controllers' own atoms; `heading`: C and N; `held`: the atoms that a state
+// may not change; `check`: what refuses masks and states, one state against the prior one. It reads no text and judges nothing.
 pub mod check;
 pub mod held;
 pub mod masks;

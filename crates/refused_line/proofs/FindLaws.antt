@@ -16,12 +16,12 @@ use Rattle.joint_reading.specs.Scanning.{partOf}
 use Rattle.joint_reading.specs.Joining.{Joined}
 use Rattle.joint_reading.specs.declared.scan.Found.{Found}
 use Rattle.program_input.specs.Splitting.{SplitAt}
-use Rattle.program_input.specs.declared.split.Parts.{Parts}
+use Rattle.program_input.specs.declared.Parts.{Parts}
 use Rattle.judge_program.proofs.OutputLaws.{joint-low, rule-counted}
 use Rattle.refused_line.specs.Numbering.{lineNumber, LineStart}
 use Rattle.refused_line.specs.Finding.{Texts, Readable, partLine, textsLine, inputLine}
-use Rattle.refused_line.specs.declared.find.Line.{Line}
-use Rattle.refused_line.specs.declared.find.Line.the-variants.{OfRule, OfRecording, Nowhere}
+use Rattle.refused_line.specs.declared.Line.{Line}
+use Rattle.refused_line.specs.declared.Line.the-variants.{OfRule, OfRecording, Nowhere}
 
 -- ---- `in_tables`
 module _ (rule recording nodes masks states nodes′ masks′ states′ : List ℕ) (f : Found)

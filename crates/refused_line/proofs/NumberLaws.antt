@@ -17,7 +17,7 @@ use Rattle.theorems.proofs.Choice.{by-test}
 use Rattle.theorems.proofs.InputSplit.{rest-length}
 use Rattle.lines.proofs.PartLaws.{part-to-end, empty-yes, empty-no}
 use Rattle.lines.specs.Reading.{FirstLine}
-use Rattle.lines.specs.declared.next.Line.{Line}
+use Rattle.lines.specs.declared.Line.{Line}
 use Rattle.lines.proofs.LoopLaws.{after-line, line-inside}
 use Rattle.refused_line.specs.Numbering.{lineCount, LinesCounted, lineNumber, LineStart}
 

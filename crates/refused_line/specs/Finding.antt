@@ -9,8 +9,8 @@ use Rattle.definitions.specs.RecordingText.{Part, jointNumber, jointPart}
 use Rattle.definitions.specs.Program.{ruleIn, recordingIn}
 use Rattle.joint_reading.specs.Room.{Room}
 use Rattle.refused_line.specs.Numbering.{lineNumber}
-use Rattle.refused_line.specs.declared.find.Line.{Line}
-use Rattle.refused_line.specs.declared.find.Line.the-variants.{OfRule, OfRecording, Nowhere}
+use Rattle.refused_line.specs.declared.Line.{Line}
+use Rattle.refused_line.specs.declared.Line.the-variants.{OfRule, OfRecording, Nowhere}
 
 -- two texts of one input
 pub record Texts (rule recording : List ℕ) : Type 0 where

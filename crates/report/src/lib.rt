@@ -1,4 +1,4 @@
-// What the program prints, line by line: of a refusal, and of an accepted rule and recording. Nothing is decided here.
+// What the program `judge` prints, line by line: of a refusal, and of an accepted rule and recording. `tables`: these judged in each way.
 pub mod tables;
 
 ghost use Prim.Native.Nat.{_+_, _≤_};

@@ -10,7 +10,7 @@ use Rattle.definitions.specs.Readings.{nextAt, untilAt, prevAt, sinceAt}
 use Rattle.mark_words.specs.Marks.{markAt}
 use Rattle.rows.specs.Marks.{marks, Whole, Made}
 use Rattle.rows.specs.Stored.{rowAt}
-use Rattle.rows.specs.declared.row.Row.{Row}
+use Rattle.rows.specs.declared.Row.{Row}
 use Rattle.rows.proofs.RowLaws.{whole-made, not-on, or-on, next-on, until-on, prev-on, since-on}
 use Rattle.rows.specs.declared.pair.Pair.{Pair}
 use Rattle.rows.specs.Pairs.{isLeaf, rowsIn, PairMade, Counted, Operable, operated, pairAt}

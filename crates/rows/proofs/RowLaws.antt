@@ -17,7 +17,7 @@ use Rattle.mark_words.specs.Marks.{markAt, lastAt}
 use Rattle.mark_words.specs.Lists.{headD, zip, lastOnly, nextRow, untilRow, prevRow, sinceRow}
 use Rattle.mark_words.proofs.OperatorLaws.{lt-or-le, same-list, until-length, until-is, since-length, since-is, prev-length, prev-is, next-length, next-is, not-is, zip-length, zip-is, only-length, only-at}
 use Rattle.mark_words.proofs.WordLaws.{half, word-digit, word-fits, last-none, last-one, take-zip, drop-zip, word-and, word-or, word-not, and-cut, or-cons, and-cons}
-use Rattle.rows.specs.declared.row.Row.{Row}
+use Rattle.rows.specs.declared.Row.{Row}
 use Rattle.rows.specs.Marks.{marks, lowWord, highWord, Whole, Made}
 use Rattle.rows.proofs.PackedLaws.{marks-length, few-marks, as-long, of-words, as-tabulated, retold, packed-laws}
 

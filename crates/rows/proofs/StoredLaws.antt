@@ -10,7 +10,7 @@ use lib.Seq.{drop-at, take-at, drop-drop, getD-take, getD-drop, sets-eq, length-
 use borrow.Author.Needs.{needs}
 use Rattle.definitions.specs.Limits.{maxStates, pairWords}
 use Rattle.definitions.specs.Readings.{rowWords, Rows, noRows, pairsWords}
-use Rattle.rows.specs.declared.row.Row.{Row}
+use Rattle.rows.specs.declared.Row.{Row}
 use Rattle.rows.specs.Marks.{marks, packed, lowWord, highWord, Whole, Made}
 use Rattle.rows.specs.Stored.{rowAt}
 use Rattle.rows.proofs.PackedLaws.{made, marks-length}

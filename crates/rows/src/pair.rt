@@ -6,7 +6,7 @@ ghost use lib.ListN.{length};
 ghost use Rattle.definitions.specs.Limits.{pairWords};
 ghost use Rattle.definitions.specs.Nodes.{Until, kindOf};
 ghost use Rattle.rows.specs.Pairs.{isLeaf, rowsIn, PairMade, Counted, Operable, operated, pairAt};
-use super::row::Row;
+use super::Row;
 use super::stored::load;
 use rules::node::Node;
 

@@ -6,7 +6,7 @@ ghost use lib.ListN.{length, take, drop};
 ghost use Rattle.definitions.specs.Readings.{rowWords};
 ghost use Rattle.rows.specs.Marks.{marks, Whole};
 ghost use Rattle.rows.specs.Stored.{rowAt};
-use super::row::Row;
+use super::Row;
 
 pub fn load(rows: &[u64], at: usize) -> Row
     requires { ⌜ at + 3 ≤ length (now rows) ⌝ }

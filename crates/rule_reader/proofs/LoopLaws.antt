@@ -21,7 +21,7 @@ use Rattle.theorems.proofs.RefusalBounds.{pick-low}
 use Rattle.theorems.proofs.NextLines.{on-next, next-number, next-some}
 use Rattle.theorems.proofs.RuleTextSteps.{nodes-stop, nodes-step}
 use Rattle.lines.specs.Reading.{FirstLine, LinesScanned}
-use Rattle.lines.specs.declared.next.Line.{Line}
+use Rattle.lines.specs.declared.Line.{Line}
 use Rattle.lines.proofs.PartLaws.{part-to-end, empty-yes, empty-no}
 use Rattle.lines.proofs.LoopLaws.{Lines, lines-none, lines-stop, lines-next, after-line, line-inside, Counted, counted-more, counted-stop, counted-end}
 use Rattle.rule_reader.specs.NextLines.{nodeAnswer}

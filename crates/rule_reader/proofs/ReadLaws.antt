@@ -22,8 +22,8 @@ use Rattle.theorems.proofs.LentSpace.{refused-answer, accepted-answer}
 use Rattle.lent.specs.Space.{cleared}
 use Rattle.lent.proofs.LeftLaws.{laid-past, laid-begins, left-untouched, left-zeroed, left-filled}
 use Rattle.lines.specs.Reading.{FirstLine, LinesScanned}
-use Rattle.lines.specs.declared.next.Line.{Line}
-use Rattle.lines.specs.declared.next.Stopped.{Stopped}
+use Rattle.lines.specs.declared.Line.{Line}
+use Rattle.lines.specs.declared.Stopped.{Stopped}
 use Rattle.lines.proofs.LoopLaws.{Counted}
 use Rattle.rule_reader.specs.NextLines.{headingAnswer}
 use Rattle.rule_reader.specs.declared.heading_line.HeadingRead.{HeadingRead}

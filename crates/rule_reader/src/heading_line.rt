@@ -5,7 +5,7 @@ ghost use Rattle.definitions.specs.RuleText.{ruleHeadingLine};
 ghost use Rattle.rule_reader.specs.NextLines.{headingAnswer};
 use fields::form;
 use fields::form::Pair;
-use lines::next::end_refusal;
+use lines::end_refusal;
 use rules::limits::Refusal;
 use rules::table_check::rule_heading_refusal;
 

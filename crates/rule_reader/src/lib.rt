@@ -1,5 +1,5 @@
-// The reader of a rule text: its nodes into lent space, its controller and count as the answer.
-// What is left of a refused text in lent space is zeros.
+// The reader of a rule text: its nodes into lent space, its controller and count as the answer; refused, lent space is zeros. `heading_line`, `node_line`: one
+// line each.
 pub mod heading_line;
 pub mod node_line;
 
@@ -10,8 +10,8 @@ ghost use Rattle.lines.specs.Reading.{LinesScanned};
 ghost use Rattle.rule_reader.specs.Reading.{Room, NodeRoom, RuleScanned, ReadRule};
 use heading_line::HeadingRead;
 use heading_line::next_heading;
-use lines::next::Stopped;
-use lines::next::first_line;
+use lines::Stopped;
+use lines::first_line;
 use node_line::NodeRead;
 use node_line::next_node;
 use rules::choice;

@@ -13,7 +13,7 @@ use fields::number;
 use fields::number::Field;
 use kind_words::UNKNOWN;
 use kind_words::kind_of_word;
-use lines::next::end_refusal;
+use lines::end_refusal;
 use lines::scan;
 use rules::kind::is_unknown;
 use rules::kind::operand_count;

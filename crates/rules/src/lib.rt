@@ -1,5 +1,5 @@
-// What a rule is in code: the limits and the refusal numbers, choice by a test, kinds and nodes, headings, and the check of a node, of a rule's table and
-// of the judge's. It reads no text and judges nothing.
+// What a rule is in code. `limits`: the limits and the refusal numbers; `choice`: choice by a test; `kind`, `node`: kinds and nodes; `headings`: what stands
+// before the nodes; `node_check`, `table_check`: what refuses a node, a rule's table and the judge's. It reads no text and judges nothing.
 pub mod choice;
 pub mod kind;
 pub mod limits;

@@ -1,4 +1,4 @@
-// A node of a formula's table: its kind and two operands, and the word that it is in lent space.
+// A node of a table: its kind and two operands, and the word that it is in lent space.
 ghost use mathlib.Core.Path.{_≡_};
 ghost use Prim.Native.Nat.{_≤_};
 ghost use Rattle.definitions.specs.Nodes.{nodeWord, kindOf, kindNumber, True, Atom, Not, Or, Next, Until, Prev, Since, Run, End};

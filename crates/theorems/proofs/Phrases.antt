@@ -12,7 +12,7 @@ use Rattle.definitions.specs.Limits.{atomCount}
 use Rattle.definitions.specs.Bounded.{pick}
 use Rattle.definitions.specs.OneLineSigns.{Sign, truth, atom, before, between, opening, closing, Prefix, Not, Next, Prev, Future, Always, Infix, Implies, Or, And, Until, Since}
 use Rattle.definitions.specs.OneLineGrammar.{Tree, one, two, Level, Phrase, arrow, noArrow, or, noOr, and, noAnd, until, since, noUntil, prefix, noPrefix, isTrue, isAtom, bracketed, larger, mostOpen}
-use Rattle.definitions.specs.OneLineNodes.{formulaOf, size, largestAtom}
+use Rattle.definitions.specs.OneLineNodes.{ruleTreeOf, size, largestAtom}
 use Rattle.definitions.specs.OneLineReading.{strength}
 use Rattle.theorems.proofs.Choice.{by-test}
 
@@ -142,16 +142,16 @@ phrase-shorter (isAtom n) = omega arith
 phrase-shorter (bracketed x) = omega (arith, phrase-shorter x)
 
 -- a prefix and an infix sign add so many nodes
-pub prefix-size : (x : Prefix) (p : Tree) → size (formulaOf (one x p)) ≡ size (formulaOf p) + prefixNodes x
-unfolding size formulaOf prefixNodes
+pub prefix-size : (x : Prefix) (p : Tree) → size (ruleTreeOf (one x p)) ≡ size (ruleTreeOf p) + prefixNodes x
+unfolding size ruleTreeOf prefixNodes
 prefix-size Not p = refl
 prefix-size Next p = refl
 prefix-size Prev p = refl
 prefix-size Future p = omega arith
 prefix-size Always p = omega arith
 
-pub infix-size : (x : Infix) (p q : Tree) → size (formulaOf (two x p q)) ≡ size (formulaOf p) + (size (formulaOf q) + infixNodes x)
-unfolding size formulaOf infixNodes
+pub infix-size : (x : Infix) (p q : Tree) → size (ruleTreeOf (two x p q)) ≡ size (ruleTreeOf p) + (size (ruleTreeOf q) + infixNodes x)
+unfolding size ruleTreeOf infixNodes
 infix-size Implies p q = omega arith
 infix-size Or p q = refl
 infix-size And p q = omega arith
@@ -159,8 +159,8 @@ infix-size Until p q = refl
 infix-size Since p q = refl
 
 -- the nodes of a phrase are those that its signs add
-pub phrase-weight : {l : Level} {s u : List Sign} {t : Tree} → Phrase l s u t → size (formulaOf t) + weight u ≡ weight s
-unfolding size formulaOf weight signNodes
+pub phrase-weight : {l : Level} {s u : List Sign} {t : Tree} → Phrase l s u t → size (ruleTreeOf t) + weight u ≡ weight s
+unfolding size ruleTreeOf weight signNodes
 phrase-weight (arrow {p = p} {q = q} x y) = omega (arith, phrase-weight x, phrase-weight y, infix-size Implies p q)
 phrase-weight (noArrow x) = phrase-weight x
 phrase-weight (or {p = p} {q = q} x y) = omega (arith, phrase-weight x, phrase-weight y, infix-size Or p q)

@@ -14,7 +14,7 @@ use Rattle.theorems.proofs.Semantics.{Agree, until-agree, since-agree, prev-agr
 use Rattle.theorems.proofs.EvidenceRows.{goesOn, untilReach, sinceReach, pHere, qHere}
 use Rattle.mark_words.specs.Marks.{markAt}
 use Rattle.rows.specs.Marks.{marks, Whole, Made}
-use Rattle.rows.specs.declared.row.Row.{Row}
+use Rattle.rows.specs.declared.Row.{Row}
 use Rattle.rows.proofs.PackedLaws.{marks-length, retold}
 use Rattle.rows.specs.Pairs.{isLeaf}
 use Rattle.rows.proofs.KindLaws.{kind-not, kind-or, kind-next, kind-until, kind-prev, kind-since}

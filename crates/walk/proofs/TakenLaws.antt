@@ -5,7 +5,7 @@ use borrow.Author.Needs.{needs}
 use Rattle.definitions.specs.Nodes.{Kind, True, Atom, Not, Or, Next, Until, Prev, Since, Run, End, Unknown, kindOf}
 use Rattle.definitions.specs.Bounded.{tabulate}
 use Rattle.theorems.proofs.EvidenceRows.{firstMarks, secondMarks}
-use Rattle.rows.specs.declared.row.Row.{Row}
+use Rattle.rows.specs.declared.Row.{Row}
 use Rattle.rows.proofs.PackedLaws.{recounted}
 use Rattle.rows.specs.declared.pair.Pair.{Pair}
 use Rattle.rows.specs.Pairs.{rowsIn, PairMade}

@@ -19,7 +19,7 @@ use Rattle.theorems.proofs.Tabulations.{tabulate-at, tabulated}
 use Rattle.theorems.proofs.Semantics.{Agree}
 use Rattle.mark_words.specs.Marks.{markAt}
 use Rattle.rows.specs.Marks.{marks, Whole, Made}
-use Rattle.rows.specs.declared.row.Row.{Row}
+use Rattle.rows.specs.declared.Row.{Row}
 use Rattle.rows.proofs.PackedLaws.{marks-length, retold}
 use Rattle.rows.proofs.RowLaws.{not-on, prev-on}
 use Rattle.rows.proofs.StoredLaws.{row-here, row-before, row-past}

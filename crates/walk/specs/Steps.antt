@@ -10,7 +10,7 @@ use Rattle.definitions.specs.Evidence.{under}
 use Rattle.theorems.proofs.EvidenceRows.{pHere, qHere, firstMarks, secondMarks}
 use Rattle.mark_words.specs.Marks.{markAt}
 use Rattle.rows.specs.Marks.{marks, Whole, Made}
-use Rattle.rows.specs.declared.row.Row.{Row}
+use Rattle.rows.specs.declared.Row.{Row}
 use Rattle.rows.specs.declared.pair.Pair.{Pair}
 use Rattle.rows.specs.Pairs.{rowsIn, PairMade}
 use Rattle.walk.specs.declared.step.Step.{Step}

@@ -1,4 +1,5 @@
-// The walk from the rule.
+// The walk behind a verdict, from the rule's node to the first. `step`, `taken`: what one node's wanted places take of its operands; `wanted`: the wanted places
+// of each node, as rows. Which of them are readings is not asked here.
 pub mod step;
 pub mod taken;
 pub mod wanted;

@@ -7,7 +7,7 @@ ghost use Rattle.mark_words.specs.Marks.{markAt};
 ghost use Rattle.rows.specs.Marks.{marks, Whole, Made};
 ghost use Rattle.rows.specs.Pairs.{isLeaf};
 ghost use Rattle.walk.specs.Steps.{Twin, Even, OfFirst, Reached, Stepped};
-use rows::row::Row;
+use rows::Row;
 use rules::node::Node;
 
 // The places that are taken of the first operand, and of the second.

@@ -5,8 +5,8 @@ ghost use Rattle.definitions.specs.Nodes.{kindOf};
 ghost use Rattle.rows.specs.Pairs.{isLeaf};
 ghost use Rattle.walk.specs.Steps.{PairsEven, pairUnder, TakenMade};
 use super::step::step_of;
+use rows::Row;
 use rows::pair::Pair;
-use rows::row::Row;
 use rules::node::Node;
 
 // What is taken of the first operand, and of the second.

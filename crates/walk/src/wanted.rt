@@ -5,8 +5,8 @@ ghost use Rattle.definitions.specs.Limits.{maxStates, pairWords};
 ghost use Rattle.rows.specs.Pairs.{PairMade, pairOfNode, Operable};
 ghost use Rattle.walk.specs.Wanted.{PairWhole, Put, Wished, Held, none, chosen, started};
 use evaluation::pair_of_node;
+use rows::Row;
 use rows::pair::Pair;
-use rows::row::Row;
 use rows::stored::store;
 use rules::limits::Limits;
 

@@ -3,7 +3,7 @@
 use libc::STDOUT_FILENO;
 use program_input::asked::Asked;
 use program_input::asked::asked_by;
-use refused_line::find::refused_line;
+use refused_line::refused_line;
 use rules::limits::Limits;
 use standard_streams::failures;
 use standard_streams::input::read_input;

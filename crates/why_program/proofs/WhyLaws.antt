@@ -19,7 +19,7 @@ use Rattle.lines.proofs.PartLaws.{part-to-end}
 use Rattle.joint_reading.specs.Joining.{ReadJoint}
 use Rattle.program_input.specs.Splitting.{SplitAt}
 use Rattle.judge_program.specs.Output.{foundRule, foundRecording, OutputIs}
-use Rattle.program_input.specs.declared.split.Parts.{Parts}
+use Rattle.program_input.specs.declared.Parts.{Parts}
 use Rattle.judge_program.proofs.OutputLaws.{refused-length, first-is, line-is, rule-is, recording-is, refusal-room, tables-found, nodes-counted, masks-counted, states-counted, rule-counted, printed-all}
 use Rattle.evidence_text.specs.Behind.{behindOf, BehindReady}
 use Rattle.program_input.specs.Asking.{askedIn, AskedIs}

@@ -12,7 +12,7 @@ use judges::headings::RecordingHeading;
 use judges::headings::RuleHeading;
 use program_input::asked::Asked;
 use program_input::asked::asked_by;
-use program_input::split::split;
+use program_input::split;
 use report::put_refused;
 use rules::limits::Limits;
 use rules::limits::Refusal;

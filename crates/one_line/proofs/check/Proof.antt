@@ -2,47 +2,36 @@ use Rattle.one_line.proofs.LineLaws.{check-laws, check-long, check-noth
 use Rattle.one_line.proofs.check.Statement.{statement}
 use Rattle.one_line.proofs.check.Tie as tie
 
--- src/read.rt:26:9
 returns : tie.Need-returns
 returns c = search check-long
 
--- src/read.rt:31:27
 scan-requires : tie.Need-scan-requires
 scan-requires c κs = search check-laws
 
--- src/read.rt:31:22
 enum-known-n : tie.Need-enum-known-n
 enum-known-n c = search check-laws
 
--- src/read.rt:32:9
 enum-told : tie.Need-enum-told
 enum-told c = search check-laws
 
--- src/read.rt:32:9
 same-length : tie.Need-same-length
 same-length c = search check-laws
 
--- src/read.rt:32:9
 returns-2 : tie.Need-returns-2
 returns-2 c = search check-nothing
 
--- src/read.rt:38:37
 slice-reshare-prefix-refusal : tie.Need-slice-reshare-prefix-refusal
 slice-reshare-prefix-refusal c = search check-laws
 
--- src/read.rt:38:37
 slice-aggregate-refusal : tie.Need-slice-aggregate-refusal
 slice-aggregate-refusal c = search check-laws
 
--- src/read.rt:38:17
 refusal-requires : tie.Need-refusal-requires
 refusal-requires c κs = search check-laws
 
--- src/read.rt:21:1
 same-length-2 : tie.Need-same-length-2
 same-length-2 c = search check-laws
 
--- src/read.rt:21:1
 returns-3 : tie.Need-returns-3
 returns-3 c = search check-counted
 

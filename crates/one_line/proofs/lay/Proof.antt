@@ -10,43 +10,33 @@ Inv-loop words nodes₀ i₀ nodes i = Copied words nodes₀ i nodes
 abbrev μ-loop : tie.MeasureT-loop
 μ-loop words nodes₀ i₀ nodes i = maxRuleNodes - i
 
--- src/read.rt:50:5
 loop-holds : tie.Need-loop-holds Inv-loop μ-loop
 loop-holds c = search lay-laws
 
--- src/read.rt:51:20
 mul-nodes : tie.Need-mul-nodes Inv-loop μ-loop
 mul-nodes c = search lay-laws
 
--- src/read.rt:51:20
 element-copy-out-nodes : tie.Need-element-copy-out-nodes Inv-loop μ-loop
 element-copy-out-nodes c = search lay-laws
 
--- src/read.rt:51:9
 mul-nodes-2 : tie.Need-mul-nodes-2 Inv-loop μ-loop
 mul-nodes-2 c = search lay-laws
 
--- src/read.rt:51:9
 slice-write-nodes : tie.Need-slice-write-nodes Inv-loop μ-loop
 slice-write-nodes c = search lay-laws
 
--- src/read.rt:50:9
 add-i : tie.Need-add-i Inv-loop μ-loop
 add-i c = search lay-laws
 
--- src/read.rt:50:5
 loop-less : tie.Need-loop-less Inv-loop μ-loop
 loop-less c = search lay-laws
 
--- src/read.rt:50:5
 loop-again : tie.Need-loop-again Inv-loop μ-loop
 loop-again c = search lay-laws
 
--- src/read.rt:46:1
 same-length : tie.Need-same-length Inv-loop μ-loop
 same-length c = search lay-laws
 
--- src/read.rt:46:1
 returns : tie.Need-returns Inv-loop μ-loop
 returns c = search lay-laws
 

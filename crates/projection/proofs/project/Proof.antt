@@ -7,8 +7,8 @@ use Rattle.projection.proofs.project.Tie as tie
 pick-requires : tie.Need-pick-requires
 pick-requires c κs = search needs
 
-trace-refusal-requires : tie.Need-trace-refusal-requires
-trace-refusal-requires c κs = search needs
+joined-refusal-requires : tie.Need-joined-refusal-requires
+joined-refusal-requires c κs = search needs
 
 or-else-requires : tie.Need-or-else-requires
 or-else-requires c κs = search needs
@@ -45,7 +45,7 @@ project-spec =
     tie.close
     (tie.spec
     pick-requires
-    trace-refusal-requires
+    joined-refusal-requires
     or-else-requires
     pick-index-requires
     clear-u32-requires

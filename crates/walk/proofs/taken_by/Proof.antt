@@ -2,27 +2,21 @@ use Rattle.walk.proofs.WalkLaws.{taken-laws}
 use Rattle.walk.proofs.taken_by.Statement.{statement}
 use Rattle.walk.proofs.taken_by.Tie as tie
 
--- src/walk.rt:19:9
 pair-of-node-requires : tie.Need-pair-of-node-requires
 pair-of-node-requires c κs = search taken-laws
 
--- src/walk.rt:20:9
 pair-of-node-requires-2 : tie.Need-pair-of-node-requires-2
 pair-of-node-requires-2 c κs = search taken-laws
 
--- src/walk.rt:21:9
 pair-of-node-requires-3 : tie.Need-pair-of-node-requires-3
 pair-of-node-requires-3 c κs = search taken-laws
 
--- src/walk.rt:22:16
 pair-of-node-requires-4 : tie.Need-pair-of-node-requires-4
 pair-of-node-requires-4 c κs = search taken-laws
 
--- src/walk.rt:22:5
 take-requires : tie.Need-take-requires
 take-requires c κs = search taken-laws
 
--- src/walk.rt:15:1
 returns : tie.Need-returns
 returns c = search taken-laws
 

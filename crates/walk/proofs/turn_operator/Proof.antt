@@ -2,23 +2,18 @@ use Rattle.walk.proofs.WalkLaws.{operator-laws}
 use Rattle.walk.proofs.turn_operator.Statement.{statement}
 use Rattle.walk.proofs.turn_operator.Tie as tie
 
--- src/walk.rt:38:9
 taken-by-requires : tie.Need-taken-by-requires
 taken-by-requires c κs = search operator-laws
 
--- src/walk.rt:39:5
 want-requires : tie.Need-want-requires
 want-requires c κs = search operator-laws
 
--- src/walk.rt:40:5
 want-requires-2 : tie.Need-want-requires-2
 want-requires-2 c κs = search operator-laws
 
--- src/walk.rt:26:1
 same-length : tie.Need-same-length
 same-length c = search operator-laws
 
--- src/walk.rt:26:1
 returns : tie.Need-returns
 returns c = search operator-laws
 

@@ -9,35 +9,27 @@ Inv-loop nodes count n rows weak wanted₀ m₀ wanted m = Walking nodes count n
 abbrev μ-loop : tie.MeasureT-loop
 μ-loop nodes count n rows weak wanted₀ m₀ wanted m = m
 
--- src/walk.rt:47:5
 start-requires : tie.Need-start-requires Inv-loop μ-loop
 start-requires c κs = search walk-laws
 
--- src/walk.rt:49:5
 loop-holds : tie.Need-loop-holds Inv-loop μ-loop
 loop-holds c = search walk-laws
 
--- src/walk.rt:50:9
 sub-m : tie.Need-sub-m Inv-loop μ-loop
 sub-m c = search walk-laws
 
--- src/walk.rt:51:9
 turn-requires : tie.Need-turn-requires Inv-loop μ-loop
 turn-requires c κs = walk-turning _ _ _ _ _ _ _ _ (c .before .before .loop .inv) (search needs)
 
--- src/walk.rt:49:5
 loop-less : tie.Need-loop-less Inv-loop μ-loop
 loop-less c = search walk-laws
 
--- src/walk.rt:49:5
 loop-again : tie.Need-loop-again Inv-loop μ-loop
 loop-again c = search walk-laws
 
--- src/walk.rt:43:1
 same-length : tie.Need-same-length Inv-loop μ-loop
 same-length c = search walk-laws
 
--- src/walk.rt:43:1
 returns : tie.Need-returns Inv-loop μ-loop
 returns c = search walk-laws
 

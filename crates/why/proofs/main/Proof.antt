@@ -4,75 +4,57 @@ use borrow.Author.Needs.{needs}
 use Rattle.why.proofs.main.Statement.{statement}
 use Rattle.why.proofs.main.Tie as tie
 
--- src/main.rt:26:28
 slice-aggregate-read-input : tie.Need-slice-aggregate-read-input
 slice-aggregate-read-input c = search needs
 
--- src/main.rt:26:9
 read-input-requires : tie.Need-read-input-requires
 read-input-requires c κs = search needs
 
--- src/main.rt:28:30
 slice-aggregate-say-unread : tie.Need-slice-aggregate-say-unread
 slice-aggregate-say-unread c = search needs
 
--- src/main.rt:28:9
 say-unread-requires : tie.Need-say-unread-requires
 say-unread-requires c κs = search needs
 
--- src/main.rt:29:9
 returns : tie.Need-returns
 returns c = search needs
 
--- src/main.rt:33:28
 array-share-prefix-space : tie.Need-array-share-prefix-space
 array-share-prefix-space c = search needs
 
--- src/main.rt:33:28
 slice-aggregate-why : tie.Need-slice-aggregate-why
 slice-aggregate-why c = search told-laws
 
--- src/main.rt:33:9
 why-requires : tie.Need-why-requires
 why-requires c κs = search needs
 
--- src/main.rt:34:37
 array-share-prefix-output : tie.Need-array-share-prefix-output
 array-share-prefix-output c = search needs
 
--- src/main.rt:34:37
 slice-aggregate-write-all : tie.Need-slice-aggregate-write-all
 slice-aggregate-write-all c = search told-laws
 
--- src/main.rt:34:8
 write-all-requires : tie.Need-write-all-requires
 write-all-requires c κs = search needs
 
--- src/main.rt:35:21
 array-share-prefix-space-2 : tie.Need-array-share-prefix-space-2
 array-share-prefix-space-2 c = search needs
 
--- src/main.rt:35:21
 slice-aggregate-say-refused : tie.Need-slice-aggregate-say-refused
 slice-aggregate-say-refused c = search told-laws
 
--- src/main.rt:35:9
 say-refused-requires : tie.Need-say-refused-requires
 say-refused-requires c κs = search needs
 
--- src/main.rt:37:33
 slice-aggregate-say-unwritten : tie.Need-slice-aggregate-say-unwritten
 slice-aggregate-say-unwritten c = search needs
 
--- src/main.rt:37:9
 say-unwritten-requires : tie.Need-say-unwritten-requires
 say-unwritten-requires c κs = search needs
 
--- src/main.rt:23:1
 returns-2 : tie.Need-returns-2
 returns-2 c = search needs
 
--- src/main.rt:23:1
 returns-3 : tie.Need-returns-3
 returns-3 c = search needs
 

@@ -91,13 +91,13 @@ fn since(p: u128, q: u128) -> u128 {
 }
 
 /// A trace of words, state words or places.
-struct Trace<'a, W> {
+struct Recording<'a, W> {
     words: &'a [W],
     own: u32,
     c: usize,
 }
 
-impl<W: Copy + Into<u64>> Trace<'_, W> {
+impl<W: Copy + Into<u64>> Recording<'_, W> {
     fn last(&self) -> u128 {
         1 << (self.words.len() - 1)
     }
@@ -169,12 +169,12 @@ pub fn judge_recording(
     if rows.len() < full::ROW_WORDS {
         return (refusal::LENT_SPACE, [0; 2]);
     }
-    if let Err(number) = check::table(table).and_then(|()| check::component(recording, c)) {
+    if let Err(number) = check::table(table).and_then(|()| check::controller(recording, c)) {
         return refused(number, rows, full::ROW_WORDS);
     }
-    let trace = Trace { words: &recording.states[..recording.count], own: u32::MAX, c };
+    let recording = Recording { words: &recording.states[..recording.count], own: u32::MAX, c };
     let mut lent = Lent { words: rows, marks: recording.count };
-    trace.evaluate(&table.nodes[..table.count], &mut lent);
+    recording.evaluate(&table.nodes[..table.count], &mut lent);
     let weak = lent.pair(table.weak_top).weak & 1;
     let strong = lent.pair(table.strong_top).strong & 1;
     rows[6 * table.count..full::ROW_WORDS].fill(0);
@@ -208,13 +208,13 @@ pub fn local(rule: Rule, recording: Recording) -> Local {
     let mut places = [0; limits::PLACES];
     let length = places_into(recording, c, &mut places);
     let mut rows = [Pair::both(0); limits::RULE_NODES];
-    Trace { words: &places[..length], own, c }.evaluate(&rule.nodes[..rule.count], &mut rows);
+    Recording { words: &places[..length], own, c }.evaluate(&rule.nodes[..rule.count], &mut rows);
     Local { own, length, rows }
 }
 
 pub fn judge_local(rule: Rule, recording: Recording) -> (u8, [usize; 2]) {
     let c = rule.controller;
-    if let Err(number) = check::rule(rule).and_then(|()| check::component(recording, c)) {
+    if let Err(number) = check::rule(rule).and_then(|()| check::controller(recording, c)) {
         return (number, [0; 2]);
     }
     let Pair { weak, strong } = local(rule, recording).rows[rule.count - 1];
@@ -225,7 +225,7 @@ pub fn project(recording: Recording, c: usize, places: &mut [u32]) -> (u8, [usiz
     if places.len() < full::PLACES {
         return (refusal::LENT_SPACE, [0]);
     }
-    if let Err(number) = check::component(recording, c) {
+    if let Err(number) = check::controller(recording, c) {
         return refused(number, places, full::PLACES);
     }
     let length = places_into(recording, c, places);

@@ -1,8 +1,8 @@
 //! Judging small rules without a new allocation for each comparison: there
 //! are tens of millions.
 
-use reference::generate::formulas::{JudgeTable, RuleTable};
-use reference::generate::traces::RecordingTable;
+use reference::generate::recordings::RecordingTable;
+use reference::generate::rules::{JudgeTable, RuleTable};
 use reference::model::limits;
 
 use crate::check::Check;
@@ -44,18 +44,18 @@ impl<'a, 'b> Judge<'a, 'b> {
     ) -> Result<(), Difference> {
         let recordings = &self.views.recordings;
         let first = &recordings[members[0].recording];
-        let expected = self.expect_local(&rule.formulas[members[0].controller], first);
+        let expected = self.expect_local(&rule.rules[members[0].controller], first);
         for Member { recording, controller } in members {
-            let (formula, recording) = (&rule.formulas[*controller], &recordings[*recording]);
-            let found = self.local(formula, recording, expected)?;
-            self.agree(formula, recording, found, known)?;
+            let (rule, recording) = (&rule.rules[*controller], &recordings[*recording]);
+            let found = self.local(rule, recording, expected)?;
+            self.agree(rule, recording, found, known)?;
         }
         for table in &rule.tables[view.own as usize] {
             let expected = self.expect_whole(table, first, members[0].controller);
             for Member { recording, controller } in members {
                 let recording = &recordings[*recording];
                 let found = self.whole(table, recording, *controller, expected)?;
-                self.agree(&rule.formulas[*controller], recording, found, known)?;
+                self.agree(&rule.rules[*controller], recording, found, known)?;
             }
         }
         Ok(())
@@ -71,10 +71,10 @@ impl<'a, 'b> Judge<'a, 'b> {
         rows: bool,
         known: Known,
     ) -> Result<(), Difference> {
-        let formula = &rule.formulas[controller];
-        let expected = self.expect_local(formula, recording);
-        let found = self.local(formula, recording, expected)?;
-        self.agree(formula, recording, found, known)?;
+        let rule = &rule.rules[controller];
+        let expected = self.expect_local(rule, recording);
+        let found = self.local(rule, recording, expected)?;
+        self.agree(rule, recording, found, known)?;
         for table in &rule.tables[recording.masks[controller] as usize] {
             let found = if rows {
                 let expected = self.expect_whole(table, recording, controller);
@@ -82,7 +82,7 @@ impl<'a, 'b> Judge<'a, 'b> {
             } else {
                 self.verdict(table, recording, controller)?
             };
-            self.agree(formula, recording, found, known)?;
+            self.agree(rule, recording, found, known)?;
         }
         Ok(())
     }
@@ -94,8 +94,8 @@ impl<'a, 'b> Judge<'a, 'b> {
         recording: &RecordingTable,
         controller: usize,
     ) -> Result<[usize; 2], Difference> {
-        let (nodes, trace) = (library::table(table), library::recording(recording));
-        let found = ragyvosin::judge_recording(nodes, trace, controller, self.rows.lend());
+        let (nodes, recording) = (library::table(table), library::recording(recording));
+        let found = ragyvosin::judge_recording(nodes, recording, controller, self.rows.lend());
         self.rows.drop_found();
         match found {
             (0, verdict) => Ok(verdict),
@@ -162,8 +162,8 @@ impl<'a, 'b> Judge<'a, 'b> {
         controller: usize,
         expected: [usize; 2],
     ) -> Result<[usize; 2], Difference> {
-        let (nodes, trace) = (library::table(table), library::recording(recording));
-        let found = ragyvosin::judge_recording(nodes, trace, controller, self.rows.lend());
+        let (nodes, recording) = (library::table(table), library::recording(recording));
+        let found = ragyvosin::judge_recording(nodes, recording, controller, self.rows.lend());
         self.check.count(Operation::JudgeRecording, 1, self.rows.entries());
         self.rows.require(expected, found, || {
             Input::judge_recording(table.clone(), recording.clone(), controller)

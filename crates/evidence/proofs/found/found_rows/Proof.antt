@@ -9,39 +9,30 @@ Inv-loop nodes count own n wanted found₀ j₀ found j = Finding nodes count ow
 abbrev μ-loop : tie.MeasureT-loop
 μ-loop nodes count own n wanted found₀ j₀ found j = count - j
 
--- src/found.rt:40:5
 loop-holds : tie.Need-loop-holds Inv-loop μ-loop
 loop-holds c = search find-laws
 
--- src/found.rt:41:13
 found-row-requires : tie.Need-found-row-requires Inv-loop μ-loop
 found-row-requires c κs = search find-laws
 
--- src/found.rt:42:22
 mul-store : tie.Need-mul-store Inv-loop μ-loop
 mul-store c = search find-laws
 
--- src/found.rt:42:9
 store-requires : tie.Need-store-requires Inv-loop μ-loop
 store-requires c κs = search find-laws
 
--- src/found.rt:40:9
 add-j : tie.Need-add-j Inv-loop μ-loop
 add-j c = search find-laws
 
--- src/found.rt:40:5
 loop-less : tie.Need-loop-less Inv-loop μ-loop
 loop-less c = search find-laws
 
--- src/found.rt:40:5
 loop-again : tie.Need-loop-again Inv-loop μ-loop
 loop-again c = search find-laws
 
--- src/found.rt:36:1
 same-length : tie.Need-same-length Inv-loop μ-loop
 same-length c = search find-laws
 
--- src/found.rt:36:1
 returns : tie.Need-returns Inv-loop μ-loop
 returns c = search find-laws
 

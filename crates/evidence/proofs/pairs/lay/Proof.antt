@@ -2,31 +2,24 @@ use Rattle.evidence.proofs.LayLaws.{lay-laws}
 use Rattle.evidence.proofs.pairs.lay.Statement.{statement}
 use Rattle.evidence.proofs.pairs.lay.Tie as tie
 
--- src/lay.rt:55:46
 slice-aggregate-found-rows : tie.Need-slice-aggregate-found-rows
 slice-aggregate-found-rows c = search lay-laws
 
--- src/lay.rt:55:5
 found-rows-requires : tie.Need-found-rows-requires
 found-rows-requires c κs = search lay-laws
 
--- src/lay.rt:56:36
 slice-aggregate-lay-places : tie.Need-slice-aggregate-lay-places
 slice-aggregate-lay-places c = search lay-laws
 
--- src/lay.rt:56:9
 lay-places-requires : tie.Need-lay-places-requires
 lay-places-requires c κs = search lay-laws
 
--- src/lay.rt:57:5
 clear-u32-requires : tie.Need-clear-u32-requires
 clear-u32-requires c κs = search lay-laws
 
--- src/lay.rt:50:1
 same-length : tie.Need-same-length
 same-length c = search lay-laws
 
--- src/lay.rt:50:1
 returns : tie.Need-returns
 returns c = search lay-laws
 

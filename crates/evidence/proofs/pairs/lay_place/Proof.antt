@@ -9,55 +9,42 @@ Inv-loop count k found from pairs₀ end₀ j₀ pairs end j = PlaceLaying count
 abbrev μ-loop : tie.MeasureT-loop
 μ-loop count k found from pairs₀ end₀ j₀ pairs end j = count - j
 
--- src/lay.rt:30:5
 loop-holds : tie.Need-loop-holds Inv-loop μ-loop
 loop-holds c = search lay-laws
 
--- src/lay.rt:31:23
 mul-pairs : tie.Need-mul-pairs Inv-loop μ-loop
 mul-pairs c = search lay-laws
 
--- src/lay.rt:31:23
 add-pairs : tie.Need-add-pairs Inv-loop μ-loop
 add-pairs c = search lay-laws
 
--- src/lay.rt:31:22
 cast-pairs : tie.Need-cast-pairs Inv-loop μ-loop
 cast-pairs c = search lay-laws
 
--- src/lay.rt:31:9
 mul-pairs-2 : tie.Need-mul-pairs-2 Inv-loop μ-loop
 mul-pairs-2 c = search lay-laws
 
--- src/lay.rt:31:9
 slice-write-pairs : tie.Need-slice-write-pairs Inv-loop μ-loop
 slice-write-pairs c = search lay-laws
 
--- src/lay.rt:32:16
 mark-of-requires : tie.Need-mark-of-requires Inv-loop μ-loop
 mark-of-requires c κs = search lay-laws
 
--- src/lay.rt:32:9
 add-end : tie.Need-add-end Inv-loop μ-loop
 add-end c = search lay-laws
 
--- src/lay.rt:30:9
 add-j : tie.Need-add-j Inv-loop μ-loop
 add-j c = search lay-laws
 
--- src/lay.rt:30:5
 loop-less : tie.Need-loop-less Inv-loop μ-loop
 loop-less c = search lay-laws
 
--- src/lay.rt:30:5
 loop-again : tie.Need-loop-again Inv-loop μ-loop
 loop-again c = search lay-laws
 
--- src/lay.rt:25:1
 same-length : tie.Need-same-length Inv-loop μ-loop
 same-length c = search lay-laws
 
--- src/lay.rt:25:1
 returns : tie.Need-returns Inv-loop μ-loop
 returns c = search lay-laws
 

@@ -9,31 +9,24 @@ Inv-loop count n found pairs₀ end₀ k₀ pairs end k = PlacesLaying count n f
 abbrev μ-loop : tie.MeasureT-loop
 μ-loop count n found pairs₀ end₀ k₀ pairs end k = n - k
 
--- src/lay.rt:42:5
 loop-holds : tie.Need-loop-holds Inv-loop μ-loop
 loop-holds c = search lay-laws
 
--- src/lay.rt:43:13
 lay-place-requires : tie.Need-lay-place-requires Inv-loop μ-loop
 lay-place-requires c κs = search lay-laws
 
--- src/lay.rt:42:9
 add-k : tie.Need-add-k Inv-loop μ-loop
 add-k c = search lay-laws
 
--- src/lay.rt:42:5
 loop-less : tie.Need-loop-less Inv-loop μ-loop
 loop-less c = search lay-laws
 
--- src/lay.rt:42:5
 loop-again : tie.Need-loop-again Inv-loop μ-loop
 loop-again c = search lay-laws
 
--- src/lay.rt:37:1
 same-length : tie.Need-same-length Inv-loop μ-loop
 same-length c = search lay-laws
 
--- src/lay.rt:37:1
 returns : tie.Need-returns Inv-loop μ-loop
 returns c = search lay-laws
 

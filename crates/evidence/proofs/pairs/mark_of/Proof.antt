@@ -2,27 +2,21 @@ use Rattle.evidence.proofs.LayLaws.{lay-laws}
 use Rattle.evidence.proofs.pairs.mark_of.Statement.{statement}
 use Rattle.evidence.proofs.pairs.mark_of.Tie as tie
 
--- src/lay.rt:20:22
 mul-word : tie.Need-mul-word
 mul-word c = search lay-laws
 
--- src/lay.rt:20:22
 add-word : tie.Need-add-word
 add-word c = search lay-laws
 
--- src/lay.rt:20:16
 mul-word-2 : tie.Need-mul-word-2
 mul-word-2 c = search lay-laws
 
--- src/lay.rt:20:16
 shared-slice-read-word : tie.Need-shared-slice-read-word
 shared-slice-read-word c = search lay-laws
 
--- src/lay.rt:21:7
 shr-result : tie.Need-shr-result
 shr-result c = search lay-laws
 
--- src/lay.rt:16:1
 returns : tie.Need-returns
 returns c = search lay-laws
 

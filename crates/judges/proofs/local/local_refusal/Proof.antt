@@ -7,8 +7,8 @@ use Rattle.judges.proofs.local.local_refusal.Tie as tie
 rule-refusal-requires : tie.Need-rule-refusal-requires
 rule-refusal-requires c κs = search needs
 
-trace-refusal-requires : tie.Need-trace-refusal-requires
-trace-refusal-requires c κs = search needs
+joined-refusal-requires : tie.Need-joined-refusal-requires
+joined-refusal-requires c κs = search needs
 
 or-else-requires : tie.Need-or-else-requires
 or-else-requires c κs = search needs
@@ -18,4 +18,4 @@ returns c = search local-laws
 
 pub local-refusal-spec : {M : Type 1} → statement M
 local-refusal-spec =
-    tie.close (tie.spec rule-refusal-requires trace-refusal-requires or-else-requires returns)
+    tie.close (tie.spec rule-refusal-requires joined-refusal-requires or-else-requires returns)

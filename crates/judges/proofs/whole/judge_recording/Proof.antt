@@ -10,8 +10,8 @@ pick-requires c κs = search needs
 table-refusal-requires : tie.Need-table-refusal-requires
 table-refusal-requires c κs = search needs
 
-trace-refusal-requires : tie.Need-trace-refusal-requires
-trace-refusal-requires c κs = search needs
+joined-refusal-requires : tie.Need-joined-refusal-requires
+joined-refusal-requires c κs = search needs
 
 or-else-requires : tie.Need-or-else-requires
 or-else-requires c κs = search needs
@@ -46,7 +46,7 @@ judge-recording-spec =
     (tie.spec
     pick-requires
     table-refusal-requires
-    trace-refusal-requires
+    joined-refusal-requires
     or-else-requires
     or-else-requires-2
     pick-index-requires

@@ -2,19 +2,15 @@ use Rattle.line_programs.proofs.PrintLaws.{only-laws}
 use Rattle.line_programs.proofs.input.only_line.Statement.{statement}
 use Rattle.line_programs.proofs.input.only_line.Tie as tie
 
--- src/input.rt:18:9
 first-line-requires : tie.Need-first-line-requires
 first-line-requires c κs = search only-laws
 
--- src/input.rt:21:9
 pick-requires : tie.Need-pick-requires
 pick-requires c κs = search only-laws
 
--- src/input.rt:26:9
 pick-requires-2 : tie.Need-pick-requires-2
 pick-requires-2 c κs = search only-laws
 
--- src/input.rt:15:1
 returns : tie.Need-returns
 returns c = search only-laws
 

@@ -2,27 +2,21 @@ use Rattle.line_programs.proofs.LongestLaws.{longest-laws}
 use Rattle.line_programs.proofs.longest.print_longest.Statement.{statement}
 use Rattle.line_programs.proofs.longest.print_longest.Tie as tie
 
--- src/print.rt:29:9
 only-line-requires : tie.Need-only-line-requires
 only-line-requires c κs = search longest-laws
 
--- src/print.rt:31:9
 print-refusal-requires : tie.Need-print-refusal-requires
 print-refusal-requires c κs = search longest-laws
 
--- src/print.rt:31:9
 returns : tie.Need-returns
 returns c = search longest-laws
 
--- src/print.rt:33:17
 slice-aggregate-print-count : tie.Need-slice-aggregate-print-count
 slice-aggregate-print-count c = search longest-laws
 
--- src/print.rt:33:5
 print-count-requires : tie.Need-print-count-requires
 print-count-requires c κs = search longest-laws
 
--- src/print.rt:26:1
 returns-2 : tie.Need-returns-2
 returns-2 c = search longest-laws
 

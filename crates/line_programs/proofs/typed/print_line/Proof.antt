@@ -2,39 +2,30 @@ use Rattle.line_programs.proofs.TypedLaws.{line-laws}
 use Rattle.line_programs.proofs.typed.print_line.Statement.{statement}
 use Rattle.line_programs.proofs.typed.print_line.Tie as tie
 
--- src/print.rt:19:39
 slice-aggregate-read-line : tie.Need-slice-aggregate-read-line
 slice-aggregate-read-line c = search line-laws
 
--- src/print.rt:19:11
 read-line-requires : tie.Need-read-line-requires
 read-line-requires c κs = search line-laws
 
--- src/print.rt:20:24
 enum-known-owner : tie.Need-enum-known-owner
 enum-known-owner c = search line-laws
 
--- src/print.rt:20:73
 slice-aggregate-print-rule : tie.Need-slice-aggregate-print-rule
 slice-aggregate-print-rule c = search line-laws
 
--- src/print.rt:20:41
 print-rule-requires : tie.Need-print-rule-requires
 print-rule-requires c κs = search line-laws
 
--- src/print.rt:21:27
 enum-known-number : tie.Need-enum-known-number
 enum-known-number c = search line-laws
 
--- src/print.rt:21:38
 print-refusal-requires : tie.Need-print-refusal-requires
 print-refusal-requires c κs = search line-laws
 
--- src/print.rt:15:1
 returns : tie.Need-returns
 returns c = search line-laws
 
--- src/print.rt:15:1
 returns-2 : tie.Need-returns-2
 returns-2 c = search line-laws
 

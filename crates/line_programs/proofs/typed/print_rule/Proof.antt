@@ -2,27 +2,21 @@ use Rattle.line_programs.proofs.TypedLaws.{rule-laws}
 use Rattle.line_programs.proofs.typed.print_rule.Statement.{statement}
 use Rattle.line_programs.proofs.typed.print_rule.Tie as tie
 
--- src/print.rt:43:9
 only-line-requires : tie.Need-only-line-requires
 only-line-requires c κs = search rule-laws
 
--- src/print.rt:45:9
 print-refusal-requires : tie.Need-print-refusal-requires
 print-refusal-requires c κs = search rule-laws
 
--- src/print.rt:45:9
 returns : tie.Need-returns
 returns c = search rule-laws
 
--- src/print.rt:47:17
 slice-aggregate-print-typed : tie.Need-slice-aggregate-print-typed
 slice-aggregate-print-typed c = search rule-laws
 
--- src/print.rt:47:5
 print-typed-requires : tie.Need-print-typed-requires
 print-typed-requires c κs = search rule-laws
 
--- src/print.rt:40:1
 returns-2 : tie.Need-returns-2
 returns-2 c = search rule-laws
 

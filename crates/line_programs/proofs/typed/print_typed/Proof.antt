@@ -2,55 +2,42 @@ use Rattle.line_programs.proofs.TypedLaws.{typed-laws}
 use Rattle.line_programs.proofs.typed.print_typed.Statement.{statement}
 use Rattle.line_programs.proofs.typed.print_typed.Tie as tie
 
--- src/print.rt:29:9
 until-byte-requires : tie.Need-until-byte-requires
 until-byte-requires c κs = search typed-laws
 
--- src/print.rt:31:57
 slice-aggregate-decimal : tie.Need-slice-aggregate-decimal
 slice-aggregate-decimal c = search typed-laws
 
--- src/print.rt:31:41
 decimal-requires : tie.Need-decimal-requires
 decimal-requires c κs = search typed-laws
 
--- src/print.rt:31:27
 enum-known-controller : tie.Need-enum-known-controller
 enum-known-controller c = search typed-laws
 
--- src/print.rt:32:61
 enum-told : tie.Need-enum-told
 enum-told c = search typed-laws
 
--- src/print.rt:32:13
 print-refusal-requires : tie.Need-print-refusal-requires
 print-refusal-requires c κs = search typed-laws
 
--- src/print.rt:32:13
 returns : tie.Need-returns
 returns c = search typed-laws
 
--- src/print.rt:34:27
 cast-print-line : tie.Need-cast-print-line
 cast-print-line c = search typed-laws
 
--- src/print.rt:34:48
 after-requires : tie.Need-after-requires
 after-requires c κs = search typed-laws
 
--- src/print.rt:34:9
 print-line-requires : tie.Need-print-line-requires
 print-line-requires c κs = search typed-laws
 
--- src/print.rt:34:9
 returns-2 : tie.Need-returns-2
 returns-2 c = search typed-laws
 
--- src/print.rt:36:5
 print-refusal-requires-2 : tie.Need-print-refusal-requires-2
 print-refusal-requires-2 c κs = search typed-laws
 
--- src/print.rt:26:1
 returns-3 : tie.Need-returns-3
 returns-3 c = search typed-laws
 

@@ -2,19 +2,15 @@ use Rattle.one_line_readers.proofs.WordLaws.{word-laws}
 use Rattle.one_line_readers.proofs.word.atom.Statement.{statement}
 use Rattle.one_line_readers.proofs.word.atom.Tie as tie
 
--- src/word.rt:19:16
 cast-atom : tie.Need-cast-atom
 cast-atom c = search word-laws
 
--- src/word.rt:19:5
 atom-requires : tie.Need-atom-requires
 atom-requires c κs = search word-laws
 
--- src/word.rt:19:5
 word-requires : tie.Need-word-requires
 word-requires c κs = search word-laws
 
--- src/word.rt:15:1
 returns : tie.Need-returns
 returns c = search word-laws
 

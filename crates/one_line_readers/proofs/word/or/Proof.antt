@@ -2,23 +2,18 @@ use Rattle.one_line_readers.proofs.WordLaws.{word-laws}
 use Rattle.one_line_readers.proofs.word.or.Statement.{statement}
 use Rattle.one_line_readers.proofs.word.or.Tie as tie
 
--- src/word.rt:33:14
 cast-or : tie.Need-cast-or
 cast-or c = search word-laws
 
--- src/word.rt:33:24
 cast-or-2 : tie.Need-cast-or-2
 cast-or-2 c = search word-laws
 
--- src/word.rt:33:5
 or-requires : tie.Need-or-requires
 or-requires c κs = search word-laws
 
--- src/word.rt:33:5
 word-requires : tie.Need-word-requires
 word-requires c κs = search word-laws
 
--- src/word.rt:29:1
 returns : tie.Need-returns
 returns c = search word-laws
 

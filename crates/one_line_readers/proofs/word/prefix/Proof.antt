@@ -2,63 +2,48 @@ use Rattle.one_line_readers.proofs.WordLaws.{word-laws}
 use Rattle.one_line_readers.proofs.word.prefix.Statement.{statement}
 use Rattle.one_line_readers.proofs.word.prefix.Tie as tie
 
--- src/word.rt:52:17
 sub-last : tie.Need-sub-last
 sub-last c = search word-laws
 
--- src/word.rt:52:16
 cast-last : tie.Need-cast-last
 cast-last c = search word-laws
 
--- src/word.rt:54:16
 not-requires : tie.Need-not-requires
 not-requires c κs = search word-laws
 
--- src/word.rt:54:9
 word-requires : tie.Need-word-requires
 word-requires c κs = search word-laws
 
--- src/word.rt:54:9
 returns : tie.Need-returns
 returns c = search word-laws
 
--- src/word.rt:57:16
 next-requires : tie.Need-next-requires
 next-requires c κs = search word-laws
 
--- src/word.rt:57:9
 word-requires-2 : tie.Need-word-requires-2
 word-requires-2 c κs = search word-laws
 
--- src/word.rt:57:9
 returns-2 : tie.Need-returns-2
 returns-2 c = search word-laws
 
--- src/word.rt:60:16
 prev-requires : tie.Need-prev-requires
 prev-requires c κs = search word-laws
 
--- src/word.rt:60:9
 word-requires-3 : tie.Need-word-requires-3
 word-requires-3 c κs = search word-laws
 
--- src/word.rt:60:9
 returns-3 : tie.Need-returns-3
 returns-3 c = search word-laws
 
--- src/word.rt:62:17
 cast-until : tie.Need-cast-until
 cast-until c = search word-laws
 
--- src/word.rt:62:5
 until-requires : tie.Need-until-requires
 until-requires c κs = search word-laws
 
--- src/word.rt:62:5
 word-requires-4 : tie.Need-word-requires-4
 word-requires-4 c κs = search word-laws
 
--- src/word.rt:48:1
 returns-4 : tie.Need-returns-4
 returns-4 c = search word-laws
 

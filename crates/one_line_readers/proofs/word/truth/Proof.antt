@@ -2,15 +2,12 @@ use Rattle.one_line_readers.proofs.WordLaws.{word-laws}
 use Rattle.one_line_readers.proofs.word.truth.Statement.{statement}
 use Rattle.one_line_readers.proofs.word.truth.Tie as tie
 
--- src/word.rt:12:5
 truth-requires : tie.Need-truth-requires
 truth-requires c κs = search word-laws
 
--- src/word.rt:12:5
 word-requires : tie.Need-word-requires
 word-requires c κs = search word-laws
 
--- src/word.rt:9:1
 returns : tie.Need-returns
 returns c = search word-laws
 

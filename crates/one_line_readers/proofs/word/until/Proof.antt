@@ -2,43 +2,33 @@ use Rattle.one_line_readers.proofs.WordLaws.{word-laws}
 use Rattle.one_line_readers.proofs.word.until.Statement.{statement}
 use Rattle.one_line_readers.proofs.word.until.Tie as tie
 
--- src/word.rt:42:28
 cast-until : tie.Need-cast-until
 cast-until c = search word-laws
 
--- src/word.rt:42:38
 cast-until-2 : tie.Need-cast-until-2
 cast-until-2 c = search word-laws
 
--- src/word.rt:42:16
 until-requires : tie.Need-until-requires
 until-requires c κs = search word-laws
 
--- src/word.rt:42:9
 word-requires : tie.Need-word-requires
 word-requires c κs = search word-laws
 
--- src/word.rt:42:9
 returns : tie.Need-returns
 returns c = search word-laws
 
--- src/word.rt:44:17
 cast-since : tie.Need-cast-since
 cast-since c = search word-laws
 
--- src/word.rt:44:27
 cast-since-2 : tie.Need-cast-since-2
 cast-since-2 c = search word-laws
 
--- src/word.rt:44:5
 since-requires : tie.Need-since-requires
 since-requires c κs = search word-laws
 
--- src/word.rt:44:5
 word-requires-2 : tie.Need-word-requires-2
 word-requires-2 c κs = search word-laws
 
--- src/word.rt:37:1
 returns-2 : tie.Need-returns-2
 returns-2 c = search word-laws
 

@@ -3,35 +3,27 @@ use borrow.Author.Needs.{needs}
 use Rattle.one_line_readers.proofs.write.close_prefix.Statement.{statement}
 use Rattle.one_line_readers.proofs.write.close_prefix.Tie as tie
 
--- src/write.rt:51:21
 until-requires : tie.Need-until-requires
 until-requires c κs = search needs
 
--- src/write.rt:51:9
 dual-requires : tie.Need-dual-requires
 dual-requires c κs = search close-laws
 
--- src/write.rt:51:9
 returns : tie.Need-returns
 returns c = search close-laws
 
--- src/write.rt:53:16
 prefix-requires : tie.Need-prefix-requires
 prefix-requires c κs = search needs
 
--- src/write.rt:53:5
 mul-nodes : tie.Need-mul-nodes
 mul-nodes c = search needs
 
--- src/write.rt:53:5
 element-write-nodes : tie.Need-element-write-nodes
 element-write-nodes c = search close-laws
 
--- src/write.rt:54:5
 add-result : tie.Need-add-result
 add-result c = search needs
 
--- src/write.rt:46:1
 returns-2 : tie.Need-returns-2
 returns-2 c = search close-laws
 

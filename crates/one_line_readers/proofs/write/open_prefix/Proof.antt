@@ -3,47 +3,36 @@ use borrow.Author.Needs.{needs}
 use Rattle.one_line_readers.proofs.write.open_prefix.Statement.{statement}
 use Rattle.one_line_readers.proofs.write.open_prefix.Tie as tie
 
--- src/write.rt:35:20
 truth-requires : tie.Need-truth-requires
 truth-requires c κs = search needs
 
--- src/write.rt:35:9
 mul-nodes : tie.Need-mul-nodes
 mul-nodes c = search needs
 
--- src/write.rt:35:9
 element-write-nodes : tie.Need-element-write-nodes
 element-write-nodes c = search open-laws
 
--- src/write.rt:36:16
 add-result : tie.Need-add-result
 add-result c = search needs
 
--- src/write.rt:36:9
 returns : tie.Need-returns
 returns c = search open-laws
 
--- src/write.rt:39:20
 truth-requires-2 : tie.Need-truth-requires-2
 truth-requires-2 c κs = search needs
 
--- src/write.rt:39:9
 mul-nodes-2 : tie.Need-mul-nodes-2
 mul-nodes-2 c = search needs
 
--- src/write.rt:39:9
 element-write-nodes-2 : tie.Need-element-write-nodes-2
 element-write-nodes-2 c = search open-laws
 
--- src/write.rt:40:16
 add-result-2 : tie.Need-add-result-2
 add-result-2 c = search needs
 
--- src/write.rt:40:9
 returns-2 : tie.Need-returns-2
 returns-2 c = search open-laws
 
--- src/write.rt:30:1
 returns-3 : tie.Need-returns-3
 returns-3 c = search open-laws
 

@@ -2,19 +2,15 @@ use Rattle.one_line_signs.proofs.TallyLaws.{refusal-laws, of-tally-made
 use Rattle.one_line_signs.proofs.refusal.of_tally.Statement.{statement}
 use Rattle.one_line_signs.proofs.refusal.of_tally.Tie as tie
 
--- src/refusal.rt:21:9
 pick-requires : tie.Need-pick-requires
 pick-requires c κs = search refusal-laws
 
--- src/refusal.rt:22:9
 pick-requires-2 : tie.Need-pick-requires-2
 pick-requires-2 c κs = search refusal-laws
 
--- src/refusal.rt:23:5
 pick-requires-3 : tie.Need-pick-requires-3
 pick-requires-3 c κs = search refusal-laws
 
--- src/refusal.rt:16:1
 returns : tie.Need-returns
 returns c = search of-tally-made
 

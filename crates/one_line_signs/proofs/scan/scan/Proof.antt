@@ -10,63 +10,48 @@ Inv-loop line codes₀ at₀ n₀ codes at n = Scanning line codes₀ at n codes
 abbrev μ-loop : tie.MeasureT-loop
 μ-loop line codes₀ at₀ n₀ codes at n = length line - at
 
--- src/scan.rt:21:5
 loop-holds : tie.Need-loop-holds Inv-loop μ-loop
 loop-holds c = search scan-start
 
--- src/scan.rt:22:15
 sign-at-requires : tie.Need-sign-at-requires Inv-loop μ-loop
 sign-at-requires c κs = search scan-laws
 
--- src/scan.rt:23:25
 enum-known-code : tie.Need-enum-known-code Inv-loop μ-loop
 enum-known-code c = search scan-laws
 
--- src/scan.rt:24:17
 slice-write-codes : tie.Need-slice-write-codes Inv-loop μ-loop
 slice-write-codes c = search scan-laws
 
--- src/scan.rt:25:17
 add-n : tie.Need-add-n Inv-loop μ-loop
 add-n c = search scan-laws
 
--- src/scan.rt:27:21
 same-length : tie.Need-same-length Inv-loop μ-loop
 same-length c = search scan-laws
 
--- src/scan.rt:27:21
 returns : tie.Need-returns Inv-loop μ-loop
 returns c = search scan-last
 
--- src/scan.rt:29:17
 after-space-requires : tie.Need-after-space-requires Inv-loop μ-loop
 after-space-requires c κs = search scan-laws
 
--- src/scan.rt:21:5
 loop-less : tie.Need-loop-less Inv-loop μ-loop
 loop-less c = search scan-less
 
--- src/scan.rt:21:5
 loop-again : tie.Need-loop-again Inv-loop μ-loop
 loop-again c = search scan-again
 
--- src/scan.rt:32:17
 enum-told : tie.Need-enum-told Inv-loop μ-loop
 enum-told c = search scan-laws
 
--- src/scan.rt:32:17
 same-length-2 : tie.Need-same-length-2 Inv-loop μ-loop
 same-length-2 c = search scan-laws
 
--- src/scan.rt:32:17
 returns-2 : tie.Need-returns-2 Inv-loop μ-loop
 returns-2 c = search scan-none
 
--- src/scan.rt:15:1
 same-length-3 : tie.Need-same-length-3 Inv-loop μ-loop
 same-length-3 c = search scan-laws
 
--- src/scan.rt:15:1
 returns-3 : tie.Need-returns-3 Inv-loop μ-loop
 returns-3 c = search scan-end
 

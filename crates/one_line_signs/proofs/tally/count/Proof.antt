@@ -10,31 +10,24 @@ Inv-loop codes t₀ i₀ t i = Counting codes t i
 abbrev μ-loop : tie.MeasureT-loop
 μ-loop codes t₀ i₀ t i = length codes - i
 
--- src/tally.rt:123:5
 loop-holds : tie.Need-loop-holds Inv-loop μ-loop
 loop-holds c = search count-laws
 
--- src/tally.rt:124:21
 shared-slice-read-step : tie.Need-shared-slice-read-step Inv-loop μ-loop
 shared-slice-read-step c = search count-laws
 
--- src/tally.rt:124:9
 step-requires : tie.Need-step-requires Inv-loop μ-loop
 step-requires c κs = search count-laws
 
--- src/tally.rt:125:9
 add-i : tie.Need-add-i Inv-loop μ-loop
 add-i c = search count-laws
 
--- src/tally.rt:123:5
 loop-less : tie.Need-loop-less Inv-loop μ-loop
 loop-less c = search count-laws
 
--- src/tally.rt:123:5
 loop-again : tie.Need-loop-again Inv-loop μ-loop
 loop-again c = search count-laws
 
--- src/tally.rt:110:1
 returns : tie.Need-returns Inv-loop μ-loop
 returns c = search count-laws
 

@@ -2,19 +2,15 @@ use Rattle.one_line_signs.proofs.TallyLaws.{stand-laws}
 use Rattle.one_line_signs.proofs.tally.may_stand.Statement.{statement}
 use Rattle.one_line_signs.proofs.tally.may_stand.Tie as tie
 
--- src/tally.rt:29:9
 returns : tie.Need-returns
 returns c = search stand-laws
 
--- src/tally.rt:32:9
 returns-2 : tie.Need-returns-2
 returns-2 c = search stand-laws
 
--- src/tally.rt:35:9
 returns-3 : tie.Need-returns-3
 returns-3 c = search stand-laws
 
--- src/tally.rt:25:1
 returns-4 : tie.Need-returns-4
 returns-4 c = search stand-laws
 

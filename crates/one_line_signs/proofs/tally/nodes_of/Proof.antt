@@ -2,27 +2,21 @@ use Rattle.one_line_signs.proofs.TallyLaws.{nodes-brackets, nodes-futur
 use Rattle.one_line_signs.proofs.tally.nodes_of.Statement.{statement}
 use Rattle.one_line_signs.proofs.tally.nodes_of.Tie as tie
 
--- src/tally.rt:75:9
 returns : tie.Need-returns
 returns c = search nodes-brackets
 
--- src/tally.rt:78:9
 returns-2 : tie.Need-returns-2
 returns-2 c = search nodes-future
 
--- src/tally.rt:81:9
 returns-3 : tie.Need-returns-3
 returns-3 c = search nodes-always
 
--- src/tally.rt:84:9
 returns-4 : tie.Need-returns-4
 returns-4 c = search nodes-implies
 
--- src/tally.rt:87:9
 returns-5 : tie.Need-returns-5
 returns-5 c = search nodes-and
 
--- src/tally.rt:71:1
 returns-6 : tie.Need-returns-6
 returns-6 c = search nodes-other
 

@@ -2,27 +2,21 @@ use Rattle.one_line_signs.proofs.TallyLaws.{open-laws}
 use Rattle.one_line_signs.proofs.tally.open_after.Statement.{statement}
 use Rattle.one_line_signs.proofs.tally.open_after.Tie as tie
 
--- src/tally.rt:59:16
 add-result : tie.Need-add-result
 add-result c = search open-laws
 
--- src/tally.rt:59:9
 returns : tie.Need-returns
 returns c = search open-laws
 
--- src/tally.rt:63:13
 returns-2 : tie.Need-returns-2
 returns-2 c = search open-laws
 
--- src/tally.rt:65:16
 sub-result : tie.Need-sub-result
 sub-result c = search open-laws
 
--- src/tally.rt:65:9
 returns-3 : tie.Need-returns-3
 returns-3 c = search open-laws
 
--- src/tally.rt:54:1
 returns-4 : tie.Need-returns-4
 returns-4 c = search open-laws
 

@@ -2,19 +2,15 @@ use Rattle.one_line_signs.proofs.TokenLaws.{space-laws}
 use Rattle.one_line_signs.proofs.token.after_space.Statement.{statement}
 use Rattle.one_line_signs.proofs.token.after_space.Tie as tie
 
--- src/token.rt:122:8
 shared-slice-read-if1 : tie.Need-shared-slice-read-if1
 shared-slice-read-if1 c = search space-laws
 
--- src/token.rt:123:16
 add-result : tie.Need-add-result
 add-result c = search space-laws
 
--- src/token.rt:123:9
 returns : tie.Need-returns
 returns c = search space-laws
 
--- src/token.rt:118:1
 returns-2 : tie.Need-returns-2
 returns-2 c = search space-laws
 

@@ -2,31 +2,24 @@ use Rattle.one_line_signs.proofs.TokenLaws.{atom-laws, atom-low, atom-h
 use Rattle.one_line_signs.proofs.token.atom.Statement.{statement}
 use Rattle.one_line_signs.proofs.token.atom.Tie as tie
 
--- src/token.rt:96:12
 cast-if1 : tie.Need-cast-if1
 cast-if1 c = search atom-laws
 
--- src/token.rt:97:29
 cast-result : tie.Need-cast-result
 cast-result c = search atom-laws
 
--- src/token.rt:97:16
 add-result : tie.Need-add-result
 add-result c = search atom-laws
 
--- src/token.rt:97:9
 returns : tie.Need-returns
 returns c = search atom-low
 
--- src/token.rt:99:18
 cast-result-2 : tie.Need-cast-result-2
 cast-result-2 c = search atom-laws
 
--- src/token.rt:99:5
 add-result-2 : tie.Need-add-result-2
 add-result-2 c = search atom-laws
 
--- src/token.rt:93:1
 returns-2 : tie.Need-returns-2
 returns-2 c = search atom-high
 

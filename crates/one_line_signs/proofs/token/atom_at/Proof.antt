@@ -2,47 +2,36 @@ use Rattle.one_line_signs.proofs.TokenLaws.{atom-at-laws}
 use Rattle.one_line_signs.proofs.token.atom_at.Statement.{statement}
 use Rattle.one_line_signs.proofs.token.atom_at.Tie as tie
 
--- src/token.rt:107:16
 add-from : tie.Need-add-from
 add-from c = search atom-at-laws
 
--- src/token.rt:108:9
 digits-end-requires : tie.Need-digits-end-requires
 digits-end-requires c κs = search atom-at-laws
 
--- src/token.rt:109:44
 sub-decimal : tie.Need-sub-decimal
 sub-decimal c = search atom-at-laws
 
--- src/token.rt:109:44
 part-decimal-start : tie.Need-part-decimal-start
 part-decimal-start c = search atom-at-laws
 
--- src/token.rt:109:44
 part-decimal-end : tie.Need-part-decimal-end
 part-decimal-end c = search atom-at-laws
 
--- src/token.rt:109:28
 decimal-requires : tie.Need-decimal-requires
 decimal-requires c κs = search atom-at-laws
 
--- src/token.rt:109:23
 enum-known-n : tie.Need-enum-known-n
 enum-known-n c = search atom-at-laws
 
--- src/token.rt:110:9
 enum-told : tie.Need-enum-told
 enum-told c = search atom-at-laws
 
--- src/token.rt:110:9
 returns : tie.Need-returns
 returns c = search atom-at-laws
 
--- src/token.rt:112:17
 atom-requires : tie.Need-atom-requires
 atom-requires c κs = search atom-at-laws
 
--- src/token.rt:103:1
 returns-2 : tie.Need-returns-2
 returns-2 c = search atom-at-laws
 

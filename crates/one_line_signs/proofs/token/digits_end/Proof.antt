@@ -10,35 +10,27 @@ Inv-loop line at i₀ i = Passed line at i
 abbrev μ-loop : tie.MeasureT-loop
 μ-loop line at i₀ i = length line - i
 
--- src/token.rt:79:5
 loop-holds : tie.Need-loop-holds Inv-loop μ-loop
 loop-holds c = search digits-laws
 
--- src/token.rt:80:17
 shared-slice-read-b : tie.Need-shared-slice-read-b Inv-loop μ-loop
 shared-slice-read-b c = search digits-laws
 
--- src/token.rt:82:13
 returns : tie.Need-returns Inv-loop μ-loop
 returns c = search digits-laws
 
--- src/token.rt:85:13
 returns-2 : tie.Need-returns-2 Inv-loop μ-loop
 returns-2 c = search digits-laws
 
--- src/token.rt:87:9
 add-i : tie.Need-add-i Inv-loop μ-loop
 add-i c = search digits-laws
 
--- src/token.rt:79:5
 loop-less : tie.Need-loop-less Inv-loop μ-loop
 loop-less c = search digits-laws
 
--- src/token.rt:79:5
 loop-again : tie.Need-loop-again Inv-loop μ-loop
 loop-again c = search digits-laws
 
--- src/token.rt:74:1
 returns-3 : tie.Need-returns-3 Inv-loop μ-loop
 returns-3 c = search digits-laws
 

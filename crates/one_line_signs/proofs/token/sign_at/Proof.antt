@@ -2,63 +2,48 @@ use Rattle.one_line_signs.proofs.TokenLaws.{sign-at-laws}
 use Rattle.one_line_signs.proofs.token.sign_at.Statement.{statement}
 use Rattle.one_line_signs.proofs.token.sign_at.Tie as tie
 
--- src/token.rt:133:13
 shared-slice-read-b : tie.Need-shared-slice-read-b
 shared-slice-read-b c = search sign-at-laws
 
--- src/token.rt:134:9
 single-requires : tie.Need-single-requires
 single-requires c κs = search sign-at-laws
 
--- src/token.rt:136:34
 add-t10 : tie.Need-add-t10
 add-t10 c = search sign-at-laws
 
--- src/token.rt:136:9
 returns : tie.Need-returns
 returns c = search sign-at-laws
 
--- src/token.rt:139:9
 atom-at-requires : tie.Need-atom-at-requires
 atom-at-requires c κs = search sign-at-laws
 
--- src/token.rt:139:9
 returns-2 : tie.Need-returns-2
 returns-2 c = search sign-at-laws
 
--- src/token.rt:141:25
 slice-aggregate-begins : tie.Need-slice-aggregate-begins
 slice-aggregate-begins c = search sign-at-laws
 
--- src/token.rt:141:8
 begins-requires : tie.Need-begins-requires
 begins-requires c κs = search sign-at-laws
 
--- src/token.rt:142:43
 add-t14 : tie.Need-add-t14
 add-t14 c = search sign-at-laws
 
--- src/token.rt:142:9
 returns-3 : tie.Need-returns-3
 returns-3 c = search sign-at-laws
 
--- src/token.rt:144:25
 slice-aggregate-begins-2 : tie.Need-slice-aggregate-begins-2
 slice-aggregate-begins-2 c = search sign-at-laws
 
--- src/token.rt:144:8
 begins-requires-2 : tie.Need-begins-requires-2
 begins-requires-2 c κs = search sign-at-laws
 
--- src/token.rt:145:41
 add-t18 : tie.Need-add-t18
 add-t18 c = search sign-at-laws
 
--- src/token.rt:145:9
 returns-4 : tie.Need-returns-4
 returns-4 c = search sign-at-laws
 
--- src/token.rt:129:1
 returns-5 : tie.Need-returns-5
 returns-5 c = search sign-at-laws
 

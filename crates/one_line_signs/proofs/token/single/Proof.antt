@@ -2,51 +2,39 @@ use Rattle.one_line_signs.proofs.TokenLaws.{single-opening, single-clos
 use Rattle.one_line_signs.proofs.token.single.Statement.{statement}
 use Rattle.one_line_signs.proofs.token.single.Tie as tie
 
--- src/token.rt:25:9
 returns : tie.Need-returns
 returns c = search single-opening
 
--- src/token.rt:28:9
 returns-2 : tie.Need-returns-2
 returns-2 c = search single-closing
 
--- src/token.rt:31:9
 returns-3 : tie.Need-returns-3
 returns-3 c = search single-not
 
--- src/token.rt:34:9
 returns-4 : tie.Need-returns-4
 returns-4 c = search single-next
 
--- src/token.rt:37:9
 returns-5 : tie.Need-returns-5
 returns-5 c = search single-prev
 
--- src/token.rt:40:9
 returns-6 : tie.Need-returns-6
 returns-6 c = search single-future
 
--- src/token.rt:43:9
 returns-7 : tie.Need-returns-7
 returns-7 c = search single-always
 
--- src/token.rt:46:9
 returns-8 : tie.Need-returns-8
 returns-8 c = search single-or
 
--- src/token.rt:49:9
 returns-9 : tie.Need-returns-9
 returns-9 c = search single-and
 
--- src/token.rt:52:9
 returns-10 : tie.Need-returns-10
 returns-10 c = search single-until
 
--- src/token.rt:55:9
 returns-11 : tie.Need-returns-11
 returns-11 c = search single-since
 
--- src/token.rt:21:1
 returns-12 : tie.Need-returns-12
 returns-12 c = search single-none
 

@@ -3,15 +3,12 @@ use Rattle.walk.proofs.StepLaws.{but-not-made, step-laws}
 use Rattle.walk.proofs.step.but_not.Statement.{statement}
 use Rattle.walk.proofs.step.but_not.Tie as tie
 
--- src/step.rt:23:11
 not-requires : tie.Need-not-requires
 not-requires c κs = search step-laws
 
--- src/step.rt:23:5
 and-requires : tie.Need-and-requires
 and-requires c κs = search step-laws
 
--- src/step.rt:19:1
 returns : tie.Need-returns
 returns c =
     but-not-made (c .before .before .args .p) (c .before .before .args .q) (c .before .not .result) (c .and .result) (search needs) (c .before .not .ensures) (c .and .ensures)

@@ -2,19 +2,15 @@ use Rattle.walk.proofs.StepLaws.{step-laws}
 use Rattle.walk.proofs.step.or_step.Statement.{statement}
 use Rattle.walk.proofs.step.or_step.Tie as tie
 
--- src/step.rt:43:32
 but-not-requires : tie.Need-but-not-requires
 but-not-requires c κs = search step-laws
 
--- src/step.rt:43:16
 but-not-requires-2 : tie.Need-but-not-requires-2
 but-not-requires-2 c κs = search step-laws
 
--- src/step.rt:44:17
 but-not-requires-3 : tie.Need-but-not-requires-3
 but-not-requires-3 c κs = search step-laws
 
--- src/step.rt:38:1
 returns : tie.Need-returns
 returns c = search step-laws
 

@@ -2,23 +2,18 @@ use Rattle.walk.proofs.TakenLaws.{taken-laws}
 use Rattle.walk.proofs.taken.take.Statement.{statement}
 use Rattle.walk.proofs.taken.take.Tie as tie
 
--- src/taken.rt:38:9
 step-of-requires : tie.Need-step-of-requires
 step-of-requires c κs = search taken-laws
 
--- src/taken.rt:39:9
 step-of-requires-2 : tie.Need-step-of-requires-2
 step-of-requires-2 c κs = search taken-laws
 
--- src/taken.rt:41:16
 under-requires : tie.Need-under-requires
 under-requires c κs = search taken-laws
 
--- src/taken.rt:42:17
 under-requires-2 : tie.Need-under-requires-2
 under-requires-2 c κs = search taken-laws
 
--- src/taken.rt:34:1
 returns : tie.Need-returns
 returns c = search taken-laws
 

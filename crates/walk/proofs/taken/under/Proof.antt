@@ -2,11 +2,9 @@ use Rattle.walk.proofs.TakenLaws.{taken-laws}
 use Rattle.walk.proofs.taken.under.Statement.{statement}
 use Rattle.walk.proofs.taken.under.Tie as tie
 
--- src/taken.rt:23:9
 returns : tie.Need-returns
 returns c = search taken-laws
 
--- src/taken.rt:19:1
 returns-2 : tie.Need-returns-2
 returns-2 c = search taken-laws
 

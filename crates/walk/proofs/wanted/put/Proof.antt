@@ -2,31 +2,24 @@ use Rattle.walk.proofs.WantedLaws.{wanted-laws}
 use Rattle.walk.proofs.wanted.put.Statement.{statement}
 use Rattle.walk.proofs.wanted.put.Tie as tie
 
--- src/wanted.rt:21:19
 mul-store : tie.Need-mul-store
 mul-store c = search wanted-laws
 
--- src/wanted.rt:21:5
 store-requires : tie.Need-store-requires
 store-requires c κs = search wanted-laws
 
--- src/wanted.rt:22:19
 mul-store-2 : tie.Need-mul-store-2
 mul-store-2 c = search wanted-laws
 
--- src/wanted.rt:22:19
 add-store : tie.Need-add-store
 add-store c = search wanted-laws
 
--- src/wanted.rt:22:5
 store-requires-2 : tie.Need-store-requires-2
 store-requires-2 c κs = search wanted-laws
 
--- src/wanted.rt:17:1
 same-length : tie.Need-same-length
 same-length c = search wanted-laws
 
--- src/wanted.rt:17:1
 returns : tie.Need-returns
 returns c = search wanted-laws
 
