@@ -102,6 +102,31 @@ fn the_output_rule_is_needed() {
     assert_eq!((verdict(&nodes, &a, 0), verdict(&nodes, &b, 0)), (KEPT, BROKEN));
 }
 
+/// The plain and the short table announce the same verdicts, and they stay: two
+/// steps, the same with a third in mid step, and in a rack of two.
+#[test]
+fn tables_announce_the_same() {
+    let always = "rule\t0\t5\natom\t0\nnot\t0\ntrue\nuntil\t2\t1\nnot\t3\n";
+    let once = "rule\t0\t3\natom\t0\ntrue\nuntil\t1\t0\n";
+    let state = |&(marks, word): &(u64, u64)| (marks << 32) + word;
+    let two_steps = vec![(1, 1), (1, 0), (0, 1)];
+    let with_third = vec![(1, 1), (1, 0), (1, 1), (1, 0)];
+    let with_other = vec![(1, 1), (3, 0), (2, 3), (1, 1), (0, 0)];
+    for (masks, states) in [(vec![1], two_steps), (vec![1], with_third), (vec![1, 2], with_other)] {
+        let states: Vec<u64> = states.iter().map(state).collect();
+        let (controllers, length) = (masks.len(), states.len());
+        let recording = recording_text(&RecordingTable { controllers, length, masks, states });
+        let printed = |rule: &str| {
+            let output = program(&program_input(rule.as_bytes(), &recording));
+            String::from_utf8(output).unwrap()
+        };
+        assert!(printed(always).ends_with("own\tno\tno\nplain\t36\tno\tno\nshort\t23\tno\tno\n"));
+        assert!(
+            printed(once).ends_with("own\tyes\tyes\nplain\t32\tyes\tyes\nshort\t19\tyes\tyes\n")
+        );
+    }
+}
+
 /// What the request asks, and what a controller needs of it.
 #[test]
 fn begins_asks_for_each_controller() {

@@ -254,7 +254,10 @@ fn order_of_the_whole_judge() {
         model::judge_recording(count, nodes, weak, strong, 1, length, &[1], &[0], c, &mut rows)
     };
     assert_eq!(judge(1025, &[0; 1025], 0, 0, 1, 0), Err(2));
+    assert_eq!(judge(1, &[2], 1, 1, 1, 0), Err(3));
     assert_eq!(judge(2, &[8], 9, 9, 1, 0), Err(4));
+    assert_eq!(judge(1, &[8], 1, 0, 1, 0), Err(2));
+    assert_eq!(judge(1, &[8], 0, 1, 1, 0), Err(2));
     assert_eq!(judge(2, &[8, 9], 2, 0, 0, 0), Err(2));
     assert_eq!(judge(2, &[8, 9], 0, usize::MAX, 0, 0), Err(2));
     assert_eq!(judge(2, &[8, 9], 0, 1, 0, 1), Err(6));

@@ -1,14 +1,14 @@
--- "Rules in one line": the nodes of a tree, in the order in which they come out, and its largest atom.
+-- "Rules in one line" (document 02): the nodes of a tree, in the order in which they come out, and its largest atom.
 use Prim.Native.Nat.{ℕ, _+_, _-_}
 use mathlib.Core.List.{List, [], _∷_, _++_}
 use Rattle.definitions.specs.Nodes as table
 use Rattle.definitions.specs.Nodes.{Kind, Node, node}
 use Rattle.definitions.specs.OneLineSigns.{Prefix, Not, Next, Prev, Future, Always, Infix, Implies, Or, And, Until, Since}
-use Rattle.definitions.specs.OneLineGrammar.{Tree, always, reading, one, two, larger}
+use Rattle.definitions.specs.OneLineGrammar.{Tree, truth, atom, prefixed, joined, larger}
 
 -- a rule in the kinds that a table has
 pub data RuleTree : Type 0 where
-  leaf : Kind → ℕ → RuleTree
+  atomic : Kind → ℕ → RuleTree
   unary : Kind → RuleTree → RuleTree
   binary : Kind → RuleTree → RuleTree → RuleTree
 
@@ -17,40 +17,40 @@ negation p = unary table.Not p
 
 -- "`F p` becomes true, p, until"
 abbrev pub eventually : RuleTree → RuleTree
-eventually p = binary table.Until (leaf table.True 0) p
+eventually p = binary table.Until (atomic table.True 0) p
 
 -- "`! | X Y U S` are not, or, next, prev, until and since"; "`G p` is `!F!p`"
-abbrev pub prefixed : Prefix → (p : RuleTree) → RuleTree
-prefixed Not p = negation p
-prefixed Next p = unary table.Next p
-prefixed Prev p = unary table.Prev p
-prefixed Future p = eventually p
-prefixed Always p = negation (eventually (negation p))
+abbrev pub prefixFormula : Prefix → (p : RuleTree) → RuleTree
+prefixFormula Not p = negation p
+prefixFormula Next p = unary table.Next p
+prefixFormula Prev p = unary table.Prev p
+prefixFormula Future p = eventually p
+prefixFormula Always p = negation (eventually (negation p))
 
 -- "`p & q` is `!(!p|!q)`; `p -> q` is `!p|q`"
-abbrev pub joined : Infix → (p q : RuleTree) → RuleTree
-joined Implies p q = binary table.Or (negation p) q
-joined Or p q = binary table.Or p q
-joined And p q = negation (binary table.Or (negation p) (negation q))
-joined Until p q = binary table.Until p q
-joined Since p q = binary table.Since p q
+abbrev pub infixFormula : Infix → (p q : RuleTree) → RuleTree
+infixFormula Implies p q = binary table.Or (negation p) q
+infixFormula Or p q = binary table.Or p q
+infixFormula And p q = negation (binary table.Or (negation p) (negation q))
+infixFormula Until p q = binary table.Until p q
+infixFormula Since p q = binary table.Since p q
 
 -- what a tree stands for
 unfoldable pub ruleTreeOf : Tree → RuleTree
-ruleTreeOf always = leaf table.True 0
-ruleTreeOf (reading n) = leaf table.Atom n
-ruleTreeOf (one x p) = prefixed x (ruleTreeOf p)
-ruleTreeOf (two x p q) = joined x (ruleTreeOf p) (ruleTreeOf q)
+ruleTreeOf truth = atomic table.True 0
+ruleTreeOf (atom n) = atomic table.Atom n
+ruleTreeOf (prefixed x p) = prefixFormula x (ruleTreeOf p)
+ruleTreeOf (joined x p q) = infixFormula x (ruleTreeOf p) (ruleTreeOf q)
 
 -- how many nodes come out
 unfoldable pub size : RuleTree → ℕ
-size (leaf k n) = 1
+size (atomic k n) = 1
 size (unary k p) = size p + 1
 size (binary k p q) = size p + (size q + 1)
 
 -- "Operands come out before their operator, left first": the first node is node b
 unfoldable pub nodesFrom : (b : ℕ) → RuleTree → List Node
-nodesFrom b (leaf k n) = node k n 0 ∷ []
+nodesFrom b (atomic k n) = node k n 0 ∷ []
 nodesFrom b (unary k p) = nodesFrom b p ++ (node k (b + size p - 1) 0 ∷ [])
 nodesFrom b (binary k p q) = nodesFrom b p ++ (nodesFrom (b + size p) q ++ (node k (b + size p - 1) (b + size p + size q - 1) ∷ []))
 
@@ -60,7 +60,7 @@ nodesOf t = nodesFrom 0 (ruleTreeOf t)
 
 -- the largest atom number of a tree, 0 where there is none
 unfoldable pub largestAtom : Tree → ℕ
-largestAtom always = 0
-largestAtom (reading n) = n
-largestAtom (one x p) = largestAtom p
-largestAtom (two x p q) = larger (largestAtom p) (largestAtom q)
+largestAtom truth = 0
+largestAtom (atom n) = n
+largestAtom (prefixed x p) = largestAtom p
+largestAtom (joined x p q) = larger (largestAtom p) (largestAtom q)

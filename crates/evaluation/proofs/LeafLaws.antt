@@ -2,13 +2,12 @@
 use mathlib.Core.Path.{_≡_, refl, sym, ap, ap₂, _∙_}
 use mathlib.Core.Bool.{Bool, true, false, not, _&&_}
 use mathlib.Core.List.{List, []}
-use Prim.Native.Nat.{ℕ, zero, suc, _+_, _-_, _/_, _%_, _^_, _<_, _≤_}
+use Prim.Native.Nat.{ℕ, zero, suc, _+_, _-_, _<_, _≤_}
 use native.Mathlib.Omega.{arith}
 use lib.Dec.{ltb}
 use lib.ListN.{take, getD}
 use lib.Seq.{getD-take}
 use borrow.Author.Needs.{needs}
-use borrow.Author.Tests.{eq-eqb, ne-eqb}
 use Rattle.definitions.specs.Limits.{atomCount}
 use Rattle.definitions.specs.Bounded.{pick, bitOf, someOf, everyOf, every, tabulate}
 use Rattle.definitions.specs.Nodes.{node, kindOf}
@@ -23,7 +22,7 @@ use Rattle.rows.proofs.RowLaws.{not-on, until-on, last-on}
 use Rattle.rows.specs.declared.pair.Pair.{Pair}
 use Rattle.evaluation.specs.Traced.{LeafReady, stateAtom, stateRun, traceOf, atomRows}
 use Rattle.rows.specs.Pairs.{PairMade}
-use Rattle.rows.proofs.KindLaws.{kind-atom, kind-run, kind-end, kind-left}
+use Rattle.rules.proofs.KindLaws.{kind-atom, kind-run, kind-end, kind-left}
 use Rattle.rows.proofs.PairLaws.{pairOf}
 
 made-same : (r : Row) (n : ℕ) (k l : List Bool) → Made r n k → k ≡ l → Made r n l
@@ -48,22 +47,21 @@ module _ (states : List ℕ) (n own a : ℕ) where
       tabulate-same n (lastAt weak n (markAt (tabulate n columnAt))) (stateAtom states n own a weak)
       (λ i h. rw (e, marks-of n columnAt i h))
 
-  pub own-atom : (column : Row) → Made column n (tabulate n columnAt) → own / 2 ^ a % 2 ≡ 1 → PairMade (pairOf column column) n (atomRows states n own a)
-  unfolding bitOf
-  own-atom column m e =
-      let own-bit : bitOf own a ≡ true = eq-eqb (own / 2 ^ a % 2) 1 e in
+  -- `atom`: an own one, a foreign one (`atomRows`)
+  pub own-atom : (column : Row) → Made column n (tabulate n columnAt) → (t : Bool) → t ≡ bitOf own a → t ≡ true → PairMade (pairOf column column) n (atomRows states n own a)
+  own-atom column m t e y =
+      let own-bit : bitOf own a ≡ true = sym e ∙ y in
       record {
         weak = made-same column n (tabulate n columnAt) (tabulate n (stateAtom states n own a true)) m (own-same true own-bit);
         strong = made-same column n (tabulate n columnAt) (tabulate n (stateAtom states n own a false)) m (own-same false own-bit);
       }
 
-  pub foreign-atom : (column w s : Row) → Made column n (tabulate n columnAt) → (own / 2 ^ a % 2 ≡ 1 → ⊥)
+  pub foreign-atom : (column w s : Row) → Made column n (tabulate n columnAt) → (t : Bool) → t ≡ bitOf own a → t ≡ false
       → Made w (column .count) (tabulate (column .count) (lastAt true (column .count) (markAt (marks column))))
       → Made s (column .count) (tabulate (column .count) (lastAt false (column .count) (markAt (marks column))))
       → PairMade (pairOf w s) n (atomRows states n own a)
-  unfolding bitOf
-  foreign-atom column w s m e mw ms =
-      let foreign : bitOf own a ≡ false = ne-eqb (own / 2 ^ a % 2) 1 e in
+  foreign-atom column w s m t e y mw ms =
+      let foreign : bitOf own a ≡ false = sym e ∙ y in
       record {
         weak = made-same w n (tabulate n (lastAt true n (markAt (tabulate n columnAt)))) (tabulate n (stateAtom states n own a true))
             (last-on column w n (tabulate n columnAt) true mw m) (foreign-same true foreign);
@@ -135,6 +133,7 @@ module _ (kind a : ℕ) (states : List ℕ) (n c own : ℕ) where
   pub atom-low : LeafReady kind a states n c → kind ≡ 1 → a < atomCount
   atom-low ready e = ready .atom (rw e kind-atom)
 
+  -- `leaf`: a law for each return, to `nodeRows` of the leaf
   pub leaf-atom : kind ≡ 1 → (p : Pair) → PairMade p n (atomRows states n own a) → LeafMade kind a states n c own p
   leaf-atom e p m = rw (e, kind-atom) m
 

@@ -11,7 +11,7 @@ use Rattle.definitions.specs.Nodes.{Atom, Unknown, kindOf}
 use Rattle.definitions.specs.Recordings.{recordingOf, runsAt}
 use Rattle.definitions.specs.Projection.{endAt}
 use Rattle.definitions.specs.Readings.{Trace, Rows}
-use Rattle.rows.specs.Pairs.{isLeaf}
+use Rattle.rules.specs.Kinds.{isLeaf}
 
 -- atom a of state i: an atom outside `own` is foreign, weak yes and strong no at the last place
 abbrev pub stateAtom : List ℕ → ℕ → ℕ → ℕ → Bool → ℕ → Bool

@@ -9,6 +9,7 @@ ghost use Rattle.definitions.specs.Readings.{nodeRows};
 ghost use Rattle.rows.specs.Marks.{Made};
 ghost use Rattle.evaluation.specs.Traced.{Gathered, LeafReady, traceOf, atomRows, stateRun};
 ghost use Rattle.rows.specs.Pairs.{PairMade};
+use recordings::masks::is_own;
 use rows::Row;
 use rows::pair::Pair;
 use rules::limits::Limits;
@@ -20,7 +21,7 @@ fn atom(a: usize, states: &[u64], n: usize, own: u32) -> Pair
     ensures { λ r. ⌜ PairMade r n (atomRows (now (states .entry)) n own a) ⌝ }
 {
     let column = Row::column(states, n, a);
-    if (own >> a) % 2 == 1 {
+    if is_own(own, a) {
         return Pair {
             weak: column,
             strong: column,

@@ -7,18 +7,27 @@ ghost use mathlib.Core.List.{_++_};
 ghost use Prim.Native.Nat.{_+_, _*_, _<_, _≤_};
 ghost use lib.ListN.{length, drop};
 ghost use Rattle.definitions.specs.Limits.{pairWords};
-ghost use Rattle.definitions.specs.Nodes.{kindOf};
 ghost use Rattle.definitions.specs.Readings.{pairsWords};
 ghost use Rattle.evaluation.specs.Nodes.{slots, again, Ready, Evaluable, rowsTo, rowsAt};
-ghost use Rattle.rows.specs.Pairs.{isLeaf, PairMade, pairOfNode, Operands, operatorRows};
+ghost use Rattle.rows.specs.Pairs.{PairMade, Operands, operatorRows};
 use leaf::leaf;
 use rows::pair::Pair;
 use rows::pair::counted;
-use rows::pair::load_pair;
 use rows::pair::operate;
-use rows::stored::store;
-use rules::limits::Limits;
+use rows::pair::pair_of_node;
+use rows::pair::store_pair;
+use rules::kind::is_leaf;
 use rules::node::Node;
+
+// Stands for the controller where a table has no node of kind run or end, as no rule has: then nothing reads it.
+pub const UNREAD_CONTROLLER: usize = 0;
+
+// How many of the states are the trace, the controller whose runs are read, and the atoms that it owns.
+pub struct Traced {
+    pub count: usize,
+    pub controller: usize,
+    pub own: u32,
+}
 
 // The leaves seen so far: a slot holds the number of the last node whose leaf fell into it.
 pub struct Seen {}
@@ -28,13 +37,6 @@ impl Seen {
 
     // Tells the leaves' slots apart: true at 0, the atoms at 5 to 36, run at 40, end at 45.
     pub const SPREAD: usize = 5;
-}
-
-// Kinds without operand nodes.
-pub fn is_leaf(kind: u8) -> bool
-    ensures { λ r. ⌜ r ≡ isLeaf (kindOf kind) ⌝ }
-{
-    (kind < Node::NOT) | (Node::SINCE < kind)
 }
 
 fn slot(kind: u8, first: u16) -> usize
@@ -54,14 +56,6 @@ fn is_again(nodes: &[u32], i: usize, earlier: usize) -> bool
     false
 }
 
-// The rows of a node before this one.
-pub fn pair_of_node(rows: &[u64], j: usize) -> Pair
-    requires { ⌜ j * pairWords + pairWords ≤ length (now rows) ⌝ }
-    ensures { λ r. ⌜ r ≡ pairOfNode (now (rows .entry)) j ⌝ }
-{
-    load_pair(rows, j * Limits::PAIR_WORDS)
-}
-
 // An unused operand is 0, which is a node before it too. The count is told, not read: what depends on it is then made once for all nodes.
 fn operator(kind: u8, first: usize, second: usize, n: usize, rows: &[u64]) -> Pair
     requires { ⌜ Operands kind first second n (now rows) ⌝ }
@@ -77,14 +71,12 @@ fn node_rows(
     nodes: &[u32],
     i: usize,
     states: &[u64],
-    n: usize,
-    c: usize,
-    own: u32,
+    traced: Traced,
     rows: &[u64],
     seen: &mut [usize],
 ) -> Pair
-    requires { ⌜ (Ready (now nodes) i (now states) n c own (now rows)) × (slots ≤ length (now seen)) ⌝ }
-    ensures { λ r. ⌜ PairMade r n (rowsAt (now (nodes .entry)) i (now (states .entry)) n c own) ⌝ }
+    requires { ⌜ (Ready (now nodes) i (now states) (traced .count) (traced .controller) (traced .own) (now rows)) × (slots ≤ length (now seen)) ⌝ }
+    ensures { λ r. ⌜ PairMade r (traced .count) (rowsAt (now (nodes .entry)) i (now (states .entry)) (traced .count) (traced .controller) (traced .own)) ⌝ }
 {
     let node = Node::of_word(nodes[i]);
     let kind = node.kind;
@@ -96,27 +88,31 @@ fn node_rows(
         if is_again(nodes, i, earlier) {
             return pair_of_node(rows, earlier);
         }
-        return leaf(kind, first, states, n, c, own);
+        return leaf(
+            kind,
+            first,
+            states,
+            traced.count,
+            traced.controller,
+            traced.own,
+        );
     }
-    operator(kind, first, node.second as usize, n, rows)
+    operator(kind, first, node.second as usize, traced.count, rows)
 }
 
 fn evaluate_node(
     nodes: &[u32],
     i: usize,
     states: &[u64],
-    n: usize,
-    c: usize,
-    own: u32,
+    traced: Traced,
     rows: &mut [u64],
     seen: &mut [usize],
 )
-    requires { ⌜ (Ready (now nodes) i (now states) n c own (now rows)) × (slots ≤ length (now seen)) ⌝ }
-    ensures { λ _. ⌜ now (rows .exit) ≡ pairsWords (rowsTo (now (nodes .entry)) (i + 1) (now (states .entry)) n c own) ++ drop ((i + 1) * pairWords) (now (rows .entry)) ⌝ }
+    requires { ⌜ (Ready (now nodes) i (now states) (traced .count) (traced .controller) (traced .own) (now rows)) × (slots ≤ length (now seen)) ⌝ }
+    ensures { λ _. ⌜ now (rows .exit) ≡ pairsWords (rowsTo (now (nodes .entry)) (i + 1) (now (states .entry)) (traced .count) (traced .controller) (traced .own)) ++ drop ((i + 1) * pairWords) (now (rows .entry)) ⌝ }
 {
-    let p = node_rows(nodes, i, states, n, c, own, rows, seen);
-    store(rows, i * Limits::PAIR_WORDS, p.weak);
-    store(rows, i * Limits::PAIR_WORDS + Pair::STRONG, p.strong);
+    let p = node_rows(nodes, i, states, traced, rows, seen);
+    store_pair(rows, i, p);
 }
 
 // Each node once, in order: its operands' rows are laid when its turn comes.
@@ -132,8 +128,13 @@ pub fn evaluate(
     requires { ⌜ Evaluable (now nodes) count (now states) n c (now rows) ⌝ }
     ensures { λ _. ⌜ now (rows .exit) ≡ pairsWords (rowsTo (now (nodes .entry)) count (now (states .entry)) n c own) ++ drop (count * pairWords) (now (rows .entry)) ⌝ }
 {
+    let traced = Traced {
+        count: n,
+        controller: c,
+        own: own,
+    };
     let mut seen = [0usize; Seen::SLOTS];
     for i in 0..count {
-        evaluate_node(nodes, i, states, n, c, own, rows, &mut seen);
+        evaluate_node(nodes, i, states, traced, rows, &mut seen);
     }
 }

@@ -2,23 +2,23 @@
 use mathlib.Core.Path.{_≡_, refl, sym, ap, _∙_}
 use mathlib.Core.Bool.{Bool, true, false, _&&_, _||_}
 use mathlib.Core.List.{List, _++_}
-use Prim.Native.Nat.{ℕ, suc, _+_, _*_, _/_, _%_, _^_, _<_, _≤_}
+use Prim.Native.Nat.{ℕ, suc, _+_, _*_, _<_, _≤_}
 use native.Mathlib.Omega.{arith}
 use native.Mathlib.Decide.{ℕ-discrete}
 use lib.Dec.{ltb}
 use lib.ListN.{length, take, drop, getD}
 use borrow.Author.Needs.{needs}
-use borrow.Author.Tests.{eq-eqb, ne-eqb}
-use Rattle.definitions.specs.Limits.{atomCount}
+use Rattle.definitions.specs.Limits.{atomCount, wordMarks}
 use Rattle.definitions.specs.Bounded.{pick, bitOf, tabulate}
 use Rattle.definitions.specs.Nodes.{Node, nodeOf, kindOf}
 use Rattle.definitions.specs.Tables.{isAtom}
 use Rattle.definitions.specs.Readings.{rowWords}
 use Rattle.theorems.proofs.Tabulations.{tabulate-at, tabulate-same}
 use Rattle.mark_words.specs.Marks.{markAt, lastAt}
+use Rattle.rules.specs.Kinds.{Fit}
 use Rattle.rules.specs.Meaning.{meaning, OfWord}
 use Rattle.rules.specs.declared.node.Node as code
-use Rattle.rules.proofs.KindLaws.{kind-cases}
+use Rattle.rules.proofs.KindLaws.{kind-cases, kind-atom}
 use Rattle.rows.specs.Marks.{marks, Whole, Made}
 use Rattle.rows.specs.Stored.{rowAt}
 use Rattle.rows.specs.declared.Row.{Row}
@@ -26,9 +26,7 @@ use Rattle.rows.proofs.PackedLaws.{retold, recounted}
 use Rattle.rows.proofs.RowLaws.{last-on}
 use Rattle.rows.proofs.StoredLaws.{row-here, row-before}
 use Rattle.rows.specs.declared.pair.Pair.{Pair}
-use Rattle.evaluation.specs.Nodes.{Fit}
 use Rattle.rows.specs.Pairs.{rowsIn, PairMade, pairOfNode}
-use Rattle.rows.proofs.KindLaws.{kind-atom}
 use Rattle.evidence.specs.Finding.{placesOf, NodeReady, Findable, FoundRows}
 
 no-atom : (k : ℕ) → (k ≡ 1 → ⊥) → isAtom (kindOf k) ≡ false
@@ -53,13 +51,17 @@ module _ (nodes : List ℕ) (j own n : ℕ) (wanted : List ℕ) (ready : NodeRea
   first-is : x .first ≡ (nodeOf (getD nodes j 0)) .first
   first-is = ap (λ (y : Node). y .first) (word .meant)
 
+  -- `found_row` of a node that is no atom
   pub found-none : (x .kind ≡ 1 → ⊥) → (r : Row) → Made r n (tabulate n (λ k. false)) → Places r
   unfolding placesOf
   found-none e r m = marks-as r n (λ k. false) (placesOf nodes own n wanted j) m (λ k h. rw (← kind-is, no-atom (x .kind) e))
 
   module _ (e : x .kind ≡ 1) where
-    pub atom-low : x .first < atomCount
-    atom-low = let f : Fit j (meaning x) = rw (word .meant) (ready .fit) in f .atom (rw (e, kind-atom))
+    pub atom-low : x .first < wordMarks
+    atom-low =
+        let f : Fit j (meaning x) = rw (word .meant) (ready .fit) in
+        let low : x .first < atomCount = f .atom (rw (e, kind-atom)) in
+        omega arith
 
     module _ (p : Pair) (loaded : p ≡ pairOfNode wanted j) where
       made : PairMade p n (rowsIn p)
@@ -86,16 +88,16 @@ module _ (nodes : List ℕ) (j own n : ℕ) (wanted : List ℕ) (ready : NodeRea
         over : Made places n (tabulate n either)
         over = recounted places (p .weak .count) n (λ c. tabulate c either) m (made .weak .count)
 
-        pub found-own : own / 2 ^ (x .first) % 2 ≡ 1 → Places places
-        unfolding bitOf
-        found-own h = marks-as places n either (placesOf nodes own n wanted j) over
-            (λ k l. sym (found-is true (eq-eqb (own / 2 ^ (x .first) % 2) 1 h) k))
+        -- `found_row` of an own atom, and of a foreign one: `placesOf`
+        pub found-own : (t : Bool) → t ≡ bitOf own (x .first) → t ≡ true → Places places
+        found-own t h y = marks-as places n either (placesOf nodes own n wanted j) over
+            (λ k l. sym (found-is true (sym h ∙ y) k))
 
-        pub found-foreign : (own / 2 ^ (x .first) % 2 ≡ 1 → ⊥) → (r : Row) → Made r (places .count) (tabulate (places .count) (lastAt false (places .count) (markAt (marks places)))) → Places r
-        unfolding bitOf pick
-        found-foreign h r mr =
+        pub found-foreign : (t : Bool) → t ≡ bitOf own (x .first) → t ≡ false → (r : Row) → Made r (places .count) (tabulate (places .count) (lastAt false (places .count) (markAt (marks places)))) → Places r
+        unfolding pick
+        found-foreign t h y r mr =
             marks-as r n (lastAt false n (markAt (tabulate n either))) (placesOf nodes own n wanted j) (last-on places r n (tabulate n either) false mr over)
-            (λ k l. last-found k l ∙ sym (found-is false (ne-eqb (own / 2 ^ (x .first) % 2) 1 h) k))
+            (λ k l. last-found k l ∙ sym (found-is false (sym h ∙ y) k))
           where
             last-found : (k : ℕ) → k < n → lastAt false n (markAt (tabulate n either)) k ≡ (ltb (suc k) n && either k)
             last-found k l = rw (tabulate-at n either k l) (chosen (ltb (suc k) n) (either k))
@@ -131,6 +133,7 @@ module _ (nodes : List ℕ) (count own n : ℕ) (wanted entry : List ℕ) (given
       go j c (yes q) = rw (q, row-here l l′ (i * 3) row (m .whole) (finding-room h) e) m
       go j c (no q) = rw (row-before l l′ (i * 3) row (m .whole) (finding-room h) e (j * 3) (omega arith)) (so .rows j (omega arith))
 
+  -- `found_rows`
   pub finding-done : count ≤ i → FoundRows nodes count own n wanted l
   finding-done h = record { rows = λ j c. so .rows j (omega arith) }
 

@@ -26,6 +26,7 @@ use Rattle.evidence.specs.Laying.{foundIn, PlaceReady, PlaceLaid, Places
 
 -- ---- a mark as a number
 
+-- `mark_of`
 pub mark-number : (found : List ℕ) (k j : ℕ) → getD found (j * 3 + k / 64) 0 / 2 ^ (k % 64) % 2 ≡ bit (foundIn found k j)
 unfolding foundIn
 mark-number found k j = bit-number (getD found (j * 3 + k / 64) 0) (k % 64)
@@ -81,6 +82,7 @@ module _ (count k : ℕ) (found : List ℕ) (from : ℕ) (entry : List ℕ) (giv
         past = drop-set-lt maxPairs l end (k * maxRuleNodes + j) (omega (arith, so .low, given .room)) ∙ so .past;
       }
 
+  -- `lay_place`
   pub place-done : count ≤ j → PlaceLaid count k found from entry end l
   place-done h =
       let z : count - j ≡ 0 = omega arith in
@@ -131,6 +133,7 @@ module _ (count n : ℕ) (found entry : List ℕ) (given : PlacesReady count n f
         past = P .past ∙ so .past;
       }
 
+  -- `lay_places`
   pub places-done : n ≤ k → PlacesLaid count n found entry end l
   places-done h =
       let z : n - k ≡ 0 = omega arith in
@@ -184,6 +187,7 @@ module _ (nodes : List ℕ) (count own n : ℕ) (wanted pairs : List ℕ) (given
       size : length (map pairWord (pairsOf nodes count own n wanted)) ≡ end
       size = ap length (sym content) ∙ length-take-le end l (omega (arith, P .few, kept, given .full))
 
+      -- `lay_pairs`: the pairs are `pairsOf`, and zeros after them
       pub lay-done : (exit : List ℕ) → exit ≡ cleared l end maxPairs → PairsLaid (pairsOf nodes count own n wanted) pairs end exit
       lay-done exit e = record {
         counted = sym size ∙ length-map (pairsOf nodes count own n wanted) pairWord;

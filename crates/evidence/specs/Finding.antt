@@ -12,8 +12,8 @@ use Rattle.definitions.specs.Readings.{Rows}
 use Rattle.definitions.specs.Evidence.{Found, foundFrom}
 use Rattle.mark_words.specs.Marks.{markAt}
 use Rattle.rows.specs.Marks.{Made}
-use Rattle.rows.specs.Stored.{rowAt}
-use Rattle.evaluation.specs.Nodes.{Fit}
+use Rattle.rows.specs.Stored.{rowAt, wordsOfRow}
+use Rattle.rules.specs.Kinds.{Fit}
 use Rattle.rows.specs.Pairs.{rowsIn, PairMade, pairOfNode}
 
 -- node x, wanted at the places of the rows r, is found at place k: `decides` of the definitions over rows
@@ -39,8 +39,8 @@ pub record NodeReady (nodes : List ℕ) (j n : ℕ) (wanted : List ℕ) : Type 0
 -- all nodes, and space for a row of each
 pub record Findable (nodes : List ℕ) (count n : ℕ) (wanted found : List ℕ) : Type 0 where
   pub ready : (j : ℕ) → j < count → NodeReady nodes j n wanted
-  pub room : count * 3 ≤ length found
+  pub room : count * wordsOfRow ≤ length found
 
 -- a row for each node
 pub record FoundRows (nodes : List ℕ) (count own n : ℕ) (wanted exit : List ℕ) : Type 0 where
-  pub rows : (j : ℕ) → j < count → Made (rowAt exit (j * 3)) n (tabulate n (placesOf nodes own n wanted j))
+  pub rows : (j : ℕ) → j < count → Made (rowAt exit (j * wordsOfRow)) n (tabulate n (placesOf nodes own n wanted j))

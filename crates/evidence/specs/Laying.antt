@@ -8,17 +8,18 @@ use Rattle.definitions.specs.Limits.{accepted, maxStates, maxRuleNodes, maxPair
 use Rattle.definitions.specs.Bounded.{bitOf}
 use Rattle.definitions.specs.Evidence.{Found, foundAt, foundFrom, pairWord}
 use Rattle.definitions.specs.Operations.{left}
+use Rattle.rows.specs.Stored.{wordsOfRow}
 use Rattle.evidence.specs.Finding.{NodeReady}
 
 -- node j's mark at place k
 unfoldable pub foundIn : (found : List ℕ) (k j : ℕ) → Bool
-foundIn found k j = bitOf (getD found (j * 3 + k / wordMarks) 0) (k % wordMarks)
+foundIn found k j = bitOf (getD found (j * wordsOfRow + k / wordMarks) 0) (k % wordMarks)
 
 -- space for all the pairs of one more place
 pub record PlaceReady (count k : ℕ) (found : List ℕ) (from : ℕ) (pairs : List ℕ) : Type 0 where
   pub few : count ≤ maxRuleNodes
   pub below : k < maxStates
-  pub rows : count * 3 ≤ length found
+  pub rows : count * wordsOfRow ≤ length found
   pub room : from + count ≤ maxPairs
   pub full : maxPairs ≤ length pairs
 
@@ -32,7 +33,7 @@ pub record PlaceLaid (count k : ℕ) (found : List ℕ) (from : ℕ) (entry : Li
 pub record PlacesReady (count n : ℕ) (found pairs : List ℕ) : Type 0 where
   pub few : count ≤ maxRuleNodes
   pub places : n ≤ maxStates
-  pub rows : count * 3 ≤ length found
+  pub rows : count * wordsOfRow ≤ length found
   pub full : maxPairs ≤ length pairs
 
 -- they stand at the front; what is lent past the full size is as it was

@@ -2,17 +2,11 @@
 ghost use Rattle.definitions.specs.Bounded.{tabulate};
 ghost use Rattle.rows.specs.Marks.{Made};
 ghost use Rattle.evidence.specs.Finding.{NodeReady, placesOf, Findable, FoundRows};
-use evaluation::pair_of_node;
+use recordings::masks::is_own;
 use rows::Row;
+use rows::pair::pair_of_node;
 use rows::stored::store;
 use rules::node::Node;
-
-pub struct Found {}
-
-impl Found {
-    // The words of a row in lent space.
-    pub const ROW_WORDS: usize = 3;
-}
 
 // The places at which node j decides: an atom's wanted places. "A foreign atom at the last place adds nothing".
 fn found_row(nodes: &[u32], j: usize, own: u32, n: usize, wanted: &[u64]) -> Row
@@ -25,8 +19,7 @@ fn found_row(nodes: &[u32], j: usize, own: u32, n: usize, wanted: &[u64]) -> Row
     }
     let p = pair_of_node(wanted, j);
     let places = p.weak.or(p.strong);
-    let a = node.first as usize;
-    if (own >> a) % 2 == 1 {
+    if is_own(own, node.first as usize) {
         return places;
     }
     places.with_last(false)
@@ -45,6 +38,6 @@ pub fn found_rows(
 {
     for j in 0..count {
         let row = found_row(nodes, j, own, n, wanted);
-        store(found, j * Found::ROW_WORDS, row);
+        store(found, j * Row::WORDS, row);
     }
 }

@@ -8,13 +8,14 @@ ghost use Rattle.definitions.specs.Tables.{ruleOf};
 ghost use Rattle.definitions.specs.Recordings.{recordingOf};
 ghost use Rattle.evidence.specs.Answers.{EvidenceIs};
 use accepted::evidence_accepted;
-use judges::headings::RecordingHeading;
-use judges::headings::RuleHeading;
 use judges::local::local_refusal;
+use judges::local::local_trace;
 use lent::clear_u32;
+use recordings::heading::RecordingHeading;
 use rules::choice::or_else;
 use rules::choice::pick;
 use rules::choice::pick_index;
+use rules::headings::RuleHeading;
 use rules::limits::Limits;
 use rules::limits::Refusal;
 
@@ -56,5 +57,7 @@ pub fn evidence(
         clear_u32(pairs, 0, zeroed);
         return Explanation::Refused(refusal);
     }
-    Explanation::Pairs(evidence_accepted(rule, nodes, recording, masks, states, weak, pairs))
+    let trace = local_trace(controller, recording, masks, states);
+    let explained = evidence_accepted(rule, nodes, trace, weak, pairs);
+    Explanation::Pairs(explained.count)
 }

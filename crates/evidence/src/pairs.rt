@@ -4,20 +4,21 @@ ghost use Prim.Native.Nat.{_+_, _*_, _<_, _≤_};
 ghost use lib.ListN.{length};
 ghost use Rattle.definitions.specs.Limits.{maxStates};
 ghost use Rattle.definitions.specs.Bounded.{bit};
+ghost use Rattle.rows.specs.Stored.{wordsOfRow};
 ghost use Rattle.evidence.specs.Finding.{pairsOf};
 ghost use Rattle.evidence.specs.Laying.{foundIn, PlaceReady, PlaceLaid, PlacesReady, PlacesLaid, PairsReady, PairsLaid};
-use super::found::Found;
 use super::found::found_rows;
 use lent::clear_u32;
 use mark_words::WORD_MARKS;
+use rows::Row;
 use rules::limits::Limits;
 
 // Whether node j is found at place k, as a number.
 fn mark_of(found: &[u64], j: usize, k: usize) -> usize
-    requires { ⌜ (j * 3 + 3 ≤ length (now found)) × (k < maxStates) ⌝ }
+    requires { ⌜ (j * wordsOfRow + wordsOfRow ≤ length (now found)) × (k < maxStates) ⌝ }
     ensures { λ r. ⌜ r ≡ bit (foundIn (now (found .entry)) k j) ⌝ }
 {
-    let word = found[j * Found::ROW_WORDS + k / WORD_MARKS];
+    let word = found[j * Row::WORDS + k / WORD_MARKS];
     ((word >> (k % WORD_MARKS)) % 2) as usize
 }
 
@@ -47,7 +48,7 @@ fn lay_places(count: usize, n: usize, found: &[u64], pairs: &mut [u32]) -> usize
 }
 
 // The pairs of all nodes and places, and zeros after them; answers how many there are.
-pub fn lay(
+pub fn lay_pairs(
     nodes: &[u32],
     count: usize,
     own: u32,
@@ -58,7 +59,7 @@ pub fn lay(
     requires { ⌜ PairsReady (now nodes) count n (now wanted) (now pairs) ⌝ }
     ensures { λ r. ⌜ PairsLaid (pairsOf (now (nodes .entry)) count own n (now (wanted .entry))) (now (pairs .entry)) r (now (pairs .exit)) ⌝ }
 {
-    let mut found = [0u64; Limits::RULE_NODES * Found::ROW_WORDS];
+    let mut found = [0u64; Limits::RULE_NODES * Row::WORDS];
     found_rows(nodes, count, own, n, wanted, &mut found);
     let end = lay_places(count, n, &found, pairs);
     clear_u32(pairs, end, Limits::PAIRS);

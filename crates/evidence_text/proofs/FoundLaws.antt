@@ -7,11 +7,11 @@ use native.Mathlib.Omega.{arith}
 use lib.ListN.{length, getD, length-append, List·getD-append}
 use Rattle.definitions.specs.Limits.{maxRuleNodes, maxStates, maxPairs, atomCount}
 use Rattle.definitions.specs.Bounded.{bitOf, bit}
-use Rattle.definitions.specs.Nodes.{Kind, Node, nodeOf}
+use Rattle.definitions.specs.Nodes.{Kind, Node, nodeOf, nodeAt}
 use Rattle.definitions.specs.Tables.{Rule, isAtom, nodesIn}
 use Rattle.definitions.specs.Recordings.{Recording, maskOf, runsAt}
 use Rattle.definitions.specs.Projection.{localTrace}
-use Rattle.definitions.specs.Evidence.{Found, nodeAt, pairWord}
+use Rattle.definitions.specs.Evidence.{Found, pairWord}
 use Rattle.definitions.specs.Operations.{evidenceOf}
 use Rattle.definitions.specs.Why.{stateOfPlace, foundText, foundLines}
 use Rattle.theorems.proofs.NodeWords.{by-kind}
@@ -170,4 +170,5 @@ module _ (r : Rule) (R : Recording) (good : Accepted r R) (rest : List ℕ) wher
           node = omega (arith, node-counted (w / maxRuleNodes) (w % maxRuleNodes) is, enough);
           atom = atom-low (w / maxRuleNodes) (w % maxRuleNodes) is;
           place = omega (arith, is .place, length-append trace rest);
+          few = omega (arith, is .place, places-few);
         }

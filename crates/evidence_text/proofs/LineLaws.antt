@@ -10,15 +10,14 @@ use mir.Syntax.{w32}
 use mir.Val.{Fits}
 use borrow.Author.Needs.{needs}
 use Rattle.definitions.specs.Lines.{bytes, tab, newline, digits}
-use Rattle.definitions.specs.Why.{stateOfPlace, named, pairText}
+use Rattle.definitions.specs.Why.{stateOfPlace, wordNumber, pairText}
 use Rattle.projection.specs.Places.{statesOnly, Countable}
 use Rattle.mark_words.proofs.WordLaws.{bit-number}
 use Rattle.rules.specs.Meaning.{OfWord}
 use Rattle.rules.specs.declared.node.Node as code
-use Rattle.printing.specs.Printing.{Printed}
+use Rattle.printing.specs.Printing.{Printed, countedLine}
 use Rattle.printing.proofs.PrintLaws.{digits-fit, printed-none}
-use Rattle.report.specs.Reporting.{countedLine}
-use Rattle.report.proofs.ReportLaws.{first-room, rest-room, both}
+use Rattle.printing.proofs.LineLaws.{first-room, rest-room, both}
 use Rattle.evidence_text.specs.Pairs.{maxPairBytes, pairOf, lineText, placeText, readingText, pairIn, pairsIn, PairReady, PairsReady}
 use Rattle.evidence_text.specs.declared.line.Line.{Line}
 use Rattle.projection.proofs.StateLaws.{state-low}
@@ -30,6 +29,9 @@ module _ (c : ℕ) (nodes : List ℕ) (N : ℕ) (states places : List ℕ) (w : 
 
   pub place-inside : w / 64 < length places
   place-inside = so .place
+
+  pub place-below : w / 64 < 128
+  place-below = so .few
 
   pub pair-countable : Countable N c states
   pair-countable = so .recording
@@ -46,15 +48,15 @@ module _ (c : ℕ) (nodes : List ℕ) (N : ℕ) (states places : List ℕ) (w : 
       unfolding pairIn
       line-is = rw (at, is .first, bit-number (getD places (w / 64) 0) (getD nodes (w % 64) 0 / 256 % 4096))
 
-pub ruleset line-laws = (needs, node-inside, place-inside, pair-countable, atom-below, state-fits, line-is)
+pub ruleset line-laws = (needs, node-inside, place-inside, place-below, pair-countable, atom-below, state-fits, line-is)
 
 -- ---- the parts of a line
 -- a named number and its end
-part-of : (word : List ℕ) (n : ℕ) (end rest : List ℕ) → named word n ++ (end ++ rest) ≡ countedLine word n end ++ rest
+part-of : (word : List ℕ) (n : ℕ) (end rest : List ℕ) → wordNumber word n ++ (end ++ rest) ≡ countedLine word n end ++ rest
 unfolding countedLine
 part-of word n end rest = simp append-assoc
 
-last-part : (word : List ℕ) (n : ℕ) (end : List ℕ) → named word n ++ end ≡ countedLine word n end
+last-part : (word : List ℕ) (n : ℕ) (end : List ℕ) → wordNumber word n ++ end ≡ countedLine word n end
 unfolding countedLine
 last-part word n end = append-assoc word (tab ∷ digits n) end
 
@@ -90,7 +92,7 @@ module _ (l : Line) where
 
   halves : lineText l ≡ placeText l ++ readingText l
   unfolding pairText placeText readingText
-  halves = two-parts (named (bytes "state") (l .state)) (named (bytes "step") (l .step)) _
+  halves = two-parts (wordNumber (bytes "state") (l .state)) (wordNumber (bytes "step") (l .step)) _
 
 -- ---- `put_place`
 module _ (l : Line) (o : List ℕ) (at : ℕ) (room : at + length (placeText l) ≤ length o) where

@@ -1,13 +1,11 @@
 -- What is printed of an accepted rule and recording, and what that asks: space for the longest lines there can be.
-use mathlib.Core.Path.{_≡_}
 use mathlib.Core.Bool.{Bool}
-use mathlib.Core.List.{List, _++_}
-use Prim.Native.Nat.{ℕ, _+_, _*_, _<_, _≤_}
-use lib.ListN.{length, drop}
+use mathlib.Core.List.{List}
+use Prim.Native.Nat.{ℕ, _+_, _*_, _≤_}
+use lib.ListN.{length}
 use Rattle.definitions.specs.Limits.{maxPairs}
 use Rattle.definitions.specs.Tables.{Rule, nodesIn}
-use Rattle.definitions.specs.Recordings.{Recording, recordingRefusal}
-use Rattle.definitions.specs.Projection.{localTrace}
+use Rattle.definitions.specs.Recordings.{Recording}
 use Rattle.definitions.specs.Operations.{evidenceOf}
 use Rattle.definitions.specs.Why.{foundLines, behindText}
 use Rattle.theorems.proofs.ScheduleIndependence.{Accepted}
@@ -29,21 +27,7 @@ linesOf weak r R = foundLines R (r .controller) (nodesIn (r .count) (r .nodes)) 
 abbrev pub behindOf : (weak : Bool) (r : Rule) (R : Recording) → List ℕ
 behindOf weak r R = behindText weak (r .controller) (nodesIn (r .count) (r .nodes)) R
 
--- an accepted recording that has the controller
-pub record TraceReady (R : Recording) (c : ℕ) : Type 0 where
-  pub recording : recordingRefusal R ≡ 0
-  pub controller : c < R .controllers
-
--- the words begin with the controller's local trace
-pub record TraceIs (R : Recording) (c : ℕ) (words : List ℕ) : Type 0 where
-  pub begins : words ≡ localTrace R c ++ drop (length (localTrace R c)) words
-
--- space for the lines of the pairs
-pub record LinesReady (r : Rule) (R : Recording) (at : ℕ) (text : List ℕ) : Type 0 where
-  pub accepted : Accepted r R
-  pub room : at + maxPairs * maxPairBytes ≤ length text
-
--- and for the verdict before them
+-- an accepted rule and recording, and space for the longest lines
 pub record BehindReady (r : Rule) (R : Recording) (text : List ℕ) : Type 0 where
   pub accepted : Accepted r R
   pub room : maxBehindBytes ≤ length text

@@ -3,17 +3,21 @@
 pub mod line;
 pub mod verdict;
 
+ghost use Prim.Native.Nat.{_≤_};
+ghost use lib.ListN.{length};
+ghost use Rattle.definitions.specs.Why.{verdictText};
 ghost use Rattle.printing.specs.Printing.{Printed};
-ghost use Rattle.judges.specs.Headings.{ruleIn, recordingIn};
-ghost use Rattle.evidence_text.specs.Behind.{linesOf, behindOf, TraceReady, TraceIs, LinesReady, BehindReady};
+ghost use Rattle.rules.specs.Headings.{ruleIn};
+ghost use Rattle.recordings.specs.Heading.{recordingIn};
+ghost use Rattle.evidence_text.specs.Behind.{maxVerdictBytes, behindOf, BehindReady};
+ghost use Rattle.evidence_text.specs.Verdict.{chosen};
 use evidence::accepted::evidence_accepted;
-use judges::headings::RecordingHeading;
-use judges::headings::RuleHeading;
-use judges::local::judge_accepted;
+use judges::local::local_trace;
+use judges::verdicts::Verdicts;
 use line::put_pairs;
 use printing::put;
-use projection::places::project_into;
-use recordings::masks::mask_at;
+use recordings::heading::RecordingHeading;
+use rules::headings::RuleHeading;
 use rules::limits::Limits;
 use verdict::VERDICT_BYTES;
 use verdict::verdict_line;
@@ -24,56 +28,15 @@ const PAIR_BYTES: usize = 40;
 // The bytes of the most that is printed: the verdict, and a line for each of the most pairs that lent space can hold.
 pub const MOST_BYTES: usize = VERDICT_BYTES + Limits::PAIRS * PAIR_BYTES;
 
-// The words of a local trace, and past them what does not matter.
-struct Places {
-    words: [u32; Limits::STATES],
-}
-
-// The local trace of the rule's controller.
-fn local_places(
-    rule: RuleHeading,
-    recording: RecordingHeading,
-    masks: &[u32],
-    states: &[u64],
-) -> Places
-    requires { ⌜ TraceReady (recordingIn recording (now masks) (now states)) (rule .controller) ⌝ }
-    ensures { λ r. ⌜ TraceIs (recordingIn recording (now (masks .entry)) (now (states .entry))) (rule .controller) (r .words) ⌝ }
+// The line of the verdict that is asked for.
+fn put_verdict(weak: bool, verdicts: Verdicts, text: &mut [u8]) -> usize
+    requires { ⌜ maxVerdictBytes ≤ length (now text) ⌝ }
+    ensures { λ r. ⌜ Printed (verdictText weak (chosen weak verdicts)) (now (text .entry)) 0 r (now (text .exit)) ⌝ }
 {
-    let c = rule.controller;
-    let mask = mask_at(masks, c);
-    let mut words = [0u32; Limits::STATES];
-    project_into(recording.count, mask, c, states, &mut words);
-    Places { words: words }
-}
-
-// The readings behind the verdict, found in space of their own.
-fn put_evidence(
-    weak: bool,
-    rule: RuleHeading,
-    nodes: &[u32],
-    recording: RecordingHeading,
-    masks: &[u32],
-    states: &[u64],
-    at: usize,
-    text: &mut [u8],
-) -> usize
-    requires { ⌜ LinesReady (ruleIn rule (now nodes)) (recordingIn recording (now masks) (now states)) at (now text) ⌝ }
-    ensures { λ r. ⌜ Printed (linesOf weak (ruleIn rule (now (nodes .entry))) (recordingIn recording (now (masks .entry)) (now (states .entry)))) (now (text .entry)) at r (now (text .exit)) ⌝ }
-{
-    let local = local_places(rule, recording, masks, states);
-    let places = local.words;
-    let mut pairs = [0u32; Limits::PAIRS];
-    let count = evidence_accepted(rule, nodes, recording, masks, states, weak, &mut pairs);
-    put_pairs(
-        rule,
-        nodes,
-        recording,
-        states,
-        &places,
-        &pairs[..count],
-        at,
-        text,
-    )
+    let line = verdict_line(weak, verdicts);
+    let bytes = line.bytes;
+    let count = line.count;
+    put(&bytes[..count], 0, text)
 }
 
 // The verdict and what is behind it.
@@ -89,9 +52,18 @@ pub fn put_behind(
     requires { ⌜ BehindReady (ruleIn rule (now nodes)) (recordingIn recording (now masks) (now states)) (now text) ⌝ }
     ensures { λ r. ⌜ Printed (behindOf weak (ruleIn rule (now (nodes .entry))) (recordingIn recording (now (masks .entry)) (now (states .entry)))) (now (text .entry)) 0 r (now (text .exit)) ⌝ }
 {
-    let line = verdict_line(weak, judge_accepted(rule, nodes, recording, masks, states));
-    let bytes = line.bytes;
-    let count = line.count;
-    let after = put(&bytes[..count], 0, text);
-    put_evidence(weak, rule, nodes, recording, masks, states, after, text)
+    let trace = local_trace(rule.controller, recording, masks, states);
+    let mut pairs = [0u32; Limits::PAIRS];
+    let explained = evidence_accepted(rule, nodes, trace, weak, &mut pairs);
+    let after = put_verdict(weak, explained.verdicts, text);
+    let count = explained.count;
+    put_pairs(
+        nodes,
+        trace,
+        recording,
+        states,
+        &pairs[..count],
+        after,
+        text,
+    )
 }

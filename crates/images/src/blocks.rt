@@ -25,8 +25,8 @@ const G: u32 = 16;
 // An atom's number.
 const N: u32 = 17;
 
-// How many operands have a meaning.
-pub const MEANINGS: usize = 18;
+// How many numbers of the opening and names there are for operands.
+pub const NAMES: usize = 18;
 
 // The places of a row's operands, and its kinds.
 const FIRST: u32 = Node::KIND_SPAN;

@@ -12,10 +12,10 @@ ghost use Rattle.images.specs.Emission.{Room, Holds};
 ghost use Rattle.images.specs.Images.{meant, Small, Begun, Named, formBy, tolerantBy, Stepped, ClosedBy};
 use blocks::CLOSING;
 use blocks::Form;
-use blocks::MEANINGS;
+use blocks::NAMES;
 use blocks::OPENING;
 use blocks::block_of;
-use lay::lay;
+use lay::lay_block;
 use rules::choice::pick;
 use rules::node::Node;
 
@@ -39,12 +39,12 @@ pub fn opening(table: &mut [u32]) -> usize
     ensures { λ r. ⌜ Holds opening (now (table .entry)) r (now (table .exit)) ⌝ }
 {
     let none = [0, 1, 2, 3, 4, 5, 6, 7, 8, 9, 0, 0, 0, 0, 0, 0, 0, 0];
-    lay(table, 0, &OPENING, 11, none)
+    lay_block(table, 0, &OPENING, 11, none)
 }
 
 // What the operands of rows stand for as a block begins at number `at`, in the order of their names: `weak` of its rows are the weak image's, n is the
 // node's first operand, p and q are its operands' images.
-fn meanings(at: usize, weak: usize, n: u16, p: Image, q: Image) -> [u16; MEANINGS]
+fn named_operands(at: usize, weak: usize, n: u16, p: Image, q: Image) -> [u16; NAMES]
     requires { ⌜ (Begun at weak) × (n < operandSpan) × (Small p) × (Small q) ⌝ }
     ensures { λ r. ⌜ Named at weak n (meant p) (meant q) r ⌝ }
 {
@@ -100,7 +100,7 @@ fn tolerant_of(own: bool, kind: u8, p: bool, q: bool) -> bool
 }
 
 // "each rule node in turn, weak image w first, then strong image s"
-pub fn step(
+pub fn draw_image(
     table: &mut [u32],
     at: usize,
     short: bool,
@@ -114,8 +114,8 @@ pub fn step(
 {
     let block = block_of(form_of(short, own, n.kind, p.tolerant, q.tolerant));
     let rows = block.rows;
-    let names = meanings(at, block.weak, n.first, p, q);
-    let end = lay(table, at, &rows, block.count, names);
+    let names = named_operands(at, block.weak, n.first, p, q);
+    let end = lay_block(table, at, &rows, block.count, names);
     Image {
         weak: (at + block.weak - 1) as u16,
         strong: (end - 1) as u16,
@@ -130,8 +130,8 @@ pub fn closing(table: &mut [u32], at: usize, rule: Image) -> Tops
 {
     let block = CLOSING;
     let rows = block.rows;
-    let names = meanings(at, block.weak, 0, rule, rule);
-    let end = lay(table, at, &rows, block.count, names);
+    let names = named_operands(at, block.weak, 0, rule, rule);
+    let end = lay_block(table, at, &rows, block.count, names);
     Tops {
         count: end,
         weak: at + block.weak - 1,

@@ -1,3 +1,4 @@
 pub mod RecordingAccepted
 pub mod OutputLaws
 pub mod PrintedEarly
+pub mod PrintedVerdicts

@@ -1,11 +1,11 @@
 -- Laws of the program: the texts of the input are read, and their refusal or their judgements are printed.
 use mathlib.Core.Path.{_≡_, refl, ap, sym, _∙_}
 use mathlib.Core.Bool.{Bool, true, false}
-use mathlib.Core.List.{List, [], _∷_, _++_}
-use Prim.Native.Nat.{ℕ, _+_, _-_, _<_, _≤_}
+use mathlib.Core.List.{List, [], _∷_}
+use Prim.Native.Nat.{ℕ, _-_, _<_, _≤_}
 use native.Mathlib.Omega.{arith}
 use lib.Dec.{eqb}
-use lib.ListN.{length, take, drop, getD, length-append, length-take, length-drop}
+use lib.ListN.{length, take, drop, getD, length-take, length-drop}
 use lib.Seq.{take-at, length-take-le}
 use denote.Ref.{RefT}
 use borrow.Author.Needs.{needs}
@@ -13,18 +13,19 @@ use borrow.Author.Tests.{ne-eqb, eq-eqb, lt-ltb, le-ltb}
 use Rattle.definitions.specs.Tables.{ruleOf}
 use Rattle.definitions.specs.Limits.{accepted, lentShort, noController, maxInputBytes, maxRuleNodes, maxControllers, maxStates}
 use Rattle.definitions.specs.Bounded.{pick}
-use Rattle.definitions.specs.Lines.{tab, newline, digits}
 use Rattle.definitions.specs.RuleText.{scanRule}
 use Rattle.definitions.specs.Recordings.{controllerRefusal}
 use Rattle.definitions.specs.RecordingText.{scanRecording, Part, jointNumber, jointPart}
 use Rattle.definitions.specs.Operations.{left, readJointNumber, readJointHeading, readJointNodes, readJointMasks, readJointStates, readJointPart}
-use Rattle.definitions.specs.Program.{refusedWord, refusedText, bytesOf, scanned, textsOutput, programOutput}
+use Rattle.definitions.specs.Program.{refusedText, bytesOf, scanned, textsOutput, programOutput}
 use Rattle.theorems.proofs.LentSpace.{left-accepted}
 use Rattle.theorems.proofs.RefusalBounds.{pick-low}
 use Rattle.theorems.proofs.RoundTrips.{read-count, read-accepted}
 use Rattle.theorems.proofs.ScheduleIndependence.{Accepted}
-use Rattle.printing.specs.Printing.{laidAt, Printed}
-use Rattle.printing.proofs.PrintLaws.{digits-fit}
+use Rattle.printing.specs.Printing.{Printed, OutputIs}
+use Rattle.printing.proofs.LineLaws.{printed-all}
+use Rattle.report.proofs.ReportLaws.{refused-length}
+use Rattle.program_input.proofs.SplitLaws.{rule-counted, texts-fit}
 use Rattle.lines.proofs.PartLaws.{part-to-end}
 use Rattle.rule_reader.proofs.ReadLaws.{rule-low}
 use Rattle.recording_reader.proofs.ScanLaws.{recording-low}
@@ -32,23 +33,12 @@ use Rattle.joint_reading.specs.Joining.{ReadJoint}
 use Rattle.report.specs.Reporting.{maxOutputBytes, reportText}
 use Rattle.report.specs.Judged.{ReportIs}
 use Rattle.program_input.specs.Splitting.{SplitAt}
-use Rattle.judge_program.specs.Output.{TextsRoom, foundRule, foundRecording, Found, OutputIs}
+use Rattle.judge_program.specs.Output.{TextsRoom, foundRule, foundRecording, Found}
 use Rattle.report.specs.declared.Report.{Report}
 use Rattle.program_input.specs.declared.Parts.{Parts}
 use Rattle.judge_program.proofs.RecordingAccepted.{TextsAccepted, texts-accepted, recording-fine, masks-count, states-count}
 
--- ---- how long a refusal is
-pub refused-length : (n : ℕ) (line : List ℕ) → n < 100 → length line ≤ maxInputBytes → length (refusedText n line) ≤ maxOutputBytes
-unfolding refusedText
-refused-length n line h l =
-    omega (
-      arith,
-      length-append refusedWord (tab ∷ (digits n ++ (tab ∷ (line ++ (newline ∷ []))))),
-      length-append (digits n) (tab ∷ (line ++ (newline ∷ []))),
-      length-append line (newline ∷ []),
-      digits-fit 1 n (omega arith),
-    )
-
+-- ---- the number of a joint reading
 pub joint-low : (rule recording : List ℕ) → jointNumber rule recording < lentShort
 unfolding jointNumber controllerRefusal
 joint-low rule recording =
@@ -215,21 +205,6 @@ module _ (heading nodes masks states : List ℕ) (f : Found heading nodes masks 
 pub ruleset found-laws = (needs, nodes-counted, masks-counted, states-counted)
 
 -- ---- `judge`
-pub rule-counted : (input : List ℕ) (s : Parts) → SplitAt input s → s .«rule_end» ≡ length (take (s .«rule_end») input)
-rule-counted input s is = sym (length-take-le (s .«rule_end») input (is .ruleInside))
-
--- what is printed from the first byte on
-pub printed-all : (text output : List ℕ) (r : ℕ) (output′ : List ℕ) → Printed text output 0 r output′ → OutputIs text output r output′
-unfolding laidAt
-printed-all text output r output′ p =
-    let z : 0 + length text ≡ length text = omega arith in
-    let e : output′ ≡ text ++ drop (length text) output = p .lies ∙ rw z in
-    record {
-      count = p .next ∙ z;
-      lies = e;
-      within = omega (arith, p .next, ap length e, length-append text (drop (length text) output));
-    }
-
 module _ (input output : List ℕ) (full : length output ≡ maxOutputBytes) where
   pub long-room : length (refusedText 14 []) ≤ length output
   long-room = omega (arith, refused-length 14 [] (omega arith) (omega arith))
@@ -240,11 +215,7 @@ module _ (input output : List ℕ) (full : length output ≡ maxOutputBytes) whe
 
   module _ (short : length input ≤ maxInputBytes) (s : Parts) (is : SplitAt input s) where
     pub texts-room : TextsRoom (take (s .«rule_end») input) (take (length input - s .«recording_at») (drop (s .«recording_at») input)) output
-    texts-room = record {
-      ruleFits = rw length-take (omega arith);
-      recordingFits = rw (part-to-end input (s .«recording_at»), length-drop) (omega arith);
-      textRoom = omega arith;
-    }
+    texts-room = let fit = texts-fit input s is short in record { ruleFits = fit .ruleFits; recordingFits = fit .recordingFits; textRoom = omega arith }
 
     pub texts-printed : (r : ℕ) (output′ : List ℕ)
         → Printed (textsOutput (take (s .«rule_end») input) (take (length input - s .«recording_at») (drop (s .«recording_at») input))) output 0 r output′
@@ -254,9 +225,3 @@ module _ (input output : List ℕ) (full : length output ≡ maxOutputBytes) whe
         rw (le-ltb maxInputBytes (length input) short, ← is .rule, ← is .recording, ← part-to-end input (s .«recording_at»)) (printed-all _ output r output′ p)
 
 pub ruleset judge-laws = (needs, long-room, long-printed, rule-counted, texts-room, texts-printed)
-
--- ---- what a caller uses: `&output[..r]` has as many bytes as it says
-pub printed-counts : (printed output output′ : List ℕ) (r : ℕ) → OutputIs printed output r output′ → r ≡ length (take r output′)
-printed-counts printed output output′ r p = sym (length-take-le r output′ (p .within))
-
-pub ruleset caller-laws = (needs, printed-counts)

@@ -20,7 +20,7 @@ use Rattle.definitions.specs.Early.{announced}
 use Rattle.definitions.specs.Lines.{tab, newline, restOf, digits}
 use Rattle.definitions.specs.RuleText.{scanRule}
 use Rattle.definitions.specs.RecordingText.{scanRecording, jointNumber}
-use Rattle.definitions.specs.Program.{ruleIn, recordingIn, localWord, ownWord, plainWord, shortWord, verdictsText, localText, ownText, rewrittenText, judgedText, scanned, textsOutput, programOutput}
+use Rattle.definitions.specs.Program.{ruleTextIn, recordingTextIn, localWord, ownWord, plainWord, shortWord, verdictsText, localText, ownText, rewrittenText, judgedText, scanned, textsOutput, programOutput}
 use Rattle.theorems.proofs.SplitLaws.{Without, without-cons, split-rest}
 use Rattle.theorems.proofs.DecimalLaws.{digits-without}
 use Rattle.theorems.proofs.RoundTrips.{read-accepted}
@@ -30,7 +30,7 @@ use Rattle.theorems.proofs.TextBeginnings.{TextBeginning, text-beginning-accept
 use Rattle.theorems.proofs.EarlyRecordings.{begins-for, beginning-begins}
 use Rattle.theorems.proofs.EarlyJudged.{verdictsOn, announced-same}
 use Rattle.rewritten_judge.proofs.RewrittenLaws.{verdicts-agree}
-use Rattle.judge_program.specs.Output.{OutputIs}
+use Rattle.printing.specs.Printing.{OutputIs}
 use Rattle.judge_program.proofs.RecordingAccepted.{texts-accepted, recording-fine}
 
 -- a line of a rewriting: its word, its node count, the verdicts
@@ -75,14 +75,14 @@ after-first n more =
     ap restOf e ∙ split-rest newline more (localWord ++ (tab ∷ digits n)) (places-without n)
 
 -- ---- what is printed of two accepted texts
-abbrev ruleOfText : List ℕ → Rule
+abbrev pub ruleOfText : List ℕ → Rule
 ruleOfText rule = ruleOf ((scanRule rule) .controller) ((scanRule rule) .count) ((scanRule rule) .words)
 
-abbrev recordingOfText : List ℕ → Recording
+abbrev pub recordingOfText : List ℕ → Recording
 recordingOfText t = scanned (scanRecording t)
 
 -- the node count of a rewriting of the rule for an own mask
-abbrev countOf : (short : Bool) (rule : List ℕ) (mask : ℕ) → ℕ
+abbrev pub countOf : (short : Bool) (rule : List ℕ) (mask : ℕ) → ℕ
 countOf short rule mask = length ((rewriting short mask (nodesIn ((scanRule rule) .count) ((scanRule rule) .words))) .nodes)
 
 module _ (rule t : List ℕ) (e : jointNumber rule t ≡ 0) where
@@ -93,10 +93,10 @@ module _ (rule t : List ℕ) (e : jointNumber rule t ≡ 0) where
     controller = a .controller;
   }
 
-  abbrev mask : ℕ
+  abbrev pub mask : ℕ
   mask = maskOf (recordingOfText t) ((scanRule rule) .controller)
 
-  abbrev places : ℕ
+  abbrev pub places : ℕ
   places = length (localTrace (recordingOfText t) ((scanRule rule) .controller))
 
   line-is : (short : Bool) (word : List ℕ) →
@@ -105,7 +105,7 @@ module _ (rule t : List ℕ) (e : jointNumber rule t ≡ 0) where
   unfolding rewrittenText
   line-is short word = ap (countedLine word (countOf short rule mask)) (verdicts-agree short (ruleOfText rule) (recordingOfText t) tables-accepted)
 
-  prints : textsOutput rule t ≡ answerLines places (countOf false rule mask) (countOf true rule mask) (verdictsOn (ruleOfText rule) (recordingOfText t))
+  pub prints : textsOutput rule t ≡ answerLines places (countOf false rule mask) (countOf true rule mask) (verdictsOn (ruleOfText rule) (recordingOfText t))
   unfolding textsOutput judgedText ownText pick
   prints = rw (eq-eqb (jointNumber rule t) 0 e, line-is false plainWord, line-is true shortWord)
 
@@ -152,7 +152,7 @@ pub record Printed (input printed : List ℕ) : Type 0 where
   pub bytes : printed ≡ take count output′
 
 module _ (input printed : List ℕ) (short : length input ≤ maxInputBytes) (p : Printed input printed) where
-  printed-is : printed ≡ textsOutput (ruleIn input) (recordingIn input)
+  pub printed-is : printed ≡ textsOutput (ruleTextIn input) (recordingTextIn input)
   unfolding programOutput pick
   printed-is =
       p .bytes ∙ (ap (take (p .count)) (p .promised .lies) ∙ (take-at (programOutput input) _ (p .count) (sym (p .promised .count)) ∙ rw (le-ltb maxInputBytes (length input) short)))
@@ -160,13 +160,13 @@ module _ (input printed : List ℕ) (short : length input ≤ maxInputBytes) (p 
 -- Take two runs of the program with one rule text: on a recording text that is cut after state K, with N lowered, and on the whole text, which is
 -- accepted with that rule. If the first prints verdicts that may be announced, the second prints the same verdicts: all its lines but `local` are the
 -- same.
-pub printed-verdicts-stay : (input input′ : List ℕ) (K : ℕ) → length input ≤ maxInputBytes → length input′ ≤ maxInputBytes → ruleIn input ≡ ruleIn input′ →
-    jointNumber (ruleIn input′) (recordingIn input′) ≡ 0 → TextBeginning (recordingIn input) (recordingIn input′) K →
+pub printed-verdicts-stay : (input input′ : List ℕ) (K : ℕ) → length input ≤ maxInputBytes → length input′ ≤ maxInputBytes → ruleTextIn input ≡ ruleTextIn input′ →
+    jointNumber (ruleTextIn input′) (recordingTextIn input′) ≡ 0 → TextBeginning (recordingTextIn input) (recordingTextIn input′) K →
     (printed printed′ : List ℕ) → Printed input printed → Printed input′ printed′ →
     (places plain short : ℕ) (v : Verdicts) → printed ≡ answerLines places plain short v → announced v ≡ true →
     (places′ : ℕ) × (printed′ ≡ answerLines places′ plain short v)
 printed-verdicts-stay input input′ K few few′ rule e b printed printed′ p p′ places plain short v is may =
-    let of : textsOutput (ruleIn input′) (recordingIn input) ≡ answerLines places plain short v
-    = ap (λ (l : List ℕ). textsOutput l (recordingIn input)) (sym rule) ∙ (sym (printed-is input printed few p) ∙ is) in
-    let (places′, q) = announced-lines-stay (ruleIn input′) (recordingIn input) (recordingIn input′) K e b places plain short v of may in
+    let of : textsOutput (ruleTextIn input′) (recordingTextIn input) ≡ answerLines places plain short v
+    = ap (λ (l : List ℕ). textsOutput l (recordingTextIn input)) (sym rule) ∙ (sym (printed-is input printed few p) ∙ is) in
+    let (places′, q) = announced-lines-stay (ruleTextIn input′) (recordingTextIn input) (recordingTextIn input′) K e b places plain short v of may in
     (places′, printed-is input′ printed′ few′ p′ ∙ q)

@@ -1,8 +1,7 @@
 -- What the program prints.
-use mathlib.Core.Path.{_≡_}
 use Prim.Native.Nat.{ℕ, _≤_}
-use mathlib.Core.List.{List, _++_}
-use lib.ListN.{length, take, drop, getD}
+use mathlib.Core.List.{List}
+use lib.ListN.{length, take, getD}
 use Rattle.definitions.specs.Limits.{maxInputBytes}
 use Rattle.definitions.specs.Tables.{Rule, ruleOf}
 use Rattle.definitions.specs.Recordings.{Recording, recordingOf}
@@ -29,9 +28,3 @@ pub record Found (heading nodes masks states : List ℕ) : Type 0 where
   pub masksThere : getD heading 3 0 ≤ length masks
   pub statesThere : getD heading 4 0 ≤ length states
   pub both : Accepted (foundRule heading nodes) (foundRecording heading masks states)
-
--- the output begins with the bytes that are printed, and r is their count; no other byte of it is touched
-pub record OutputIs (printed output : List ℕ) (r : ℕ) (output′ : List ℕ) : Type 0 where
-  pub count : r ≡ length printed
-  pub lies : output′ ≡ printed ++ drop (length printed) output
-  pub within : r ≤ length output′

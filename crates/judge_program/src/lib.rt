@@ -1,16 +1,16 @@
 // The program: both texts are read, judged, and printed of.
 ghost use Rattle.definitions.specs.Program.{textsOutput, programOutput};
-ghost use Rattle.printing.specs.Printing.{Printed};
-ghost use Rattle.judge_program.specs.Output.{TextsRoom, foundRule, foundRecording, Found, OutputIs};
+ghost use Rattle.printing.specs.Printing.{Printed, OutputIs};
+ghost use Rattle.judge_program.specs.Output.{TextsRoom, foundRule, foundRecording, Found};
 ghost use Rattle.report.specs.Judged.{ReportIs};
 use joint_reading::read_joint;
-use judges::headings::RecordingHeading;
-use judges::headings::RuleHeading;
 use program_input::split;
+use recordings::heading::RecordingHeading;
 use report::Report;
 use report::put_refused;
 use report::put_report;
 use report::tables::judge_tables;
+use rules::headings::RuleHeading;
 use rules::limits::Limits;
 use rules::limits::Refusal;
 

@@ -28,14 +28,16 @@ use Rattle.recordings.proofs.WordLaws.{own-mask}
 use Rattle.projection.specs.Places.{runsIn, placesIn, Projectable}
 use Rattle.projection.proofs.LengthLaws.{length-of}
 use Rattle.projection.proofs.PlaceLaws.{projectable, local-places, few-local}
-use Rattle.evaluation.specs.Traced.{traceOf}
+use Rattle.evaluation.specs.Traced as leaves
 use Rattle.evaluation.specs.Nodes.{Evaluable, rowsTo}
-use Rattle.evaluation.proofs.TableLaws.{rows-length, nodes-length}
+use Rattle.evaluation.proofs.TableLaws.{rows-length}
+use Rattle.rules.proofs.NodeLists.{nodes-length}
 use Rattle.rows.proofs.StoredLaws.{pairs-length}
 use Rattle.judges.specs.declared.verdicts.Verdicts.{Verdicts}
 use Rattle.judges.specs.declared.verdicts.Judgement.the-variants.{Judged, Refused}
 use Rattle.judges.specs.Verdicts.{meant, answerOf, ownVerdicts, Topped, topsIn}
-use Rattle.judges.specs.Local.{ownTrace, OwnReady, OwnRows}
+use Rattle.judges.specs.Local.{placesOf, traceOf, verdictsOn, TraceReady, TraceIs, LocalReady, RowsReady, LocalRows}
+use Rattle.judges.specs.declared.local.LocalTrace.{LocalTrace}
 use Rattle.judges.proofs.CheckedNodes.{nodes-fit, nodes-there}
 use Rattle.judges.proofs.TraceLaws.{local-rows}
 use Rattle.judges.proofs.TopLaws.{topped, tops-verdicts}
@@ -75,93 +77,109 @@ module _ (words : List ℕ) (n : ℕ) (entry : List ℕ) (i : ℕ) (l : List ℕ
   pub widening-done : n ≤ i → l ≡ take n words ++ drop n entry
   widening-done h = let e : i ≡ n = omega (arith, so .within) in rw e at (so .laid)
 
--- ---- the rows of an accepted rule over the local trace of an accepted recording
+-- ---- the local trace of an accepted recording
 
-module _ (c count : ℕ) (nodes : List ℕ) (C n : ℕ) (masks states rows : List ℕ) (ready : OwnReady (ruleOf c count nodes) (recordingOf C n masks states) rows) where
-  abbrev r : Rule
-  r = ruleOf c count nodes
-
+module _ (C n : ℕ) (masks states : List ℕ) (c : ℕ) (ready : TraceReady (recordingOf C n masks states) c) where
   abbrev R : Recording
   R = recordingOf C n masks states
 
-  A : Accepted r R
-  A = ready .accepted
+  pub trace-projectable : (words : List ℕ) → maxStates ≤ length words → Projectable n c states words
+  trace-projectable words room = projectable R c words (ready .recording) (ready .controller) room
 
-  pub own-projectable : (words : List ℕ) → maxStates ≤ length words → Projectable n c states words
-  own-projectable words room = projectable R c words (A .recording) (A .controller) room
-
-  nodes-accepted : nodesRefusal false 0 count nodes ≡ 0
-  nodes-accepted = (accepted-rule r (A .rule)) .1
-
-  -- the last place's number, and the number of places
-  module _ (last : ℕ) (le : last ≡ length (runsIn n c states)) where
-    abbrev L : ℕ
-    L = last + 1
-
-    length-few : L ≤ maxStates
-    length-few =
-        let p : Projectable n c states rows = own-projectable rows (omega (arith, ready .room)) in
-        omega (arith, few-local n c states rows p, p .fewStates)
-
-    pub own-length : Fits w64 L
-    own-length = record { fits = omega (arith, length-few) }
-
-    pub own-few : (words words′ : List ℕ) → maxStates ≤ length words → length words′ ≡ length words → L ≤ length words′
-    own-few words words′ room kept = omega (arith, length-few)
-
-    pub own-room : (places : List ℕ) → maxStates ≤ length places → L ≤ length places
-    own-room places room = omega (arith, length-few)
-
-    module _ (mask : ℕ) (me : mask ≡ getD masks c 0) (words words′ : List ℕ) (p : words′ ≡ laid (placesIn n mask c states) words)
-        (places places′ : List ℕ) (w : places′ ≡ take L words′ ++ drop L places) where
-      abbrev content : List ℕ
-      content = placesIn n mask c states
-
-      size : length content ≡ L
-      size = length-of n c mask states ∙ ap (λ (m : ℕ). m + 1) (sym le)
-
-      front : places′ ≡ content ++ drop L places
-      front = w ∙ ap (λ (l : List ℕ). l ++ drop L places) (ap (take L) p ∙ take-at content (drop (length content) words) L size)
-
-      pub own-evaluable : Evaluable nodes count places′ L 0 rows
-      own-evaluable = record {
-        counted = nodes-there false 0 count nodes nodes-accepted;
-        fit = nodes-fit false count nodes nodes-accepted;
-        few = length-few;
-        there = rw (front, length-append) (omega (arith, size));
-        controller = omega arith;
-        room = omega (arith, rule-few r (A .rule), ready .room);
+  pub trace-is : (mask : ℕ) → mask ≡ getD masks c 0 → (words words′ : List ℕ) → maxStates ≤ length words → (count : ℕ) → count ≡ length (runsIn n c states) + 1 →
+      words′ ≡ laid (placesIn n mask c states) words → TraceIs R c (record { controller = c; mask = mask; count = count; words = words′ })
+  trace-is mask me words words′ room count e p =
+      let content : List ℕ = placesIn n mask c states in
+      let size : length content ≡ count = length-of n c mask states ∙ sym e in
+      let own : mask ≡ maskOf R c = me ∙ own-mask R c (ready .controller) in
+      let P : Projectable n c states words = trace-projectable words room in
+      record {
+        controller = refl;
+        mask = own;
+        places = ap (take count) p ∙ take-at content (drop (length content) words) count size ∙ ap (λ (m : ℕ). placesIn n m c states) own ∙ local-places R c;
+        few = omega (arith, few-local n c states words P, P .fewStates);
+        there = omega (arith, ap length p, length-append content (drop (length content) words), size);
       }
 
-      pub own-laid : (rows′ : List ℕ) → rows′ ≡ pairsWords (rowsTo nodes count places′ L 0 mask) ++ drop (count * pairWords) rows → OwnRows r R rows L rows′
-      own-laid rows′ evaluated =
-          let own : mask ≡ maskOf R c = me ∙ own-mask R c (A .controller) in
-          let trace : content ≡ localTrace R c = ap (λ (m : ℕ). placesIn n m c states) own ∙ local-places R c in
-          let same : rowsOf (local mask content) (nodesIn count nodes) ≡ rowsTo nodes count places′ L 0 mask =
-          rw (front, ← size) (local-rows mask 0 content (drop (length content) places) count nodes nodes-accepted) in
-          let rs : rowsOf (ownTrace r R) (nodesIn count nodes) ≡ rowsTo nodes count places′ L 0 mask =
-          ap₂ (λ (m : ℕ) (l : List ℕ). rowsOf (local m l) (nodesIn count nodes)) (sym own) (sym trace) ∙ same in
-          let ns : length (nodesIn count nodes) ≡ count = nodes-length nodes count (own-evaluable .counted) in
-          let len : length (pairsWords (rowsTo nodes count places′ L 0 mask)) ≡ count * pairWords =
-          omega (arith, pairs-length (rowsTo nodes count places′ L 0 mask), rows-length (traceOf places′ L 0 mask) (nodesIn count nodes)) in
-          record {
-            long = sym size ∙ ap length trace;
-            few = length-few;
-            rows = evaluated ∙ rw (rs, len);
-          }
+-- its number of places
+pub trace-length : (R : Recording) (c : ℕ) (l : LocalTrace) → TraceIs R c l → l .count ≡ length (localTrace R c)
+trace-length R c l is = sym (length-take-le (l .count) (l .words) (is .there)) ∙ ap length (is .places)
+
+-- the verdicts over it are the rule's own
+pub trace-verdicts : (r : Rule) (R : Recording) (l : LocalTrace) → TraceIs R (r .controller) l → verdictsOn r l ≡ ownVerdicts r R
+trace-verdicts r R l is = rw (is .mask, is .places)
+
+-- ---- the rows of an accepted rule over a local trace
+
+rows-same : (mask count : ℕ) (nodes content rest : List ℕ) (L : ℕ) → length content ≡ L → nodesRefusal false 0 count nodes ≡ 0 →
+    rowsOf (local mask content) (nodesIn count nodes) ≡ rowsTo nodes count (content ++ rest) L 0 mask
+rows-same mask count nodes content rest L size fine = rw (← size) (local-rows mask 0 content rest count nodes fine)
+
+module _ (c count : ℕ) (nodes : List ℕ) (l : LocalTrace) (rows : List ℕ) (ready : RowsReady (ruleOf c count nodes) l rows) where
+  abbrev r : Rule
+  r = ruleOf c count nodes
+
+  nodes-accepted : nodesRefusal false 0 count nodes ≡ 0
+  nodes-accepted = (accepted-rule r (ready .ready .rule)) .1
+
+  pub rows-there : l .count ≤ length (l .words)
+  rows-there = ready .ready .there
+
+  pub rows-room : (places : List ℕ) → maxStates ≤ length places → l .count ≤ length places
+  rows-room places room = omega (arith, ready .ready .few)
+
+  module _ (places places′ : List ℕ) (w : places′ ≡ take (l .count) (l .words) ++ drop (l .count) places) where
+    abbrev content : List ℕ
+    content = placesOf l
+
+    size : length content ≡ l .count
+    size = length-take-le (l .count) (l .words) (ready .ready .there)
+
+    pub rows-evaluable : Evaluable nodes count places′ (l .count) 0 rows
+    rows-evaluable = record {
+      counted = nodes-there false 0 count nodes nodes-accepted;
+      fit = nodes-fit false count nodes nodes-accepted;
+      few = ready .ready .few;
+      there = rw (w, length-append) (omega (arith, size));
+      controller = omega arith;
+      room = omega (arith, rule-few r (ready .ready .rule), ready .room);
+    }
+
+    pub rows-laid : (rows′ : List ℕ) → rows′ ≡ pairsWords (rowsTo nodes count places′ (l .count) 0 (l .mask)) ++ drop (count * pairWords) rows → LocalRows r l rows rows′
+    rows-laid rows′ evaluated =
+        let L : ℕ = l .count in
+        let mask : ℕ = l .mask in
+        let same : rowsOf (traceOf l) (nodesIn count nodes) ≡ rowsTo nodes count places′ L 0 mask =
+        rows-same mask count nodes content (drop L places) L size nodes-accepted ∙ ap (λ (p : List ℕ). rowsTo nodes count p L 0 mask) (sym w) in
+        let ns : length (nodesIn count nodes) ≡ count = nodes-length nodes count (rows-evaluable .counted) in
+        let len : length (pairsWords (rowsTo nodes count places′ L 0 mask)) ≡ count * pairWords =
+        omega (arith, pairs-length (rowsTo nodes count places′ L 0 mask), rows-length (leaves.traceOf places′ L 0 mask) (nodesIn count nodes)) in
+        record {
+          rows = evaluated ∙ rw (same, len);
+          room =
+              omega (
+                arith,
+                ap length evaluated,
+                length-append (pairsWords (rowsTo nodes count places′ L 0 mask)) (drop (count * pairWords) rows),
+                len,
+                length-drop (count * pairWords) rows,
+                rule-few r (ready .ready .rule),
+                ready .room,
+              );
+        }
 
 -- ---- the verdicts, from the rows
 
-module _ (c count : ℕ) (nodes : List ℕ) (C n : ℕ) (masks states : List ℕ) (given : Accepted (ruleOf c count nodes) (recordingOf C n masks states)) where
-  pub own-ready : (rows : List ℕ) → maxRuleNodes * pairWords ≤ length rows → OwnReady (ruleOf c count nodes) (recordingOf C n masks states) rows
-  own-ready rows room = record { accepted = given; room = room }
+module _ (c count : ℕ) (nodes : List ℕ) (l : LocalTrace) (given : LocalReady (ruleOf c count nodes) l) where
+  pub own-ready : (rows : List ℕ) → maxRuleNodes * pairWords ≤ length rows → RowsReady (ruleOf c count nodes) l rows
+  own-ready rows room = record { ready = given; room = room }
 
   pub own-some : 1 ≤ count
   own-some = omega (arith, rule-some (ruleOf c count nodes) (given .rule))
 
-  module _ (entry rows : List ℕ) (places : ℕ) (own : OwnRows (ruleOf c count nodes) (recordingOf C n masks states) entry places rows) where
+  module _ (entry rows : List ℕ) (own : LocalRows (ruleOf c count nodes) l entry rows) where
     abbrev t : Trace
-    t = ownTrace (ruleOf c count nodes) (recordingOf C n masks states)
+    t = traceOf l
 
     abbrev ns : List Node
     ns = nodesIn count nodes
@@ -170,7 +188,7 @@ module _ (c count : ℕ) (nodes : List ℕ) (C n : ℕ) (masks states : List ℕ
     rest = drop (length (pairsWords (rowsOf t ns))) entry
 
     few : t .places ≤ maxStates
-    few = omega (arith, own .long, own .few)
+    few = omega (arith, length-take-le (l .count) (l .words) (given .there), given .few)
 
     all : length ns ≡ count
     all = rule-length (ruleOf c count nodes) (given .rule)
@@ -181,7 +199,7 @@ module _ (c count : ℕ) (nodes : List ℕ) (C n : ℕ) (masks states : List ℕ
     pub own-topped : Topped rows (count - 1) (count - 1)
     own-topped = topped t ns rows rest (count - 1) (count - 1) few (own .rows) below below
 
-    pub own-judged : (v : Verdicts) → v ≡ topsIn rows (count - 1) (count - 1) → meant v ≡ ownVerdicts (ruleOf c count nodes) (recordingOf C n masks states)
+    pub own-judged : (v : Verdicts) → v ≡ topsIn rows (count - 1) (count - 1) → meant v ≡ verdictsOn (ruleOf c count nodes) l
     own-judged v e =
         tops-verdicts t ns rows rest (count - 1) (count - 1) few (own .rows) below below v e
         ∙ ap (λ (m : ℕ). verdicts t ns (m - 1) (m - 1)) (sym all)
@@ -213,14 +231,23 @@ module _ (c count : ℕ) (nodes : List ℕ) (C n : ℕ) (masks states : List ℕ
         let q = or-else-none (recordingRefusal recording) (controllerRefusal C c) (p .1) in
         record { rule = p .0; recording = q .0; controller = accepted-controller C c (q .1) }
 
-    pub local-judged : (v : Verdicts) → meant v ≡ ownVerdicts rule recording → answerOf (Judged v) ≡ judgeLocalAnswer rule recording
-    unfolding answerOf judgeLocalAnswer
-    local-judged v a = rw (← e, none, a)
+    pub local-traced : TraceReady recording c
+    local-traced = record { recording = local-accepted .recording; controller = local-accepted .controller }
+
+    module _ (l : LocalTrace) (is : TraceIs recording c l) where
+      pub local-ready : LocalReady rule l
+      local-ready = record { rule = local-accepted .rule; few = is .few; there = is .there }
+
+      pub local-judged : (v : Verdicts) → meant v ≡ verdictsOn rule l → answerOf (Judged v) ≡ judgeLocalAnswer rule recording
+      unfolding answerOf judgeLocalAnswer
+      local-judged v a = let own : meant v ≡ ownVerdicts rule recording = a ∙ trace-verdicts rule recording l is in rw (← e, none, own)
 
 pub ruleset widen-laws = (needs, widening-none, widening-length, widening-room, widening-more, widening-done)
 
-pub ruleset rows-laws = (needs, own-projectable, own-length, own-few, own-room, own-evaluable, own-laid)
+pub ruleset trace-laws = (needs, trace-projectable, trace-is)
+
+pub ruleset rows-laws = (needs, rows-there, rows-room, rows-evaluable, rows-laid)
 
 pub ruleset own-laws = (needs, own-ready, own-some, own-topped, own-judged)
 
-pub ruleset local-laws = (needs, local-number, local-refused, local-accepted, local-judged)
+pub ruleset local-laws = (needs, local-number, local-refused, local-traced, local-ready, local-judged)

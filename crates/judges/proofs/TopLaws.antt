@@ -27,6 +27,7 @@ module _ (rows : List ℕ) (weakTop strongTop : ℕ) where
   pub strong-whole : (r : Row) → Topped rows weakTop strongTop → r ≡ rowAt rows (strongTop * pairWords + 3) → Whole r
   strong-whole r t e = rw e (t .strong)
 
+  -- `at_tops`: `topsIn`
   pub tops-read : (a b : Row) (x y : Bool) → a ≡ rowAt rows (weakTop * pairWords) → b ≡ rowAt rows (strongTop * pairWords + 3)
       → x ≡ markAt (marks a) 0 → y ≡ markAt (marks b) 0 → record { weak = x; strong = y } ≡ topsIn rows weakTop strongTop
   unfolding topsIn

@@ -24,7 +24,8 @@ use Rattle.lent.proofs.LeftLaws.{laid-past, laid-begins, left-filled, lent-numb
 use Rattle.recordings.specs.Joining.{joinedRefusal}
 use Rattle.evaluation.specs.Traced.{everyAtom}
 use Rattle.evaluation.specs.Nodes.{Evaluable, rowsTo}
-use Rattle.evaluation.proofs.TableLaws.{rows-length, nodes-length}
+use Rattle.evaluation.proofs.TableLaws.{rows-length}
+use Rattle.rules.proofs.NodeLists.{nodes-length}
 use Rattle.judges.specs.declared.verdicts.Verdicts.{Verdicts}
 use Rattle.judges.specs.declared.verdicts.Judgement.the-variants.{Judged, Refused}
 use Rattle.judges.specs.Verdicts.{answerOf, Topped, topsIn}
@@ -98,6 +99,7 @@ module _ (count : ℕ) (nodes : List ℕ) (weakTop strongTop n : ℕ) (states : 
       pub whole-topped : Topped l weakTop strongTop
       whole-topped = topped (wholeIn n states c) (nodesIn count nodes) l (drop (count * pairWords) entry) weakTop strongTop (ready .few) rows-laid weak-below strong-below
 
+      -- `judge_accepted`
       pub whole-verdicts : (v : Verdicts) (exit : List ℕ) → v ≡ topsIn l weakTop strongTop → exit ≡ cleared l (count * pairWords) maxRowWords
           → WholeVerdicts t n states c entry v exit
       whole-verdicts v exit e x =
@@ -150,6 +152,7 @@ module _ (count : ℕ) (nodes : List ℕ) (weakTop strongTop C n : ℕ) (masks s
   unfolding judgeRecordingNumber
   number-is = rw (← a, ← b, ← o) (sym (lent-number maxRowWords entry short both number s e))
 
+  -- `judge_recording`, refused and judged: `judgeRecordingAnswer`, `judgeRecordingRows`
   pub whole-refused : (number ≡ 0 → ⊥) → (zeroed : ℕ) → zeroed ≡ pick (eqb number lentShort) 0 maxRowWords → (exit : List ℕ) → exit ≡ cleared entry 0 zeroed
       → WholeJudged table R c entry (Refused number) exit
   unfolding judgeRecordingAnswer judgeRecordingRows

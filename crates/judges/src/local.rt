@@ -6,23 +6,32 @@ ghost use lib.ListN.{length, take, drop};
 ghost use Rattle.definitions.specs.Tables.{ruleOf};
 ghost use Rattle.definitions.specs.Recordings.{recordingOf};
 ghost use Rattle.definitions.specs.Operations.{judgeLocalNumber, judgeLocalAnswer};
-ghost use Rattle.theorems.proofs.ScheduleIndependence.{Accepted};
-ghost use Rattle.judges.specs.Headings.{ruleIn, recordingIn};
-ghost use Rattle.judges.specs.Local.{OwnReady, OwnRows};
-ghost use Rattle.judges.specs.Verdicts.{meant, answerOf, ownVerdicts};
-use super::headings::RecordingHeading;
-use super::headings::RuleHeading;
+ghost use Rattle.rules.specs.Headings.{ruleIn};
+ghost use Rattle.recordings.specs.Heading.{recordingIn};
+ghost use Rattle.judges.specs.Local.{TraceReady, TraceIs, LocalReady, RowsReady, LocalRows, verdictsOn};
+ghost use Rattle.judges.specs.Verdicts.{meant, answerOf};
 use super::verdicts::Judgement;
 use super::verdicts::Verdicts;
 use super::verdicts::at_tops;
+use evaluation::UNREAD_CONTROLLER;
 use evaluation::evaluate;
-use projection::places::project_into;
+use projection::places::project_counted;
 use recordings::check::joined_refusal;
+use recordings::heading::RecordingHeading;
 use recordings::masks::mask_at;
 use rules::choice::or_else;
+use rules::headings::RuleHeading;
 use rules::limits::Limits;
 use rules::limits::Refusal;
 use rules::table_check::rule_refusal;
+
+// The local trace of one controller: its mask, how many places there are, and their words; what stands past these does not matter.
+pub struct LocalTrace {
+    pub controller: usize,
+    pub mask: u32,
+    pub count: usize,
+    pub words: [u32; Limits::STATES],
+}
 
 // The rule, then the recording and its controller.
 pub fn local_refusal(
@@ -50,41 +59,53 @@ fn widen(words: &[u32], n: usize, places: &mut [u64])
     }
 }
 
-// The rows of an accepted rule over its local trace; answers how many places that has. Its words need no lent space.
-pub fn local_rows(
-    rule: RuleHeading,
-    nodes: &[u32],
+// The local trace of controller `c` of an accepted recording that has it.
+pub fn local_trace(
+    c: usize,
     recording: RecordingHeading,
     masks: &[u32],
     states: &[u64],
-    rows: &mut [u64],
-) -> usize
-    requires { ⌜ OwnReady (ruleIn rule (now nodes)) (recordingIn recording (now masks) (now states)) (now rows) ⌝ }
-    ensures { λ r. ⌜ OwnRows (ruleIn rule (now (nodes .entry))) (recordingIn recording (now (masks .entry)) (now (states .entry))) (now (rows .entry)) r (now (rows .exit)) ⌝ }
+) -> LocalTrace
+    requires { ⌜ TraceReady (recordingIn recording (now masks) (now states)) c ⌝ }
+    ensures { λ r. ⌜ TraceIs (recordingIn recording (now (masks .entry)) (now (states .entry))) c r ⌝ }
 {
     let mut words = [0u32; Limits::STATES];
-    let mut places = [0u64; Limits::STATES];
-    let c = rule.controller;
     let mask = mask_at(masks, c);
-    let length = project_into(recording.count, mask, c, states, &mut words) + 1;
-    widen(&words, length, &mut places);
-    evaluate(nodes, rule.count, &places, length, 0, mask, rows);
-    length
+    let count = project_counted(recording.count, mask, c, states, &mut words);
+    LocalTrace {
+        controller: c,
+        mask: mask,
+        count: count,
+        words: words,
+    }
 }
 
-// An accepted rule on the local trace of an accepted recording: "the last is the rule". Its rows need no lent space.
-pub fn judge_accepted(
-    rule: RuleHeading,
-    nodes: &[u32],
-    recording: RecordingHeading,
-    masks: &[u32],
-    states: &[u64],
-) -> Verdicts
-    requires { ⌜ Accepted (ruleIn rule (now nodes)) (recordingIn recording (now masks) (now states)) ⌝ }
-    ensures { λ r. ⌜ meant r ≡ ownVerdicts (ruleIn rule (now (nodes .entry))) (recordingIn recording (now (masks .entry)) (now (states .entry))) ⌝ }
+// The rows of an accepted rule over a local trace.
+pub fn local_rows(rule: RuleHeading, nodes: &[u32], trace: LocalTrace, rows: &mut [u64])
+    requires { ⌜ RowsReady (ruleIn rule (now nodes)) trace (now rows) ⌝ }
+    ensures { λ _. ⌜ LocalRows (ruleIn rule (now (nodes .entry))) trace (now (rows .entry)) (now (rows .exit)) ⌝ }
+{
+    let mut places = [0u64; Limits::STATES];
+    let words = trace.words;
+    widen(&words, trace.count, &mut places);
+    evaluate(
+        nodes,
+        rule.count,
+        &places,
+        trace.count,
+        UNREAD_CONTROLLER,
+        trace.mask,
+        rows,
+    );
+}
+
+// An accepted rule on a local trace: "the last is the rule". Its rows need no lent space.
+pub fn judge_accepted_locally(rule: RuleHeading, nodes: &[u32], trace: LocalTrace) -> Verdicts
+    requires { ⌜ LocalReady (ruleIn rule (now nodes)) trace ⌝ }
+    ensures { λ r. ⌜ meant r ≡ verdictsOn (ruleIn rule (now (nodes .entry))) trace ⌝ }
 {
     let mut rows = [0u64; Limits::RULE_NODES * Limits::PAIR_WORDS];
-    local_rows(rule, nodes, recording, masks, states, &mut rows);
+    local_rows(rule, nodes, trace, &mut rows);
     let last = rule.count - 1;
     at_tops(&rows, last, last)
 }
@@ -113,5 +134,6 @@ pub fn judge_local(
     if refusal != Refusal::NONE {
         return Judgement::Refused(refusal);
     }
-    Judgement::Judged(judge_accepted(rule, nodes, recording, masks, states))
+    let trace = local_trace(controller, recording, masks, states);
+    Judgement::Judged(judge_accepted_locally(rule, nodes, trace))
 }

@@ -82,10 +82,12 @@ cap-count n =
     (λ e. rw (e, sym c ∙ e))
 
 module _ (line : List ℕ) (f : Field) (e : f ≡ capped (decimal line)) where
+  -- `print_count`, `countOutput`: no decimal number
   pub count-malformed : f ≡ Malformed → (k : ℕ) (o : List ℕ) → Prints (refusalText ruleForm) k o → Prints (countOutput line) k o
   unfolding countOutput onParsed
   count-malformed x k o p = rw (capped-malformed (decimal line) f e x) p
 
+  -- `print_count`, `countOutput`: so many nodes, or 2
   pub count-printed : (c : ℕ) → f ≡ Number c → (u a : Node) → Built Until 0 0 u → Built Atom 0 0 a → (v w : ℕ) → v ≡ nodeWord (meaning u) → w ≡ nodeWord (meaning a)
       → (k : ℕ) (o : List ℕ) → Prints (writtenOutput (ruleOf 0 c (set (replicate maxRuleNodes v) 0 w))) k o → Prints (countOutput line) k o
   unfolding countOutput onParsed
@@ -102,10 +104,12 @@ pub ruleset count-laws = (needs, count-malformed, count-printed)
 
 -- ---- `print_longest`
 module _ (input : List ℕ) (l : OnlyLine) (is : OnlyLineOf input l) where
+  -- `print_longest`, `longestOutput`: a refused input
   pub longest-refused : (l .number ≡ 0 → ⊥) → (k : ℕ) (o : List ℕ) → Prints (refusalText (l .number)) k o → Prints (longestOutput input) k o
   unfolding longestOutput
   longest-refused z k o p = input-refused input l is z (countOutput (lineOf input)) k o p
 
+  -- `print_longest`, `longestOutput`: its only line
   pub longest-printed : l .number ≡ 0 → (k : ℕ) (o : List ℕ) → Prints (countOutput (take (l .len) input)) k o → Prints (longestOutput input) k o
   unfolding longestOutput
   longest-printed z k o p = input-printed input l is z countOutput k o p

@@ -46,6 +46,7 @@ module _ (input : List ℕ) (l : Line) (is : FirstLine input l) where
       (λ e. e ∙ sym (eq-eqb (length (restOf input)) 0 (omega (arith, eqb-true (l .next) (length input) e))))
       (λ e. e ∙ sym (ne-eqb (length (restOf input)) 0 (λ z. eqb-false (l .next) (length input) e (omega (arith, is .inside)))))
 
+  -- `only_line`, `inputRefusal`: its return
   pub only-line : (form number : ℕ) → form ≡ pick (ltb (l .len) (length input) && eqb (l .next) (length input)) accepted ruleForm
       → number ≡ pick (ltb maxInputBytes (length input)) inputLong form → OnlyLineOf input (record { number = number; len = l .len })
   unfolding inputRefusal
@@ -66,6 +67,7 @@ module _ (number : ℕ) (low : number < 2 ^ 8) (o : List ℕ) (room : length o �
       pub refusal-end : r₂ < length o₂
       refusal-end = omega (arith, number-short, word .next, field .next)
 
+      -- `put_refusal`, `refusalText`: its return
       pub refusal-put : (o₃ : List ℕ) (r₃ : ℕ) → Printed (newline ∷ []) o₂ r₂ r₃ o₃ → Printed (refusalText number) o 0 r₃ o₃
       unfolding refusalText
       refusal-put o₃ r₃ end =
@@ -95,6 +97,7 @@ module _ (number : ℕ) (low : number < 2 ^ 8) (o : List ℕ) (room : length o �
   pub refusal-full : maxRuleBytes ≤ length o′
   refusal-full = omega arith
 
+  -- `print_refusal`, `refusalText`: its return
   pub refusal-printed : (o″ : List ℕ) → o″ ≡ cleared o′ r maxRuleBytes → Prints (refusalText number) r o″
   unfolding laidAt cleared
   refusal-printed o″ e =
@@ -124,6 +127,7 @@ module _ (rule : Rule) (o : List ℕ) (room : length o ≡ maxRuleBytes) (w : Ru
     unfolding answer
     fine = sym (ap (λ (a : Answer). a .number) written)
 
+    -- `print_rule`, `writtenOutput`: the text of the rule
     pub rule-written : Prints (writtenOutput rule) end o′
     unfolding writtenOutput refusalOr answer pick writeRuleText
     rule-written =
@@ -146,6 +150,7 @@ module _ (rule : Rule) (o : List ℕ) (room : length o ≡ maxRuleBytes) (w : Ru
     unfolding answer pick
     some-number z = let l : _≡_ {A = ℕ} 0 1 = ap (λ (a : Answer). length (a .values)) (rw z at refused-is) in omega arith
 
+    -- `print_rule`, `writtenOutput`: its refusal
     pub rule-refused : (k : ℕ) (o″ : List ℕ) → Prints (refusalText number) k o″ → Prints (writtenOutput rule) k o″
     unfolding writtenOutput refusalOr
     rule-refused k o″ p =

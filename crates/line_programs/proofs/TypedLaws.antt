@@ -55,6 +55,7 @@ module _ (controller : ℕ) (line nodes exit : List ℕ) (r : RuleRead) (v : Rea
     unfolding readLineNumber
     refused-line = refused-number ∙ pick-false (tooShort maxRuleNodes nodes) lentShort (lineRefusal controller line) (le-ltb (length nodes) maxRuleNodes full)
 
+    -- `print_line`, `lineOutput`: a refused line
     pub line-refused : (k : ℕ) (o : List ℕ) → Prints (refusalText number) k o → Prints (lineOutput controller line) k o
     unfolding lineOutput refusalOr
     line-refused k o p =
@@ -80,6 +81,7 @@ module _ (controller : ℕ) (line nodes exit : List ℕ) (r : RuleRead) (v : Rea
         let c : count ≡ length (lineNodes line) = cc in
         rw (o, c, v .nodes)
 
+    -- `print_line`, `lineOutput`: the rule
     pub line-printed : (k : ℕ) (o : List ℕ) → Prints (writtenOutput (ruleOf owner count exit)) k o → Prints (lineOutput controller line) k o
     unfolding writtenOutput refusalOr pick
     line-printed k o p =
@@ -125,6 +127,7 @@ cap-output n line =
     (λ e. pick-false _ _ _ e ∙ (ap refusalText (cap-refusal n line) ∙ sym (pick-false _ _ _ (rw (cap-refusal n line) at e))))
 
 module _ (line : List ℕ) (i : ℕ) (is : i ≡ before tab line) where
+  -- `print_typed`, `typedOutput`: no tab
   pub typed-missed : length line ≤ i → (k : ℕ) (o : List ℕ) → Prints (refusalText ruleForm) k o → Prints (typedOutput line) k o
   unfolding typedOutput
   typed-missed h k o p = rw (pick-false (has tab line) _ (refusalText ruleForm) (has-no tab line i is h)) p
@@ -137,10 +140,12 @@ module _ (line : List ℕ) (i : ℕ) (is : i ≡ before tab line) where
     unfolding typedOutput
     there = pick-true (has tab line) _ (refusalText ruleForm) (has-yes tab line i is h)
 
+    -- `print_typed`, `typedOutput`: no decimal controller
     pub typed-malformed : f ≡ Malformed → (k : ℕ) (o : List ℕ) → Prints (refusalText ruleForm) k o → Prints (typedOutput line) k o
     unfolding onParsed
     typed-malformed x k o p = rw (there, capped-malformed (decimal (upTo tab line)) f field x) p
 
+    -- `print_typed`, `typedOutput`: a controller and a line
     pub typed-printed : (c : ℕ) → f ≡ Number c → (t : List ℕ) → t ≡ drop (i + 1) line → (k : ℕ) (o : List ℕ) → Prints (lineOutput c t) k o → Prints (typedOutput line) k o
     unfolding onParsed
     typed-printed c x t ts k o p =
@@ -153,10 +158,12 @@ pub ruleset typed-laws = (needs, part-laws, typed-missed, typed-malformed, typed
 
 -- ---- `print_rule`
 module _ (input : List ℕ) (l : OnlyLine) (is : OnlyLineOf input l) where
+  -- `print_rule`, `ruleOutput`: a refused input
   pub rule-refused : (l .number ≡ 0 → ⊥) → (k : ℕ) (o : List ℕ) → Prints (refusalText (l .number)) k o → Prints (ruleOutput input) k o
   unfolding ruleOutput
   rule-refused z k o p = input-refused input l is z (typedOutput (lineOf input)) k o p
 
+  -- `print_rule`, `ruleOutput`: its only line
   pub rule-printed : l .number ≡ 0 → (k : ℕ) (o : List ℕ) → Prints (typedOutput (take (l .len) input)) k o → Prints (ruleOutput input) k o
   unfolding ruleOutput
   rule-printed z k o p = input-printed input l is z typedOutput k o p

@@ -49,10 +49,12 @@ unfolding flatRefusal
 capped-refusal controller s = rw (capped-flat s operand 0, capped-most s 0 0, capped-weight s, capped-low s)
 
 module _ (controller : ℕ) (line codes : List ℕ) where
+  -- `check`, `lineRefusal`: a line that is too long
   pub check-long : length codes ≡ maxLineBytes → maxLineBytes < length line → LineChecked controller line lineForm 0 codes
   check-long w h = record { refusal = sym (long-refused controller line h); spelt = λ e. absurd (omega arith); whole = w }
 
   module _ (entry : List ℕ) (r : Signs) (s : Scanned line r codes) (h : length line ≤ maxLineBytes) (kept : length codes ≡ length entry) (full : length entry ≡ maxLineBytes) where
+    -- `check`, `lineRefusal`: a line that spells no signs
     pub check-nothing : r ≡ found.Nothing → LineChecked controller line lineForm 0 codes
     check-nothing e = record { refusal = sym (unspelled-refused controller line h (s .none e)); spelt = λ q. absurd (omega arith); whole = kept ∙ full }
 
@@ -66,6 +68,7 @@ module _ (controller : ℕ) (line codes : List ℕ) where
       pub check-few : length (take n codes) ≤ maxLineBytes
       check-few = omega (arith, check-part, check-within, kept, full)
 
+      -- `check`, `lineRefusal`: by its signs
       pub check-counted : (number : ℕ) → number ≡ flatRefusal controller (signs (take n codes)) → LineChecked controller line number n codes
       unfolding onParsed
       check-counted number q =
@@ -88,6 +91,7 @@ pub record Copied (words entry : List ℕ) (i : ℕ) (l : List ℕ) : Type 0 whe
   pub part : l ≡ take i words ++ drop i entry
 
 module _ (words entry : List ℕ) (all : length words ≡ maxRuleNodes) (room : maxRuleNodes ≤ length entry) where
+  -- `lay`, `laid`: before the first turn
   pub lay-none : Copied words entry 0 entry
   lay-none = record { high = omega arith; part = refl }
 
@@ -98,12 +102,14 @@ module _ (words entry : List ℕ) (all : length words ≡ maxRuleNodes) (room : 
     pub lay-room : i < maxRuleNodes → i < length l
     lay-room h = omega (arith, lay-kept)
 
+    -- `lay`, `laid`: a turn, one word more
     pub lay-more : i < maxRuleNodes → Copied words entry (i + 1) (set l i (getD words i 0))
     lay-more h =
         let e : set (take i words ++ drop i entry) i (getD words i 0) ≡ take (suc i) words ++ drop (suc i) entry
         = rw (zero-add i, zero-add (suc i)) at (paste-suc entry 0 words i 0 (omega arith) (omega arith)) in
         record { high = omega arith; part = rw (v .part, add-one i) e }
 
+    -- `lay`, `laid`: after the last word
     pub lay-all : maxRuleNodes ≤ i → l ≡ laid words entry
     lay-all h = let e : i ≡ length words = omega (arith, v .high) in v .part ∙ rw (e, take-length words)
 
@@ -127,9 +133,9 @@ line-not-short controller line e = go (lineRefusal controller line) (refusal-rig
     go n (outside s t h r few o) e = omega arith
     go n (none s t h r few l) e = omega arith
 
-left-other : (number full : ℕ) (content entry : List ℕ) → (number ≡ lentShort → ⊥) → (number ≡ 0 → ⊥) → cleared entry 0 full ≡ left number full content entry
+left-refused : (number full : ℕ) (content entry : List ℕ) → (number ≡ lentShort → ⊥) → (number ≡ 0 → ⊥) → cleared entry 0 full ≡ left number full content entry
 unfolding left cleared
-left-other number full content entry short some =
+left-refused number full content entry short some =
     rw (sub-zero full)
     (sym (pick-false (eqb number lentShort) entry _ (ne-eqb number lentShort short) ∙ pick-false (eqb number accepted) _ _ (ne-eqb number 0 some)))
 
@@ -142,6 +148,7 @@ module _ (controller : ℕ) (line entry : List ℕ) where
   unfolding readLineNumber
   full-number h = pick-false (tooShort maxRuleNodes entry) lentShort _ (le-ltb (length entry) maxRuleNodes h)
 
+  -- `read_line`, `readLineAnswer` and `readLineNodes`: 13
   pub read-short : length entry < maxRuleNodes → ReadLine controller line entry (rule.Refused lentShort) entry
   unfolding readLineAnswer readLineNodes
   read-short h =
@@ -152,6 +159,7 @@ module _ (controller : ℕ) (line entry : List ℕ) where
       }
 
   module _ (room : maxRuleNodes ≤ length entry) (number n : ℕ) (codes : List ℕ) (v : LineChecked controller line number n codes) where
+    -- `read_line`, `readLineAnswer` and `readLineNodes`: 15, 16 or 2
     pub read-refused : (exit : List ℕ) → (number ≡ 0 → ⊥) → exit ≡ cleared entry 0 maxRuleNodes → ReadLine controller line entry (rule.Refused number) exit
     unfolding readLineAnswer readLineNodes
     read-refused exit some e =
@@ -159,7 +167,7 @@ module _ (controller : ℕ) (line entry : List ℕ) where
         let short : number ≡ lentShort → ⊥ = λ z. line-not-short controller line (sym (v .refusal) ∙ z) in
         record {
           answered = rw q (refused-answer number _ some);
-          nodes = rw q (e ∙ left-other number maxRuleNodes (map nodeWord (lineNodes line)) entry short some);
+          nodes = rw q (e ∙ left-refused number maxRuleNodes (map nodeWord (lineNodes line)) entry short some);
         }
 
     module _ (fine : number ≡ 0) where
@@ -226,6 +234,7 @@ module _ (controller : ℕ) (line entry : List ℕ) where
         unfolding laidAt
         read-lies = let z : 0 + length line-words ≡ length line-words = omega arith in (rw z at (read-laid .lies)) ∙ rw (drop-zeros maxRuleNodes (length line-words))
 
+        -- `read_line`, `readLineAnswer` and `readLineNodes`: the rule
         pub read-accepted : (exit : List ℕ) → exit ≡ laid out entry → ReadLine controller line entry (rule.Rule controller made) exit
         unfolding readLineAnswer readLineNodes line-words
         read-accepted exit e =

@@ -38,14 +38,16 @@ pub relaid : {xs ys o o′ : List ℕ} {at r : ℕ} → xs ≡ ys → Laid xs o 
 relaid e l = rw e at l
 
 -- ---- `not`
+-- `not`, `notWords`: its return
 pub not-laid : (e v : ℕ) (o : List ℕ) → SpaceBehind 1 e o → v ≡ nodeWord (node table.Not (e - 1) 0) → Laid (notWords e) o e (e + 1) (set o e v)
 not-laid e v o s q = relaid (rw q) (laid-one v o e (omega (arith, s .room, s .held)))
 
 -- ---- `dual`
 module _ (w e n : ℕ) (o o₁ : List ℕ) (s : SpaceBehind 3 e o) (first : Laid (notWords e) o e n o₁) where
-  pub dual-second : SpaceBehind 1 (n + 1) (set o₁ n w)
-  dual-second = record { behind = omega arith; room = omega (arith, first .next, s .room); held = omega (arith, s .held, first .kept, length-set o₁ n w) }
+  pub dual-room : SpaceBehind 1 (n + 1) (set o₁ n w)
+  dual-room = record { behind = omega arith; room = omega (arith, first .next, s .room); held = omega (arith, s .held, first .kept, length-set o₁ n w) }
 
+  -- `dual`, `dualWords`: its return
   pub dual-laid : (r : ℕ) (o₂ : List ℕ) → Laid (notWords (n + 1)) (set o₁ n w) (n + 1) r o₂ → Laid (dualWords w e) o e r o₂
   dual-laid r o₂ last =
       let same : n + 1 - 1 ≡ e + 1 = omega (arith, first .next) in
@@ -90,22 +92,26 @@ module _ (c b : ℕ) (o : List ℕ) (s : SpaceFirst c b o) where
   pub open-always-room : c ≡ 7 → b < maxRuleNodes
   open-always-room q = omega (arith, s .room, ap length (always-first c q))
 
+  -- `open_prefix`, `prefixFirst`: `F`
   pub open-future : (w : ℕ) → c ≡ 6 → w ≡ nodeWord (node table.True 0 0) → Laid (words (prefixFirst (prefixOf c))) o b (b + 1) (set o b w)
   open-future w q e = relaid (rw (future-first c q, e)) (laid-one w o b (omega (arith, open-future-room q, s .held)))
 
+  -- `open_prefix`, `prefixFirst`: `G`
   pub open-always : (w : ℕ) → c ≡ 7 → w ≡ nodeWord (node table.True 0 0) → Laid (words (prefixFirst (prefixOf c))) o b (b + 1) (set o b w)
   open-always w q e = relaid (rw (always-first c q, e)) (laid-one w o b (omega (arith, open-always-room q, s .held)))
 
-  pub open-none : (c ≡ 6 → ⊥) → (c ≡ 7 → ⊥) → Laid (words (prefixFirst (prefixOf c))) o b b o
-  open-none n m = relaid (rw (other-first c (s .low) (s .high) n m)) (laid-none o b (omega (arith, s .room, s .held)))
+  -- `open_prefix`, `prefixFirst`: the other prefixes
+  pub open-other : (c ≡ 6 → ⊥) → (c ≡ 7 → ⊥) → Laid (words (prefixFirst (prefixOf c))) o b b o
+  open-other n m = relaid (rw (other-first c (s .low) (s .high) n m)) (laid-none o b (omega (arith, s .room, s .held)))
 
-pub ruleset open-laws = (needs, open-future-room, open-always-room, open-future, open-always, open-none)
+pub ruleset open-laws = (needs, open-future-room, open-always-room, open-future, open-always, open-other)
 
 -- ---- `close_prefix`
 module _ (c b e : ℕ) (o : List ℕ) (s : SpaceLast c b e o) where
   pub close-dual : c ≡ 7 → SpaceBehind 3 e o
   close-dual q = record { behind = omega (arith, s .order); room = omega (arith, s .room, ap length (always-last c b e q)); held = s .held }
 
+  -- `close_prefix`, `prefixLast`: `G`
   pub close-always : (w r : ℕ) (o′ : List ℕ) → c ≡ 7 → w ≡ nodeWord (node (untilKind 11) b e) → Laid (dualWords w e) o e r o′ → Laid (words (prefixLast (prefixOf c) b e)) o e r o′
   unfolding untilKind pick
   close-always w r o′ q t l = relaid (rw (always-last c b e q, t)) l
@@ -113,7 +119,8 @@ module _ (c b e : ℕ) (o : List ℕ) (s : SpaceLast c b e o) where
   pub close-room : (c ≡ 7 → ⊥) → e < maxRuleNodes
   close-room n = omega (arith, s .room, ap length (other-last c b e (s .low) (s .high) n))
 
-  pub close-one : (w : ℕ) → (c ≡ 7 → ⊥) → w ≡ nodeWord (prefixNode c b e) → Laid (words (prefixLast (prefixOf c) b e)) o e (e + 1) (set o e w)
-  close-one w n t = relaid (rw (other-last c b e (s .low) (s .high) n, t)) (laid-one w o e (omega (arith, close-room n, s .held)))
+  -- `close_prefix`, `prefixLast`: the other prefixes
+  pub close-other : (w : ℕ) → (c ≡ 7 → ⊥) → w ≡ nodeWord (prefixNode c b e) → Laid (words (prefixLast (prefixOf c) b e)) o e (e + 1) (set o e w)
+  close-other w n t = relaid (rw (other-last c b e (s .low) (s .high) n, t)) (laid-one w o e (omega (arith, close-room n, s .held)))
 
-pub ruleset close-laws = (needs, close-dual, close-always, close-room, close-one)
+pub ruleset close-laws = (needs, close-dual, close-always, close-room, close-other)

@@ -5,7 +5,7 @@ use mathlib.Core.Bool.{true, false, Bool}
 use mathlib.Core.List.{List}
 use lib.ListN.{length, getD}
 use Rattle.definitions.specs.Limits.{maxRuleNodes, maxLineBytes}
-use Rattle.definitions.specs.OneLineSigns.{Sign, truth, atom, before, between, opening, closing}
+use Rattle.definitions.specs.OneLineSigns.{Sign, trueSign, atomSign, prefixSign, infixSign, openBracket, closeBracket, Implies, Or, And, Until, Since}
 use Rattle.definitions.specs.OneLineGrammar.{Tree, Level, Phrase, mostOpen}
 use Rattle.definitions.specs.OneLineNodes.{ruleTreeOf, nodesFrom}
 use Rattle.theorems.proofs.Phrases.{flat, operand, weight, tight}
@@ -27,12 +27,25 @@ pub record Ready (left : ℕ) (cs : List ℕ) (at made : ℕ) (out : List ℕ) :
 
 -- whether a sign is a prefix
 abbrev pub isPrefix : Sign → Bool
-isPrefix truth = false
-isPrefix (atom n) = false
-isPrefix (before x) = true
-isPrefix (between x) = false
-isPrefix opening = false
-isPrefix closing = false
+isPrefix trueSign = false
+isPrefix (atomSign n) = false
+isPrefix (prefixSign x) = true
+isPrefix (infixSign x) = false
+isPrefix openBracket = false
+isPrefix closeBracket = false
+
+-- whether a sign is `U` or `S`
+abbrev pub isUntil : Sign → Bool
+isUntil trueSign = false
+isUntil (atomSign n) = false
+isUntil (prefixSign x) = false
+isUntil (infixSign Implies) = false
+isUntil (infixSign Or) = false
+isUntil (infixSign And) = false
+isUntil (infixSign Until) = true
+isUntil (infixSign Since) = true
+isUntil openBracket = false
+isUntil closeBracket = false
 
 -- before a primary is read: no prefix stands there
 pub record Primed (left : ℕ) (cs : List ℕ) (at made : ℕ) (out : List ℕ) : Type 0 where

@@ -8,7 +8,8 @@ ghost use Prim.Native.Nat.{_≤_};
 ghost use lib.ListN.{getD, take};
 ghost use Rattle.definitions.specs.Limits.{maxLineBytes};
 ghost use Rattle.definitions.specs.OneLineGrammar.{Arrows, Ors, Ands, Untils, Prefixes, Primaries};
-ghost use Rattle.one_line_readers.specs.Reading.{Ready, Primed, Read};
+ghost use Rattle.one_line_signs.specs.Codes.{signOf};
+ghost use Rattle.one_line_readers.specs.Reading.{isPrefix, isUntil, Ready, Primed, Read};
 use one_line_signs::sign::Sign;
 use rules::limits::Limits;
 
@@ -24,6 +25,20 @@ fn peek(codes: &[u8; Limits::LINE_BYTES], count: usize, at: usize) -> u8
     ensures { λ r. ⌜ r ≡ getD (take count (now (codes .entry))) at 0 ⌝ }
 {
     if at < count { codes[at] } else { Sign::CLOSING }
+}
+
+// Whether a sign is one of `! X Y F G`.
+fn is_prefix(c: u8) -> bool
+    ensures { λ r. ⌜ r ≡ isPrefix (signOf c) ⌝ }
+{
+    (Sign::NOT <= c) & (c <= Sign::ALWAYS)
+}
+
+// Whether a sign is `U` or `S`.
+fn is_until(c: u8) -> bool
+    ensures { λ r. ⌜ r ≡ isUntil (signOf c) ⌝ }
+{
+    (Sign::UNTIL <= c) & (c <= Sign::SINCE)
 }
 
 // "`->` (to the right)": p, not, q, or.
@@ -128,21 +143,18 @@ fn untils(
     let a = p.at;
     let m = p.made;
     let c = peek(codes, count, a);
-    if c < Sign::UNTIL {
-        return Spot { at: a, made: m };
+    if is_until(c) {
+        let next = a + 1;
+        let q = untils(codes, count, next, left, m, nodes);
+        let e = q.made;
+        let end = e + 1;
+        nodes[e] = word::until(c, m - 1, e - 1);
+        return Spot {
+            at: q.at,
+            made: end,
+        };
     }
-    if Sign::SINCE < c {
-        return Spot { at: a, made: m };
-    }
-    let next = a + 1;
-    let q = untils(codes, count, next, left, m, nodes);
-    let e = q.made;
-    let end = e + 1;
-    nodes[e] = word::until(c, m - 1, e - 1);
-    Spot {
-        at: q.at,
-        made: end,
-    }
+    Spot { at: a, made: m }
 }
 
 // "prefixes `! X Y F G`".
@@ -159,21 +171,18 @@ fn prefixes(
     ensures { λ r. ⌜ Read Prefixes 5 (take count (now (codes .entry))) at made (now (nodes .entry)) (r .at) (r .made) (now (nodes .exit)) ⌝ }
 {
     let c = peek(codes, count, at);
-    if c < Sign::NOT {
-        return primaries(codes, count, at, left, made, nodes);
+    if is_prefix(c) {
+        let n = write::open_prefix(c, made, nodes);
+        let next = at + 1;
+        let p = prefixes(codes, count, next, left, n, nodes);
+        let e = p.made;
+        let end = write::close_prefix(c, made, e, nodes);
+        return Spot {
+            at: p.at,
+            made: end,
+        };
     }
-    if Sign::ALWAYS < c {
-        return primaries(codes, count, at, left, made, nodes);
-    }
-    let n = write::open_prefix(c, made, nodes);
-    let next = at + 1;
-    let p = prefixes(codes, count, next, left, n, nodes);
-    let e = p.made;
-    let end = write::close_prefix(c, made, e, nodes);
-    Spot {
-        at: p.at,
-        made: end,
-    }
+    primaries(codes, count, at, left, made, nodes)
 }
 
 // "`true`, `a` with an atom number, or a bracketed rule".

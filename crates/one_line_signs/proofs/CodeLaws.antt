@@ -12,7 +12,7 @@ use lib.Dec.{ltb}
 use borrow.Author.Tests.{lt-ltb, le-ltb, ltb-true, ltb-false}
 use Rattle.definitions.specs.Limits.{atomCount}
 use Rattle.definitions.specs.Bounded.{pick}
-use Rattle.definitions.specs.OneLineSigns.{Sign, truth, atom, before, between, opening, closing}
+use Rattle.definitions.specs.OneLineSigns.{Sign, trueSign, atomSign, prefixSign, infixSign, openBracket, closeBracket}
 use Rattle.definitions.specs.OneLineGrammar.{larger, mostOpen}
 use Rattle.theorems.proofs.Choice.{by-test, both-true}
 use Rattle.theorems.proofs.Phrases.{Due, operand, operator, flat, signNodes, weight, signLow, lowAtoms}
@@ -36,9 +36,9 @@ by-code P p0 p1 p2 p3 p4 p5 p6 p7 p8 p9 p10 p11 p12 more (suc (suc (suc (suc (su
 by-code P p0 p1 p2 p3 p4 p5 p6 p7 p8 p9 p10 p11 p12 more (suc (suc (suc (suc (suc (suc (suc (suc (suc (suc (suc (suc zero)))))))))))) = p12
 by-code P p0 p1 p2 p3 p4 p5 p6 p7 p8 p9 p10 p11 p12 more (suc (suc (suc (suc (suc (suc (suc (suc (suc (suc (suc (suc (suc n))))))))))))) = more n
 
-pub atom-sign : (c : ℕ) → 13 ≤ c → signOf c ≡ atom (c - 13)
+pub atom-sign : (c : ℕ) → 13 ≤ c → signOf c ≡ atomSign (c - 13)
 unfolding signOf
-atom-sign = by-code (λ c. 13 ≤ c → signOf c ≡ atom (c - 13)) (λ h. absurd (omega arith)) (λ h. absurd (omega arith)) (λ h. absurd (omega arith)) (λ h. absurd (omega arith)) (λ h. absurd (omega arith)) (λ h. absurd (omega arith)) (λ h. absurd (omega arith)) (λ h. absurd (omega arith)) (λ h. absurd (omega arith)) (λ h. absurd (omega arith)) (λ h. absurd (omega arith)) (λ h. absurd (omega arith)) (λ h. absurd (omega arith)) (λ n h. ap atom (omega arith))
+atom-sign = by-code (λ c. 13 ≤ c → signOf c ≡ atomSign (c - 13)) (λ h. absurd (omega arith)) (λ h. absurd (omega arith)) (λ h. absurd (omega arith)) (λ h. absurd (omega arith)) (λ h. absurd (omega arith)) (λ h. absurd (omega arith)) (λ h. absurd (omega arith)) (λ h. absurd (omega arith)) (λ h. absurd (omega arith)) (λ h. absurd (omega arith)) (λ h. absurd (omega arith)) (λ h. absurd (omega arith)) (λ h. absurd (omega arith)) (λ n h. ap atomSign (omega arith))
 
 -- an atom is low where its code is
 pub code-low : (c : ℕ) → ltb c 45 ≡ signLow (signOf c)
@@ -101,62 +101,62 @@ cap-test n =
 pub capped-low : (s : List Sign) → lowAtoms (cappedSigns s) ≡ lowAtoms s
 unfolding cappedSigns capped lowAtoms signLow
 capped-low [] = refl
-capped-low (truth ∷ s) = capped-low s
-capped-low (atom n ∷ s) = rw (capped-low s, cap-test n)
-capped-low (before x ∷ s) = capped-low s
-capped-low (between x ∷ s) = capped-low s
-capped-low (opening ∷ s) = capped-low s
-capped-low (closing ∷ s) = capped-low s
+capped-low (trueSign ∷ s) = capped-low s
+capped-low (atomSign n ∷ s) = rw (capped-low s, cap-test n)
+capped-low (prefixSign x ∷ s) = capped-low s
+capped-low (infixSign x ∷ s) = capped-low s
+capped-low (openBracket ∷ s) = capped-low s
+capped-low (closeBracket ∷ s) = capped-low s
 
 pub capped-weight : (s : List Sign) → weight (cappedSigns s) ≡ weight s
 unfolding cappedSigns capped weight signNodes
 capped-weight [] = refl
-capped-weight (truth ∷ s) = rw (capped-weight s)
-capped-weight (atom n ∷ s) = rw (capped-weight s)
-capped-weight (before x ∷ s) = rw (capped-weight s)
-capped-weight (between x ∷ s) = rw (capped-weight s)
-capped-weight (opening ∷ s) = rw (capped-weight s)
-capped-weight (closing ∷ s) = rw (capped-weight s)
+capped-weight (trueSign ∷ s) = rw (capped-weight s)
+capped-weight (atomSign n ∷ s) = rw (capped-weight s)
+capped-weight (prefixSign x ∷ s) = rw (capped-weight s)
+capped-weight (infixSign x ∷ s) = rw (capped-weight s)
+capped-weight (openBracket ∷ s) = rw (capped-weight s)
+capped-weight (closeBracket ∷ s) = rw (capped-weight s)
 
 pub capped-most : (s : List Sign) (most k : ℕ) → mostOpen most k (cappedSigns s) ≡ mostOpen most k s
 unfolding cappedSigns capped mostOpen
 capped-most [] most k = refl
-capped-most (truth ∷ s) most k = capped-most s most k
-capped-most (atom n ∷ s) most k = capped-most s most k
-capped-most (before x ∷ s) most k = capped-most s most k
-capped-most (between x ∷ s) most k = capped-most s most k
-capped-most (opening ∷ s) most k = capped-most s (larger most (k + 1)) (k + 1)
-capped-most (closing ∷ s) most k = capped-most s most (k - 1)
+capped-most (trueSign ∷ s) most k = capped-most s most k
+capped-most (atomSign n ∷ s) most k = capped-most s most k
+capped-most (prefixSign x ∷ s) most k = capped-most s most k
+capped-most (infixSign x ∷ s) most k = capped-most s most k
+capped-most (openBracket ∷ s) most k = capped-most s (larger most (k + 1)) (k + 1)
+capped-most (closeBracket ∷ s) most k = capped-most s most (k - 1)
 
 pub capped-flat : (s : List Sign) (due : Due) (k : ℕ) → flat (cappedSigns s) due k ≡ flat s due k
 unfolding cappedSigns capped flat
 capped-flat [] due k = refl
-capped-flat (truth ∷ s) operand k = capped-flat s operator k
-capped-flat (truth ∷ s) operator k = refl
-capped-flat (atom n ∷ s) operand k = capped-flat s operator k
-capped-flat (atom n ∷ s) operator k = refl
-capped-flat (before x ∷ s) operand k = capped-flat s operand k
-capped-flat (before x ∷ s) operator k = refl
-capped-flat (between x ∷ s) operand k = refl
-capped-flat (between x ∷ s) operator k = capped-flat s operand k
-capped-flat (opening ∷ s) operand k = capped-flat s operand (suc k)
-capped-flat (opening ∷ s) operator k = refl
-capped-flat (closing ∷ s) operand k = refl
-capped-flat (closing ∷ s) operator zero = refl
-capped-flat (closing ∷ s) operator (suc k) = capped-flat s operator k
+capped-flat (trueSign ∷ s) operand k = capped-flat s operator k
+capped-flat (trueSign ∷ s) operator k = refl
+capped-flat (atomSign n ∷ s) operand k = capped-flat s operator k
+capped-flat (atomSign n ∷ s) operator k = refl
+capped-flat (prefixSign x ∷ s) operand k = capped-flat s operand k
+capped-flat (prefixSign x ∷ s) operator k = refl
+capped-flat (infixSign x ∷ s) operand k = refl
+capped-flat (infixSign x ∷ s) operator k = capped-flat s operand k
+capped-flat (openBracket ∷ s) operand k = capped-flat s operand (suc k)
+capped-flat (openBracket ∷ s) operator k = refl
+capped-flat (closeBracket ∷ s) operand k = refl
+capped-flat (closeBracket ∷ s) operator zero = refl
+capped-flat (closeBracket ∷ s) operator (suc k) = capped-flat s operator k
 
 -- signs whose atoms are low are told exactly
 pub capped-same : (s : List Sign) → lowAtoms s ≡ true → cappedSigns s ≡ s
 unfolding cappedSigns capped lowAtoms signLow
 capped-same [] e = refl
-capped-same (truth ∷ s) e = rw (capped-same s e)
-capped-same (atom n ∷ s) e =
+capped-same (trueSign ∷ s) e = rw (capped-same s e)
+capped-same (atomSign n ∷ s) e =
     let p = both-true (ltb n atomCount) (lowAtoms s) e in
     rw (capped-same s (p .1), ← (cap-low n (ltb-true n atomCount (p .0))))
-capped-same (before x ∷ s) e = rw (capped-same s e)
-capped-same (between x ∷ s) e = rw (capped-same s e)
-capped-same (opening ∷ s) e = rw (capped-same s e)
-capped-same (closing ∷ s) e = rw (capped-same s e)
+capped-same (prefixSign x ∷ s) e = rw (capped-same s e)
+capped-same (infixSign x ∷ s) e = rw (capped-same s e)
+capped-same (openBracket ∷ s) e = rw (capped-same s e)
+capped-same (closeBracket ∷ s) e = rw (capped-same s e)
 
 -- where each atom is low, each code is
 pub codes-low : (cs : List ℕ) → lowAtoms (signs cs) ≡ true → (i : ℕ) → getD cs i 0 < 45

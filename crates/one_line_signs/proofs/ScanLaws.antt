@@ -51,6 +51,7 @@ pub record Scanning (line entry : List ℕ) (at n : ℕ) (codes : List ℕ) : Ty
   pub room : length line ≤ length codes
   pub kept : length codes ≡ length entry
 
+-- `scan`, `signsOf`: before the first turn
 pub scan-start : (line codes : List ℕ) → length line ≤ length codes → Scanning line codes 0 0 codes
 unfolding signs cappedSigns
 scan-start line codes h = record { done = []; read = after-none (signsOf line); coded = refl; few = omega arith; within = omega arith; room = h; kept = refl }
@@ -78,12 +79,14 @@ counted line n codes v = record {
 }
 
 module _ (line entry codes : List ℕ) (at n : ℕ) (v : Scanning line entry at n codes) where
+  -- `scan`, `signsOf`: nothing stands after the last space, or at all
   pub scan-end : length line ≤ at → Scanned line found.Nothing codes
   scan-end h =
       let e : signsOf (drop at line) ≡ malformed = rw (drop-of-length-le line {i = at} h) signs-empty in
       nothing (v .read ∙ rest-none (v .done) (signsOf (drop at line)) e)
 
   module _ (h : at < length line) (r : Token) (s : SignAt line at r) where
+    -- `scan`, `signsOf`: no sign stands there
     pub scan-none : r ≡ token.Nothing → Scanned line found.Nothing codes
     scan-none e = nothing (v .read ∙ rest-none (v .done) (signsOf (drop at line)) (signs-none (drop at line) (s .none e)))
 
@@ -98,6 +101,7 @@ module _ (line entry codes : List ℕ) (at n : ℕ) (v : Scanning line entry at 
           ∙ (signs-append (take n codes) (c ∷ [])
           ∙ (rw (v .coded, s .there c next e .code) (sym (capped-append (v .done) (s .there c next e .named ∷ [])))))
 
+      -- `scan`, `signsOf`: the last sign ends the line
       pub scan-last : next ≡ length line → Scanned line (found.Count (n + 1)) (set codes n c)
       scan-last q =
           let t = s .there c next e in
@@ -113,6 +117,7 @@ module _ (line entry codes : List ℕ) (at n : ℕ) (v : Scanning line entry at 
       pub scan-next : (next ≡ length line → ⊥) → next < length line
       scan-next q = omega (arith, s .there c next e .within)
 
+      -- `scan`, `signsOf`: a turn, one sign more
       pub scan-again : (next ≡ length line → ⊥) → (at′ : ℕ) → AfterSpace line next at′ → Scanning line entry at′ (n + 1) (set codes n c)
       scan-again q at′ a =
           let t = s .there c next e in

@@ -13,7 +13,7 @@ use borrow.Author.Tests.{eq-eqb, ne-eqb, eqb-true, eqb-false, le-leb, lt-leb, lt
 use Rattle.definitions.specs.Limits.{atomCount}
 use Rattle.definitions.specs.Bounded.{pick, within}
 use Rattle.definitions.specs.Lines.{Parsed, formed, malformed, onParsed, decimal, same}
-use Rattle.definitions.specs.OneLineSigns.{Sign, truth, atom, between, Implies, space}
+use Rattle.definitions.specs.OneLineSigns.{Sign, trueSign, atomSign, infixSign, Implies, space}
 use Rattle.definitions.specs.OneLineReading as reading
 use Rattle.definitions.specs.OneLineReading.{past, taken, wordSigns, signAmong, digitsAhead, atomFirst, signFirst, afterSpace}
 use Rattle.theorems.proofs.Choice.{by-test, pick-true, pick-false}
@@ -33,6 +33,7 @@ line-cons line i h = rw (add-one, drop-cons line i 0 h)
 
 -- ---- `after_space`
 module _ (line : List ℕ) (at : ℕ) (h : at < length line) where
+  -- `after_space`, `afterSpace`: a space stands there
   pub space-there : getD line at 0 ≡ 32 → AfterSpace line at (at + 1)
   unfolding afterSpace
   space-there e = record {
@@ -41,6 +42,7 @@ module _ (line : List ℕ) (at : ℕ) (h : at < length line) where
     within = omega arith;
   }
 
+  -- `after_space`, `afterSpace`: none does
   pub space-none : (getD line at 0 ≡ 32 → ⊥) → AfterSpace line at at
   unfolding afterSpace
   space-none n = record {
@@ -52,9 +54,11 @@ module _ (line : List ℕ) (at : ℕ) (h : at < length line) where
 pub ruleset space-laws = (needs, space-there, space-none)
 
 -- ---- `atom`
+-- `atom`, `atomCode`: an atom below the limit
 pub atom-low : (n : ℕ) → n < atomCount → 13 + n ≡ atomCode n
 atom-low n h = ap (λ (m : ℕ). 13 + m) (cap-low n h)
 
+-- `atom`, `atomCode`: the limit, and above
 pub atom-high : (n : ℕ) → atomCount ≤ n → 45 ≡ atomCode n
 atom-high n h = omega (arith, cap-high n h)
 
@@ -82,26 +86,31 @@ pub record Passed (line : List ℕ) (at i : ℕ) : Type 0 where
   pub count : at + digitsAhead (drop at line) ≡ i + digitsAhead (drop i line)
   pub within : i ≤ length line
 
+-- `digits_end`, `digitsAhead`: before the first turn
 pub digits-start : (line : List ℕ) (at : ℕ) → at ≤ length line → Passed line at at
 digits-start line at h = record { count = refl; within = h }
 
 module _ (line : List ℕ) (at i : ℕ) (p : Passed line at i) where
+  -- `digits_end`, `digitsAhead`: the end of the line
   pub digits-stop : length line ≤ i → DigitsEnd line at i
   digits-stop h =
       let e : digitsAhead (drop i line) ≡ 0 = rw (drop-of-length-le line {i = i} h) none-ends in
       record { place = omega (arith, p .count); within = p .within }
 
   module _ (h : i < length line) where
+    -- `digits_end`, `digitsAhead`: a byte below `0`
     pub digits-low : getD line i 0 < 48 → DigitsEnd line at i
     digits-low k =
         let e : digitsAhead (drop i line) ≡ 0 = rw (line-cons line i h) (low-ends (getD line i 0) (drop (i + 1) line) k) in
         record { place = omega (arith, p .count); within = p .within }
 
+    -- `digits_end`, `digitsAhead`: a byte above `9`
     pub digits-high : 57 < getD line i 0 → DigitsEnd line at i
     digits-high k =
         let e : digitsAhead (drop i line) ≡ 0 = rw (line-cons line i h) (high-ends (getD line i 0) (drop (i + 1) line) k) in
         record { place = omega (arith, p .count); within = p .within }
 
+    -- `digits_end`, `digitsAhead`: a turn, past a digit
     pub digits-next : 48 ≤ getD line i 0 → getD line i 0 ≤ 57 → Passed line at (i + 1)
     digits-next l k =
         let e : digitsAhead (drop i line) ≡ suc (digitsAhead (drop (i + 1) line))
@@ -130,10 +139,12 @@ past-same (x ∷ w) (y ∷ t) h =
     (λ e. rw (e, sym (eqb-swap x y) ∙ e))
 
 module _ (line : List ℕ) (at : ℕ) (word : List ℕ) (h : at ≤ length line) where
+  -- `begins`, `past`: the line is too short
   pub begins-short : length line - at < length word → Begun line at word false
   unfolding pick
   begins-short k = record { read = past-short word (drop at line) (rw length-drop k); fits = λ e. absurd (true≢false (sym e)) }
 
+  -- `begins`, `past`: the bytes are compared
   pub begins-same : (end : ℕ) (r : Bool) → end ≡ at + length word → length word ≤ length line - at → r ≡ same (take (end - at) (drop at line)) word → Begun line at word r
   begins-same end r e k s =
       let d : end - at ≡ length word = omega arith in
@@ -148,50 +159,62 @@ pub ruleset begins-laws = (needs, begins-short, begins-same)
 
 -- ---- `single`
 module _ (b : ℕ) where
+  -- `single`, `signFirst`: `(`
   pub single-opening : b ≡ 40 → Single b 1
   unfolding signFirst signAmong atomFirst past pick onParsed signOf capped
   single-opening e = record { there = λ h u. rw e; code = λ h. refl; none = λ h. absurd (omega arith) }
 
+  -- `single`, `signFirst`: `)`
   pub single-closing : b ≡ 41 → Single b 0
   unfolding signFirst signAmong atomFirst past pick onParsed signOf capped
   single-closing e = record { there = λ h u. rw e; code = λ h. refl; none = λ h. absurd (omega arith) }
 
+  -- `single`, `signFirst`: `!`
   pub single-not : b ≡ 33 → Single b 3
   unfolding signFirst signAmong atomFirst past pick onParsed signOf capped
   single-not e = record { there = λ h u. rw e; code = λ h. refl; none = λ h. absurd (omega arith) }
 
+  -- `single`, `signFirst`: `X`
   pub single-next : b ≡ 88 → Single b 4
   unfolding signFirst signAmong atomFirst past pick onParsed signOf capped
   single-next e = record { there = λ h u. rw e; code = λ h. refl; none = λ h. absurd (omega arith) }
 
+  -- `single`, `signFirst`: `Y`
   pub single-prev : b ≡ 89 → Single b 5
   unfolding signFirst signAmong atomFirst past pick onParsed signOf capped
   single-prev e = record { there = λ h u. rw e; code = λ h. refl; none = λ h. absurd (omega arith) }
 
+  -- `single`, `signFirst`: `F`
   pub single-future : b ≡ 70 → Single b 6
   unfolding signFirst signAmong atomFirst past pick onParsed signOf capped
   single-future e = record { there = λ h u. rw e; code = λ h. refl; none = λ h. absurd (omega arith) }
 
+  -- `single`, `signFirst`: `G`
   pub single-always : b ≡ 71 → Single b 7
   unfolding signFirst signAmong atomFirst past pick onParsed signOf capped
   single-always e = record { there = λ h u. rw e; code = λ h. refl; none = λ h. absurd (omega arith) }
 
+  -- `single`, `signFirst`: `|`
   pub single-or : b ≡ 124 → Single b 9
   unfolding signFirst signAmong atomFirst past pick onParsed signOf capped
   single-or e = record { there = λ h u. rw e; code = λ h. refl; none = λ h. absurd (omega arith) }
 
+  -- `single`, `signFirst`: `&`
   pub single-and : b ≡ 38 → Single b 10
   unfolding signFirst signAmong atomFirst past pick onParsed signOf capped
   single-and e = record { there = λ h u. rw e; code = λ h. refl; none = λ h. absurd (omega arith) }
 
+  -- `single`, `signFirst`: `U`
   pub single-until : b ≡ 85 → Single b 11
   unfolding signFirst signAmong atomFirst past pick onParsed signOf capped
   single-until e = record { there = λ h u. rw e; code = λ h. refl; none = λ h. absurd (omega arith) }
 
+  -- `single`, `signFirst`: `S`
   pub single-since : b ≡ 83 → Single b 12
   unfolding signFirst signAmong atomFirst past pick onParsed signOf capped
   single-since e = record { there = λ h u. rw e; code = λ h. refl; none = λ h. absurd (omega arith) }
 
+  -- `single`: no sign of one byte
   pub single-none : (b ≡ 40 → ⊥) → (b ≡ 41 → ⊥) → (b ≡ 33 → ⊥) → (b ≡ 88 → ⊥) → (b ≡ 89 → ⊥) → (b ≡ 70 → ⊥) → (b ≡ 71 → ⊥) → (b ≡ 124 → ⊥) → (b ≡ 38 → ⊥) → (b ≡ 85 → ⊥) → (b ≡ 83 → ⊥) → Single b 13
   single-none n40 n41 n33 n88 n89 n70 n71 n124 n38 n85 n83 = record {
     there = λ h. absurd (omega arith);
@@ -237,29 +260,31 @@ module _ (line : List ℕ) (at end : ℕ) (h : at < length line) (d : DigitsEnd 
   read-number : f ≡ cappedField (decimal (take (digitsAhead (drop (at + 1) line)) (drop (at + 1) line)))
   read-number = rw digits-there at e
 
+  -- `atom_at`, `atomFirst`: no number stands there
   pub atom-none : f ≡ Malformed → AtomAt line at token.Nothing
   unfolding atomFirst past pick onParsed
   atom-none x =
       let z = capped-malformed (decimal (take (digitsAhead (drop (at + 1) line)) (drop (at + 1) line))) f read-number x in
       took-none _ line at (rw z)
 
-  told : (c n m : ℕ) → c ≡ atomCode n → n ≡ cap m → signOf c ≡ capped (atom m)
+  told : (c n m : ℕ) → c ≡ atomCode n → n ≡ cap m → signOf c ≡ capped (atomSign m)
   unfolding capped
   told c n m i j =
       let z : c - 13 ≡ capAtom n = omega arith in
-      atom-sign c (omega arith) ∙ ap atom (z ∙ (ap capAtom j ∙ cap-cap m))
+      atom-sign c (omega arith) ∙ ap atomSign (z ∙ (ap capAtom j ∙ cap-cap m))
 
-  atom-read : (u rest : List ℕ) (m : ℕ) → decimal (take (digitsAhead u) u) ≡ formed m → drop (digitsAhead u) u ≡ rest → atomFirst (97 ∷ u) ≡ formed (taken (atom m) rest)
+  atom-read : (u rest : List ℕ) (m : ℕ) → decimal (take (digitsAhead u) u) ≡ formed m → drop (digitsAhead u) u ≡ rest → atomFirst (97 ∷ u) ≡ formed (taken (atomSign m) rest)
   unfolding atomFirst past pick onParsed
   atom-read u rest m e f = rw (e, f)
 
+  -- `atom_at`, `atomFirst`: the atom with its number
   pub atom-there : (n c : ℕ) → f ≡ Number n → c ≡ atomCode n → AtomAt line at (token.Sign c end)
   atom-there n c x i =
       let u = drop (at + 1) line in
       let z = capped-read (decimal (take (digitsAhead u) u)) f n read-number x in
       let rest : drop (digitsAhead u) u ≡ drop end line = drop-drop (digitsAhead u) (at + 1) line ∙ ap (λ (k : ℕ). drop k line) (sym (d .place)) in
       took _ line at c end (record {
-        named = atom (z .number);
+        named = atomSign (z .number);
         read = atom-read u (drop end line) (z .number) (z .is) rest;
         code = told c n (z .number) i (z .answered);
         order = omega (arith, d .place);
@@ -304,6 +329,7 @@ first-none b u n a i t =
     )
 
 module _ (line : List ℕ) (at : ℕ) (h : at < length line) where
+  -- `sign_at`, `signFirst`: a sign of one byte
   pub sign-single : (c : ℕ) → Single (getD line at 0) c → c < 13 → SignAt line at (token.Sign c (at + 1))
   sign-single c s k =
       took _ line at c (at + 1) (record {
@@ -314,21 +340,25 @@ module _ (line : List ℕ) (at : ℕ) (h : at < length line) where
         within = omega arith;
       })
 
+  -- `sign_at`, `signFirst`: `a` and what follows
   pub sign-atom : (r : Token) → getD line at 0 ≡ 97 → AtomAt line at r → SignAt line at r
   sign-atom r e a = rw (line-cons line at h, e, first-atom (drop (at + 1) line)) a
 
+  -- `sign_at`, `signFirst`: `->`
   pub sign-implies : (r : Bool) → Begun line at (45 ∷ 62 ∷ []) r → r ≡ true → SignAt line at (token.Sign 8 (at + 2))
   unfolding pick signFirst signAmong atomFirst past onParsed signOf capped
   sign-implies r b e =
       let d = past-begins (45 ∷ 62 ∷ []) (drop at line) (drop (at + 2) line) (b .read ∙ rw e) in
-      took _ line at 8 (at + 2) (record { named = between Implies; read = rw d; code = refl; order = omega arith; within = b .fits e })
+      took _ line at 8 (at + 2) (record { named = infixSign Implies; read = rw d; code = refl; order = omega arith; within = b .fits e })
 
+  -- `sign_at`, `signFirst`: `true`
   pub sign-true : (r : Bool) → Begun line at (116 ∷ 114 ∷ 117 ∷ 101 ∷ []) r → r ≡ true → SignAt line at (token.Sign 2 (at + 4))
   unfolding pick signFirst signAmong atomFirst past onParsed signOf capped
   sign-true r b e =
       let d = past-begins (116 ∷ 114 ∷ 117 ∷ 101 ∷ []) (drop at line) (drop (at + 4) line) (b .read ∙ rw e) in
-      took _ line at 2 (at + 4) (record { named = truth; read = rw d; code = refl; order = omega arith; within = b .fits e })
+      took _ line at 2 (at + 4) (record { named = trueSign; read = rw d; code = refl; order = omega arith; within = b .fits e })
 
+  -- `sign_at`, `signFirst`: no sign
   pub sign-none : (c : ℕ) (i t : Bool) → Single (getD line at 0) c → 13 ≤ c → (getD line at 0 ≡ 97 → ⊥) → Begun line at (45 ∷ 62 ∷ []) i → i ≡ false
       → Begun line at (116 ∷ 114 ∷ 117 ∷ 101 ∷ []) t → t ≡ false → SignAt line at token.Nothing
   unfolding pick

@@ -5,24 +5,24 @@ use lib.Dec.{ltb}
 use lib.ListN.{drop}
 use Rattle.definitions.specs.Limits.{atomCount}
 use Rattle.definitions.specs.Bounded.{pick}
-use Rattle.definitions.specs.OneLineSigns.{Sign, truth, atom, before, between, opening, closing, Not, Next, Prev, Future, Always, Implies, Or, And, Until, Since}
+use Rattle.definitions.specs.OneLineSigns.{Sign, trueSign, atomSign, prefixSign, infixSign, openBracket, closeBracket, Not, Next, Prev, Future, Always, Implies, Or, And, Until, Since}
 
 -- the sign of a code
 unfoldable pub signOf : ℕ → Sign
-signOf zero = closing
-signOf (suc zero) = opening
-signOf (suc (suc zero)) = truth
-signOf (suc (suc (suc zero))) = before Not
-signOf (suc (suc (suc (suc zero)))) = before Next
-signOf (suc (suc (suc (suc (suc zero))))) = before Prev
-signOf (suc (suc (suc (suc (suc (suc zero)))))) = before Future
-signOf (suc (suc (suc (suc (suc (suc (suc zero))))))) = before Always
-signOf (suc (suc (suc (suc (suc (suc (suc (suc zero)))))))) = between Implies
-signOf (suc (suc (suc (suc (suc (suc (suc (suc (suc zero))))))))) = between Or
-signOf (suc (suc (suc (suc (suc (suc (suc (suc (suc (suc zero)))))))))) = between And
-signOf (suc (suc (suc (suc (suc (suc (suc (suc (suc (suc (suc zero))))))))))) = between Until
-signOf (suc (suc (suc (suc (suc (suc (suc (suc (suc (suc (suc (suc zero)))))))))))) = between Since
-signOf (suc (suc (suc (suc (suc (suc (suc (suc (suc (suc (suc (suc (suc n))))))))))))) = atom n
+signOf zero = closeBracket
+signOf (suc zero) = openBracket
+signOf (suc (suc zero)) = trueSign
+signOf (suc (suc (suc zero))) = prefixSign Not
+signOf (suc (suc (suc (suc zero)))) = prefixSign Next
+signOf (suc (suc (suc (suc (suc zero))))) = prefixSign Prev
+signOf (suc (suc (suc (suc (suc (suc zero)))))) = prefixSign Future
+signOf (suc (suc (suc (suc (suc (suc (suc zero))))))) = prefixSign Always
+signOf (suc (suc (suc (suc (suc (suc (suc (suc zero)))))))) = infixSign Implies
+signOf (suc (suc (suc (suc (suc (suc (suc (suc (suc zero))))))))) = infixSign Or
+signOf (suc (suc (suc (suc (suc (suc (suc (suc (suc (suc zero)))))))))) = infixSign And
+signOf (suc (suc (suc (suc (suc (suc (suc (suc (suc (suc (suc zero))))))))))) = infixSign Until
+signOf (suc (suc (suc (suc (suc (suc (suc (suc (suc (suc (suc (suc zero)))))))))))) = infixSign Since
+signOf (suc (suc (suc (suc (suc (suc (suc (suc (suc (suc (suc (suc (suc n))))))))))))) = atomSign n
 
 -- the signs of a list of codes
 unfoldable pub signs : List ℕ → List Sign
@@ -43,12 +43,12 @@ atomCode n = 13 + capAtom n
 
 -- signs as the codes tell them: an atom above the limit is the limit
 unfoldable pub capped : Sign → Sign
-capped truth = truth
-capped (atom n) = atom (capAtom n)
-capped (before x) = before x
-capped (between x) = between x
-capped opening = opening
-capped closing = closing
+capped trueSign = trueSign
+capped (atomSign n) = atomSign (capAtom n)
+capped (prefixSign x) = prefixSign x
+capped (infixSign x) = infixSign x
+capped openBracket = openBracket
+capped closeBracket = closeBracket
 
 unfoldable pub cappedSigns : List Sign → List Sign
 cappedSigns [] = []

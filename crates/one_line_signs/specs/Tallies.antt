@@ -6,7 +6,7 @@ use mathlib.Core.List.{List}
 use lib.Dec.{eqb, ltb, leb}
 use Rattle.definitions.specs.Limits.{accepted, maxControllers, maxRuleNodes, maxOpenBrackets, maxLineBytes, ruleLimits, lineForm, bracketsDeep}
 use Rattle.definitions.specs.Bounded.{pick}
-use Rattle.definitions.specs.OneLineSigns.{Sign, truth, atom, before, between, opening, closing}
+use Rattle.definitions.specs.OneLineSigns.{Sign, trueSign, atomSign, prefixSign, infixSign, openBracket, closeBracket}
 use Rattle.definitions.specs.OneLineGrammar.{larger, openAtOnce}
 use Rattle.theorems.proofs.Phrases.{flat, operand, signNodes, weight, signLow, lowAtoms}
 use Rattle.one_line_signs.specs.Codes.{signOf, signs}
@@ -14,30 +14,30 @@ use Rattle.one_line_signs.specs.declared.tally.Tally.{Tally}
 
 -- a sign may stand where an operand is due, or else an operator
 unfoldable pub mayStand : Sign → Bool → ℕ → Bool
-mayStand truth due k = due
-mayStand (atom n) due k = due
-mayStand (before x) due k = due
-mayStand (between x) due k = not due
-mayStand opening due k = due
-mayStand closing due k = not due && ltb 0 k
+mayStand trueSign due k = due
+mayStand (atomSign n) due k = due
+mayStand (prefixSign x) due k = due
+mayStand (infixSign x) due k = not due
+mayStand openBracket due k = due
+mayStand closeBracket due k = not due && ltb 0 k
 
 -- an operand is due after it
 unfoldable pub dueAfter : Sign → Bool
-dueAfter truth = false
-dueAfter (atom n) = false
-dueAfter (before x) = true
-dueAfter (between x) = true
-dueAfter opening = true
-dueAfter closing = false
+dueAfter trueSign = false
+dueAfter (atomSign n) = false
+dueAfter (prefixSign x) = true
+dueAfter (infixSign x) = true
+dueAfter openBracket = true
+dueAfter closeBracket = false
 
 -- so many brackets are open after it
 unfoldable pub openAfter : Sign → ℕ → ℕ
-openAfter truth k = k
-openAfter (atom n) k = k
-openAfter (before x) k = k
-openAfter (between x) k = k
-openAfter opening k = k + 1
-openAfter closing k = k - 1
+openAfter trueSign k = k
+openAfter (atomSign n) k = k
+openAfter (prefixSign x) k = k
+openAfter (infixSign x) k = k
+openAfter openBracket k = k + 1
+openAfter closeBracket k = k - 1
 
 -- counts that are far from overflowing
 pub record Few (t : Tally) : Type 0 where
@@ -46,28 +46,28 @@ pub record Few (t : Tally) : Type 0 where
 
 -- one sign more
 pub record Stepped (t : Tally) (c : ℕ) (r : Tally) : Type 0 where
-  pub good : r .good ≡ (t .good && mayStand (signOf c) (t .due) (t .opened))
+  pub placed : r .placed ≡ (t .placed && mayStand (signOf c) (t .due) (t .opened))
   pub due : r .due ≡ dueAfter (signOf c)
   pub opened : r .opened ≡ openAfter (signOf c) (t .opened)
   pub most : r .most ≡ larger (t .most) (openAfter (signOf c) (t .opened))
   pub nodes : r .nodes ≡ t .nodes + signNodes (signOf c)
-  pub low : r .low ≡ (t .low && signLow (signOf c))
+  pub low-atoms : r .«low_atoms» ≡ (t .«low_atoms» && signLow (signOf c))
 
 -- the signs end well
 abbrev pub ended : Tally → Bool
-ended t = t .good && not (t .due) && eqb (t .opened) 0
+ended t = t .placed && not (t .due) && eqb (t .opened) 0
 
 -- all signs
 pub record Tallied (codes : List ℕ) (r : Tally) : Type 0 where
   pub sentence : ended r ≡ flat (signs codes) operand 0
   pub most : r .most ≡ openAtOnce (signs codes)
   pub nodes : r .nodes ≡ weight (signs codes)
-  pub low : r .low ≡ lowAtoms (signs codes)
+  pub low-atoms : r .«low_atoms» ≡ lowAtoms (signs codes)
 
 -- the refusal by the counts
 unfoldable pub tallyRefusal : ℕ → Tally → ℕ
 tallyRefusal controller t =
     pick (ended t)
     (pick (ltb maxOpenBrackets (t .most)) bracketsDeep
-    (pick (ltb maxRuleNodes (t .nodes) || not (t .low) || leb maxControllers controller) ruleLimits accepted))
+    (pick (ltb maxRuleNodes (t .nodes) || not (t .«low_atoms») || leb maxControllers controller) ruleLimits accepted))
     lineForm

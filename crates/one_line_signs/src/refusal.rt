@@ -16,8 +16,10 @@ use rules::limits::Refusal;
 fn of_tally(controller: usize, t: Tally) -> u8
     ensures { λ r. ⌜ r ≡ tallyRefusal controller t ⌝ }
 {
-    let sentence = t.good & !t.due & (t.opened == 0);
-    let outside = (Limits::RULE_NODES < t.nodes) | !t.low | (Limits::CONTROLLERS <= controller);
+    let sentence = t.placed & !t.due & (t.opened == 0);
+    let outside = (Limits::RULE_NODES < t.nodes)
+        | !t.low_atoms
+        | (Limits::CONTROLLERS <= controller);
     let limits = pick(outside, Refusal::RULE_LIMITS, Refusal::NONE);
     let depth = pick(
         Limits::OPEN_BRACKETS < t.most,

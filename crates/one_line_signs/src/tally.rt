@@ -13,12 +13,12 @@ use rules::limits::Limits;
 // The signs so far: whether each stands where it may, whether an operand is due, the brackets that are open, the most that were, the
 // nodes that the signs add, and whether each atom is below its limit.
 pub struct Tally {
-    pub good: bool,
+    pub placed: bool,
     pub due: bool,
     pub opened: usize,
     pub most: usize,
     pub nodes: usize,
-    pub low: bool,
+    pub low_atoms: bool,
 }
 
 // Whether a sign may stand where an operand is due, or else an operator.
@@ -97,12 +97,12 @@ fn step(t: Tally, c: u8) -> Tally
     let stands = may_stand(c, t.due, t.opened);
     let opened = open_after(c, t.opened);
     Tally {
-        good: t.good & stands,
+        placed: t.placed & stands,
         due: due_after(c),
         opened: opened,
         most: pick_index(t.most < opened, opened, t.most),
         nodes: t.nodes + nodes_of(c),
-        low: t.low & (c < Sign::ATOM + Limits::ATOMS as u8),
+        low_atoms: t.low_atoms & (c < Sign::ATOM + Limits::ATOMS as u8),
     }
 }
 
@@ -112,12 +112,12 @@ pub fn count(codes: &[u8]) -> Tally
     ensures { λ r. ⌜ Tallied (now (codes .entry)) r ⌝ }
 {
     let mut t = Tally {
-        good: true,
+        placed: true,
         due: true,
         opened: 0,
         most: 0,
         nodes: 0,
-        low: true,
+        low_atoms: true,
     };
     let mut i = 0;
     while i < codes.len() {

@@ -4,20 +4,23 @@ use mathlib.Core.Bool.{Bool, true, false}
 use mathlib.Core.List.{List}
 use Prim.Native.Nat.{ℕ, suc, _+_, _-_, _^_, _<_, _≤_}
 use native.Mathlib.Omega.{arith}
-use lib.ListN.{length, take, drop, length-drop}
+use lib.ListN.{length, take, drop, length-take, length-drop}
+use lib.Seq.{length-take-le}
 use mir.Syntax.{w64}
 use mir.Val.{Fits}
 use borrow.Author.Needs.{needs}
 use borrow.Author.Tests.{ltb-true}
+use Rattle.definitions.specs.Limits.{maxInputBytes}
 use Rattle.definitions.specs.Lines.{newline, before, lineLength, lineOf, isClosed, restAt, restOf, same}
-use Rattle.definitions.specs.Program.{splitLine, ruleLength}
+use Rattle.definitions.specs.Program.{splitLine, ruleLength, ruleTextIn, recordingTextIn}
 use Rattle.theorems.proofs.InputSplit.{split-open, split-here, split-later, split-enough, split-inside, empty-open, rest-length}
 use Rattle.lines.proofs.PartLaws.{part-to-end}
 use Rattle.lines.specs.Reading.{FirstLine}
 use Rattle.lines.specs.declared.Line.{Line}
+use Rattle.program_input.specs.declared.Parts.{Parts}
 use Rattle.lines.proofs.NextLaws.{line-part, line-part-laws, short-closed, whole-open}
 use Rattle.lines.proofs.LoopLaws.{after-line, line-inside}
-use Rattle.program_input.specs.Splitting.{SplitAt}
+use Rattle.program_input.specs.Splitting.{SplitAt, Texts}
 
 -- ---- `is_split`
 pub is-dash : (t : List ℕ) (len : ℕ) (r : Bool) → len ≡ lineLength t → r ≡ same (take len t) splitLine → r ≡ same (lineOf t) splitLine
@@ -116,3 +119,18 @@ module _ (s : List ℕ) (r : ℕ) (is : r ≡ ruleLength (length s) s) where
     }
 
 pub ruleset split-laws = (needs, split-start, split-fits, split-some)
+
+-- ---- what a caller has
+module _ (input : List ℕ) (s : Parts) (is : SplitAt input s) where
+  pub rule-counted : s .«rule_end» ≡ length (take (s .«rule_end») input)
+  rule-counted = sym (length-take-le (s .«rule_end») input (is .ruleInside))
+
+  pub texts-fit : length input ≤ maxInputBytes → Texts (take (s .«rule_end») input) (take (length input - s .«recording_at») (drop (s .«recording_at») input))
+  texts-fit short = record {
+    ruleFits = rw length-take (omega arith);
+    recordingFits = rw (part-to-end input (s .«recording_at»), length-drop) (omega arith);
+  }
+
+  -- the two texts are those of the input
+  pub texts-of : (P : List ℕ → List ℕ → Type 0) → P (take (s .«rule_end») input) (take (length input - s .«recording_at») (drop (s .«recording_at») input)) → P (ruleTextIn input) (recordingTextIn input)
+  texts-of P p = rw (← is .rule, ← is .recording, ← part-to-end input (s .«recording_at»)) p

@@ -32,15 +32,15 @@ values-of : (number : ℕ) (values : List ℕ) (a : Answer) → a ≡ answer num
 unfolding answer pick
 values-of number values a e z = ap (λ (x : Answer). x .values) e ∙ rw z
 
-never : {P : Type 0} (x : ℕ) (l : List ℕ) → [] ≡ x ∷ l → P
-never x l e = let z : _≡_ {A = ℕ} 0 1 = cc in absurd (omega arith)
+empty-cons : {P : Type 0} (x : ℕ) (l : List ℕ) → [] ≡ x ∷ l → P
+empty-cons x l e = let z : _≡_ {A = ℕ} 0 1 = cc in absurd (omega arith)
 
 is-length : (w : RuleWritten) (n : ℕ) → writeAnswer w ≡ answer 0 (n ∷ []) → w ≡ written.Length n
 is-length (written.Length m) n e =
     let v : m ∷ [] ≡ n ∷ [] = values-of 0 (n ∷ []) (writeAnswer (written.Length m)) e refl in
     let q : m ≡ n = cc in
     ap written.Length q
-is-length (written.Refused k) n e = never n [] (values-of 0 (n ∷ []) (writeAnswer (written.Refused k)) e refl)
+is-length (written.Refused k) n e = empty-cons n [] (values-of 0 (n ∷ []) (writeAnswer (written.Refused k)) e refl)
 
 is-rule : (r : RuleRead) (c n : ℕ) → readAnswer r ≡ answer 0 (c ∷ n ∷ []) → r ≡ read.Rule c n
 is-rule (read.Rule d m) c n e =
@@ -48,7 +48,7 @@ is-rule (read.Rule d m) c n e =
     let p : d ≡ c = cc in
     let q : m ≡ n = cc in
     ap (λ (x : ℕ). read.Rule x m) p ∙ ap (read.Rule c) q
-is-rule (read.Refused k) c n e = never c (n ∷ []) (values-of 0 (c ∷ n ∷ []) (readAnswer (read.Refused k)) e refl)
+is-rule (read.Refused k) c n e = empty-cons c (n ∷ []) (values-of 0 (c ∷ n ∷ []) (readAnswer (read.Refused k)) e refl)
 
 -- a text is handed back: its length is answered, lent space holds it, then zeros, then what was lent past its full size
 pub record TextBack (text buffer : List ℕ) (w : RuleWritten) (buffer′ : List ℕ) : Type 0 where

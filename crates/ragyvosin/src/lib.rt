@@ -24,9 +24,11 @@ pub use judges::verdicts::Judgement;
 pub use judges::verdicts::Verdicts;
 pub use projection::Projection;
 pub use recording_reader::RecordingRead;
+use recordings::heading::RecordingHeading;
 pub use rewriting::Rewriting;
 pub use rule_reader::RuleRead;
 pub use rule_writer::RuleWritten;
+use rules::headings::TableHeading;
 
 // "read a rule (controller, count, nodes)"
 pub fn read_rule(text: &[u8], nodes: &mut [u32]) -> RuleRead
@@ -190,16 +192,14 @@ pub fn judge_recording(
     ensures { λ r. ⌜ judged r ≡ judgeRecordingAnswer (tableOf count (now (nodes .entry)) «weak_top» «strong_top») (recordingOf controllers «states_count» (now (masks .entry)) (now (states .entry))) c (now (rows .entry)) ⌝ }
     ensures { λ _. ⌜ now (rows .exit) ≡ judgeRecordingRows (tableOf count (now (nodes .entry)) «weak_top» «strong_top») (recordingOf controllers «states_count» (now (masks .entry)) (now (states .entry))) c (now (rows .entry)) ⌝ }
 {
-    judges::whole::judge_recording(
-        count,
-        nodes,
-        weak_top,
-        strong_top,
-        controllers,
-        states_count,
-        masks,
-        states,
-        c,
-        rows,
-    )
+    let table = TableHeading {
+        count: count,
+        weak_top: weak_top,
+        strong_top: strong_top,
+    };
+    let recording = RecordingHeading {
+        controllers: controllers,
+        count: states_count,
+    };
+    judges::whole::judge_recording(table, nodes, recording, masks, states, c, rows)
 }

@@ -1,7 +1,6 @@
 // The lines of a recording text: the next line, refused with a number or read as the first line, as a mask or as a state.
 // In each function the line has `len` bytes; nothing is kept of a line but what it gives.
 ghost use mathlib.Core.Path.{_≡_};
-ghost use Rattle.definitions.specs.Recordings.{stateOf};
 ghost use Rattle.definitions.specs.Lines.{lineLength};
 ghost use Rattle.definitions.specs.RecordingText.{markDigits, recordingHeadingLine, stateLine};
 ghost use Rattle.recording_reader.specs.NextLines.{headingAnswer, maskAnswer, stateAnswer, seenLine, StateTurn};
@@ -11,6 +10,7 @@ use fields::number::Field;
 use lines::end_refusal;
 use recordings::check;
 use recordings::masks;
+use recordings::state;
 use rules::choice::pick_index;
 use rules::limits::Limits;
 use rules::limits::Refusal;
@@ -79,13 +79,6 @@ pub fn next_mask(seen: u32, t: &[u8], len: usize) -> MaskRead
     MaskRead::Mask(mask)
 }
 
-// The marks stand above the atoms.
-fn state_of(marks: u32, word: u32) -> u64
-    ensures { λ r. ⌜ r ≡ stateOf marks word ⌝ }
-{
-    ((marks as u64) << Limits::ATOMS) + word as u64
-}
-
 // State k against `prior`, the state before it.
 pub fn next_state(
     controllers: usize,
@@ -110,7 +103,7 @@ pub fn next_state(
     ) else {
         return StateRead::Refused(Refusal::RECORDING_FORM);
     };
-    let state = state_of(marks, word);
+    let state = state::state_of(marks, word);
     let refusal = check::state_refusal(controllers, masks, k, prior, state);
     if refusal != Refusal::NONE {
         return StateRead::Refused(refusal);

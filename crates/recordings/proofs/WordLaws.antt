@@ -1,5 +1,5 @@
 -- A state's run mark as a bit of its word, and a mask that is there or isn't.
-use mathlib.Core.Path.{_≡_, sym}
+use mathlib.Core.Path.{_≡_, refl, sym}
 use Prim.Native.Nat.{ℕ, _+_, _≤_, _<_, _/_, _%_, _^_}
 use mathlib.Core.List.{List}
 use lib.Dec.{eqb}
@@ -20,5 +20,10 @@ own-mask R c h = sym (getD-take (R .controllers) (R .masks) c 0 h)
 pub marked-shifted : (c s : ℕ) → eqb (s / 2 ^ (atomCount + c) % 2) 1 ≡ marked c s
 unfolding bitOf
 marked-shifted c s = sym (bit-shr c atomCount s)
+
+-- `is_own`: the shift by an atom's number
+pub own-bit : (mask a : ℕ) → eqb (mask / 2 ^ a % 2) 1 ≡ bitOf mask a
+unfolding bitOf
+own-bit mask a = refl
 
 pub ruleset word-laws = (mask-none, marked-shifted)

@@ -1,3 +1,4 @@
+pub mod Heading
 pub mod Unions
 pub mod Held
 pub mod Joining

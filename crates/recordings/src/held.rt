@@ -1,6 +1,6 @@
 // Held atoms: own atoms of the controllers that don't run in a state, which the next state may not change.
 ghost use mathlib.Core.Path.{_≡_};
-ghost use Prim.Native.Nat.{_≤_, min};
+ghost use Prim.Native.Nat.{_≤_};
 ghost use lib.ListN.{length, take};
 ghost use Rattle.definitions.specs.Limits.{maxControllers};
 ghost use Rattle.definitions.specs.Recordings.{outputBroken};
@@ -8,6 +8,7 @@ ghost use Rattle.recordings.specs.Held.{heldWith, heldBy, heldTable, hel
 use super::masks::mask_at;
 use super::state::atoms_of;
 use super::state::marks_of;
+use rules::choice::least;
 
 // Four run marks each look up a table: two tables serve this many controllers.
 const TWO_TABLES: usize = 8;
@@ -56,15 +57,6 @@ fn held_table(a: u32, b: u32, c: u32, d: u32) -> [u32; 16]
         a,
         0,
     ]
-}
-
-pub fn least(a: usize, b: usize) -> usize
-    ensures { λ r. ⌜ r ≡ min a b ⌝ }
-{
-    if a < b {
-        return a;
-    }
-    b
 }
 
 // The table of the four controllers from `first` on; those past the last have no atoms.

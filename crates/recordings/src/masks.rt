@@ -1,7 +1,10 @@
 // The masks of a recording: own atoms of each controller.
 ghost use mathlib.Core.Path.{_≡_};
 ghost use mathlib.Core.List.{[]};
+ghost use Prim.Native.Nat.{_<_};
 ghost use lib.ListN.{take, getD};
+ghost use Rattle.definitions.specs.Limits.{wordMarks};
+ghost use Rattle.definitions.specs.Bounded.{bitOf};
 ghost use Rattle.definitions.specs.Recordings.{masksRefusal};
 ghost use Rattle.recordings.specs.Unions.{unionRefusal};
 use rules::choice::pick;
@@ -31,6 +34,14 @@ pub fn masks_refusal(controllers: usize, masks: &[u32]) -> u8
         seen = seen | mask;
     }
     Refusal::NONE
+}
+
+// "bit a is atom a". An operand that is no atom may be asked for too: a word of 64 bits has its bit.
+pub fn is_own(mask: u32, a: usize) -> bool
+    requires { ⌜ a < wordMarks ⌝ }
+    ensures { λ r. ⌜ r ≡ bitOf mask a ⌝ }
+{
+    (mask as u64 >> a) % 2 == 1
 }
 
 // A mask that isn't there has no atoms.

@@ -2,11 +2,18 @@
 ghost use mathlib.Core.Path.{_≡_};
 ghost use Prim.Native.Nat.{_<_};
 ghost use Rattle.definitions.specs.Limits.{atomCount};
-ghost use Rattle.definitions.specs.Recordings.{atomsOf, marksOf, marked};
+ghost use Rattle.definitions.specs.Recordings.{stateOf, atomsOf, marksOf, marked};
 use rules::limits::Limits;
 
 // There are this many words of atoms.
 pub const ATOM_WORDS: u64 = 1 << Limits::ATOMS;
+
+// The marks stand above the atoms.
+pub fn state_of(marks: u32, word: u32) -> u64
+    ensures { λ r. ⌜ r ≡ stateOf marks word ⌝ }
+{
+    ((marks as u64) << Limits::ATOMS) + word as u64
+}
 
 pub fn atoms_of(state: u64) -> u32
     ensures { λ r. ⌜ r ≡ atomsOf state ⌝ }

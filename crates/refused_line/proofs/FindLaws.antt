@@ -4,7 +4,7 @@ use mathlib.Core.Bool.{true, false}
 use mathlib.Core.List.{List}
 use Prim.Native.Nat.{ℕ, _-_, _<_, _≤_}
 use native.Mathlib.Omega.{arith}
-use lib.ListN.{length, take, drop, getD, length-take, length-drop}
+use lib.ListN.{length, take, drop, getD}
 use borrow.Author.Needs.{needs}
 use borrow.Author.Tests.{ne-eqb, eq-eqb, lt-ltb, le-ltb}
 use Rattle.definitions.specs.Limits.{lentShort, maxInputBytes, maxRuleNodes, maxControllers, maxStates}
@@ -17,9 +17,10 @@ use Rattle.joint_reading.specs.Joining.{Joined}
 use Rattle.joint_reading.specs.declared.scan.Found.{Found}
 use Rattle.program_input.specs.Splitting.{SplitAt}
 use Rattle.program_input.specs.declared.Parts.{Parts}
-use Rattle.judge_program.proofs.OutputLaws.{joint-low, rule-counted}
+use Rattle.program_input.proofs.SplitLaws.{rule-counted, texts-fit}
+use Rattle.judge_program.proofs.OutputLaws.{joint-low}
 use Rattle.refused_line.specs.Numbering.{lineNumber, LineStart}
-use Rattle.refused_line.specs.Finding.{Texts, Readable, partLine, textsLine, inputLine}
+use Rattle.refused_line.specs.Finding.{Readable, partLine, textsLine, inputLine}
 use Rattle.refused_line.specs.declared.Line.{Line}
 use Rattle.refused_line.specs.declared.Line.the-variants.{OfRule, OfRecording, Nowhere}
 
@@ -75,12 +76,6 @@ module _ (input : List ℕ) where
   long-nowhere h = rw (lt-ltb maxInputBytes (length input) h)
 
   module _ (short : length input ≤ maxInputBytes) (s : Parts) (is : SplitAt input s) where
-    pub texts-fit : Texts (take (s .«rule_end») input) (take (length input - s .«recording_at») (drop (s .«recording_at») input))
-    texts-fit = record {
-      ruleFits = rw length-take (omega arith);
-      recordingFits = rw (part-to-end input (s .«recording_at»), length-drop) (omega arith);
-    }
-
     pub texts-line : (r : Line) → r ≡ textsLine (take (s .«rule_end») input) (take (length input - s .«recording_at») (drop (s .«recording_at») input)) → r ≡ inputLine input
     unfolding inputLine pick
     texts-line r e = e ∙ rw (le-ltb maxInputBytes (length input) short, part-to-end input (s .«recording_at»), is .rule, is .recording)

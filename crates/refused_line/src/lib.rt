@@ -2,7 +2,8 @@
 pub mod number;
 
 ghost use mathlib.Core.Path.{_≡_};
-ghost use Rattle.refused_line.specs.Finding.{Texts, Readable, textsLine, inputLine};
+ghost use Rattle.refused_line.specs.Finding.{Readable, textsLine, inputLine};
+ghost use Rattle.program_input.specs.Splitting.{Texts};
 use joint_reading::join;
 use number::line_number;
 use program_input::split;

@@ -7,31 +7,18 @@ use native.Mathlib.Omega.{arith}
 use lib.ListN.{length, take, length-append}
 use lib.Seq.{length-take-le}
 use borrow.Author.Needs.{needs}
+use Rattle.definitions.specs.Limits.{maxInputBytes}
 use Rattle.definitions.specs.Lines.{bytes, tab, newline, digits}
 use Rattle.definitions.specs.Program.{yesNo, refusedWord, localWord, ownWord, plainWord, shortWord, localText, refusedText}
 use Rattle.theorems.proofs.Choice.{by-test}
-use Rattle.printing.specs.Printing.{Printed}
-use Rattle.printing.proofs.PrintLaws.{printed-seq}
+use Rattle.printing.specs.Printing.{Printed, countedLine}
+use Rattle.printing.proofs.PrintLaws.{digits-fit}
+use Rattle.printing.proofs.LineLaws.{first-room, rest-room, both}
 use Rattle.judges.specs.declared.verdicts.Verdicts.{Verdicts}
 use Rattle.rewritten_judge.specs.declared.Rewritten.{Rewritten}
-use Rattle.report.specs.Reporting.{verdictsEnd, Ends, countedLine, ownLine, rewrittenLine, reportText}
+use Rattle.report.specs.Reporting.{maxOutputBytes, verdictsEnd, Ends, ownLine, rewrittenLine, reportText}
 use Rattle.report.specs.declared.Report.{Report}
 use Rattle.report.specs.declared.Ending.{Ending}
-
--- ---- two parts, one after the other
-module _ (xs ys o : List ℕ) (at : ℕ) (room : at + length (xs ++ ys) ≤ length o) where
-  sizes : length (xs ++ ys) ≡ length xs + length ys
-  sizes = length-append xs ys
-
-  pub first-room : at + length xs ≤ length o
-  first-room = omega (arith, sizes)
-
-  module _ (o′ : List ℕ) (r : ℕ) (first : Printed xs o at r o′) where
-    pub rest-room : length o′ ≡ length o → r + length ys ≤ length o′
-    rest-room kept = omega (arith, sizes, first .next)
-
-    pub both : (o″ : List ℕ) (q : ℕ) → Printed ys o′ r q o″ → Printed (xs ++ ys) o at q o″
-    both o″ q rest = printed-seq xs ys o o′ o″ at r q first-room first rest
 
 -- ---- `end_of`
 module _ (v : Verdicts) (bs : List ℕ) (n : ℕ) (there : n ≤ length bs) where
@@ -59,32 +46,6 @@ pub ruleset ending-laws = (needs, yes-yes, yes-no, no-yes, no-no)
 -- the bytes of an ending are as many as it says
 pub ending-counted : (l : List ℕ) (e : Ending) → Ends l e → e .count ≡ length (take (e .count) (e .bytes))
 ending-counted l e h = sym (length-take-le (e .count) (e .bytes) (h .there))
-
--- ---- `put_line`
-module _ (word : List ℕ) (n : ℕ) (end o : List ℕ) (at : ℕ) (room : at + length (countedLine word n end) ≤ length o) where
-  line-parts : at + length (word ++ ((tab ∷ digits n) ++ end)) ≤ length o
-  unfolding countedLine
-  line-parts = room
-
-  pub word-room : at + length word ≤ length o
-  word-room = first-room word ((tab ∷ digits n) ++ end) o at line-parts
-
-  module _ (o′ : List ℕ) (p : ℕ) (first : Printed word o at p o′) (kept : length o′ ≡ length o) where
-    line-left : p + length ((tab ∷ digits n) ++ end) ≤ length o′
-    line-left = rest-room word ((tab ∷ digits n) ++ end) o at line-parts o′ p first kept
-
-    pub number-room : p + length (tab ∷ digits n) ≤ length o′
-    number-room = first-room (tab ∷ digits n) end o′ p line-left
-
-    module _ (o″ : List ℕ) (q : ℕ) (number : Printed (tab ∷ digits n) o′ p q o″) where
-      pub end-room : length o″ ≡ length o′ → q + length end ≤ length o″
-      end-room held = rest-room (tab ∷ digits n) end o′ p line-left o″ q number held
-
-      pub line-written : (o‴ : List ℕ) (e : ℕ) → Printed end o″ q e o‴ → Printed (countedLine word n end) o at e o‴
-      unfolding countedLine
-      line-written o‴ e last = both word ((tab ∷ digits n) ++ end) o at line-parts o′ p first o‴ e (both (tab ∷ digits n) end o′ p line-left o″ q number o‴ e last)
-
-pub ruleset line-laws = (needs, word-room, number-room, end-room, line-written)
 
 -- ---- `put_own`
 module _ (v : Verdicts) (o : List ℕ) (at : ℕ) (room : at + length (ownLine v) ≤ length o) where
@@ -189,3 +150,15 @@ module _ (n : ℕ) (line o : List ℕ) (room : length (refusedText n line) ≤ l
           (both line (newline ∷ []) o₁ p refused-left o₂ q two o₃ e three))
 
 pub ruleset refused-laws = (needs, refused-number, refused-line, refused-end, refused-written)
+
+-- ---- how long a refusal is
+pub refused-length : (n : ℕ) (line : List ℕ) → n < 100 → length line ≤ maxInputBytes → length (refusedText n line) ≤ maxOutputBytes
+unfolding refusedText
+refused-length n line h l =
+    omega (
+      arith,
+      length-append refusedWord (tab ∷ (digits n ++ (tab ∷ (line ++ (newline ∷ []))))),
+      length-append (digits n) (tab ∷ (line ++ (newline ∷ []))),
+      length-append line (newline ∷ []),
+      digits-fit 1 n (omega arith),
+    )

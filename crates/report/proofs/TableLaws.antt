@@ -2,16 +2,16 @@
 use mathlib.Core.Path.{_≡_, ap, sym, _∙_}
 use mathlib.Core.Bool.{Bool, true, false}
 use mathlib.Core.List.{List, [], _∷_, _++_}
-use Prim.Native.Nat.{ℕ, _+_, _<_, _≤_}
+use Prim.Native.Nat.{ℕ, _+_, _≤_}
 use native.Mathlib.Omega.{arith}
-use lib.ListN.{length, replicate, length-append, length-replicate}
+use lib.ListN.{length, length-append}
 use mir.Syntax.{w32}
 use mir.Val.{Fits}
 use borrow.Author.Needs.{needs}
-use Rattle.definitions.specs.Limits.{maxStates, maxTableNodes, maxRowWords}
+use Rattle.definitions.specs.Limits.{maxStates, maxTableNodes}
 use Rattle.definitions.specs.Nodes.{Node}
 use Rattle.definitions.specs.Tables.{Rule, nodesIn, ruleOf}
-use Rattle.definitions.specs.Recordings.{Recording, recordingOf, recordingRefusal, maskOf}
+use Rattle.definitions.specs.Recordings.{Recording, recordingOf, maskOf}
 use Rattle.definitions.specs.Projection.{localTrace}
 use Rattle.definitions.specs.Readings as readings
 use Rattle.definitions.specs.Readings.{whole}
@@ -19,52 +19,30 @@ use Rattle.definitions.specs.Lines.{tab, newline, digits}
 use Rattle.definitions.specs.Program.{yesNo, localWord, ownWord, plainWord, shortWord, localText, verdictsText, ownText, rewrittenText, judgedText}
 use Rattle.theorems.proofs.RewrittenAccepted.{rewritten-size}
 use Rattle.theorems.proofs.ScheduleIndependence.{Accepted}
-use Rattle.projection.specs.Places.{runsIn, Projectable, Countable}
-use Rattle.projection.proofs.PlaceLaws.{projectable, countable, local-places, few-local}
-use Rattle.projection.proofs.LengthLaws.{length-of}
+use Rattle.printing.specs.Printing.{countedLine}
 use Rattle.printing.proofs.PrintLaws.{digits-fit}
 use Rattle.judges.specs.Verdicts.{meant, ownVerdicts}
 use Rattle.judges.specs.declared.verdicts.Verdicts.{Verdicts}
-use Rattle.rewritten_judge.specs.Rewritten.{Judgeable, JudgedLocally, rewrittenFor}
+use Rattle.judges.specs.Local.{verdictsOn, TraceReady, TraceIs, LocalReady}
+use Rattle.judges.specs.declared.local.LocalTrace.{LocalTrace}
+use Rattle.judges.proofs.LocalLaws.{trace-length, trace-verdicts}
+use Rattle.rewritten_judge.specs.Rewritten.{rewrittenFor, RewrittenIs}
 use Rattle.rewritten_judge.specs.declared.Rewritten.{Rewritten}
 use Rattle.rewritten_judge.proofs.RewrittenLaws.{verdicts-agree}
-use Rattle.report.specs.Reporting.{maxOutputBytes, verdictsEnd, countedLine, ownLine, rewrittenLine, reportText}
+use Rattle.report.specs.Reporting.{maxOutputBytes, verdictsEnd, ownLine, rewrittenLine, reportText}
 use Rattle.report.specs.declared.Report.{Report}
-use Rattle.report.specs.Judged.{RewrittenIs, ReportIs}
-
--- ---- `judge_rewriting`
-pub judgeable : (r : Rule) (R : Recording) (table rows : List ℕ) → Accepted r R → maxTableNodes ≤ length table → maxRowWords ≤ length rows → Judgeable r R table rows
-judgeable r R table rows A t w = record { both = A; fullTable = t; fullRows = w }
-
-pub rewriting-judged : (short : Bool) (r : Rule) (R : Recording) (table rows : List ℕ) (v : Rewritten) (table′ rows′ : List ℕ) →
-    JudgedLocally short r R table rows v table′ rows′ → RewrittenIs short r R v
-rewriting-judged short r R table rows v table′ rows′ j = record { count = j .count; verdicts = j .verdicts }
-
-pub ruleset rewriting-laws = (needs, judgeable, rewriting-judged)
-
--- ---- `judge_tables`
--- the local trace of an accepted recording has at most as many places as there are states
-places-few : (R : Recording) (c : ℕ) → recordingRefusal R ≡ 0 → c < R .controllers → length (localTrace R c) ≤ maxStates
-places-few R c h k =
-    let zeros : List ℕ = replicate maxStates 0 in
-    let room : maxStates ≤ length zeros = omega (arith, length-replicate {A = ℕ} maxStates 0) in
-    let P : Projectable (R .count) c (R .states) zeros = projectable R c zeros h k room in
-    let n = sym (ap length (local-places R c)) ∙ length-of (R .count) c (maskOf R c) (R .states) in
-    omega (arith, n, few-local (R .count) c (R .states) zeros P, P .fewStates)
+use Rattle.report.specs.Judged.{ReportIs}
 
 module _ (c k : ℕ) (nodes : List ℕ) (C N : ℕ) (masks states : List ℕ) (A : Accepted (ruleOf c k nodes) (recordingOf C N masks states)) where
-  abbrev R : Recording
-  R = recordingOf C N masks states
+  pub tables-traced : TraceReady (recordingOf C N masks states) c
+  tables-traced = record { recording = A .recording; controller = A .controller }
 
-  pub places-countable : Countable N c states
-  places-countable = countable R c (A .recording) (A .controller)
+  module _ (l : LocalTrace) (is : TraceIs (recordingOf C N masks states) c l) where
+    pub tables-ready : LocalReady (ruleOf c k nodes) l
+    tables-ready = record { rule = A .rule; few = is .few; there = is .there }
 
-  module _ (L : ℕ) (e : L ≡ length (runsIn N c states) + 1) where
-    places-are : L ≡ length (localTrace R c)
-    places-are = e ∙ (sym (length-of N c (maskOf R c) states) ∙ ap length (local-places R c))
-
-    pub places-fit : Fits w32 L
-    places-fit = record { fits = omega (arith, places-are, places-few R c (A .recording) (A .controller)) }
+    pub places-fit : Fits w32 (l .count)
+    places-fit = record { fits = omega (arith, is .few) }
 
 -- no line is long
 yes-no-length : (v : Bool) → length (yesNo v) ≤ 3
@@ -102,7 +80,7 @@ module _ (r : Rule) (R : Recording) (A : Accepted r R) (v : Report) where
   few : (z : Bool) → length ((rewrittenFor z r R) .nodes) ≤ maxTableNodes
   few z = rewritten-size z r (maskOf R c) (A .rule)
 
-  module _ (L : v .places ≡ length (localTrace R c)) (own : meant (v .own) ≡ ownVerdicts r R) (plain : RewrittenIs false r R (v .plain)) (short : RewrittenIs true r R (v .short)) where
+  module _ (L : v .places ≡ length (localTrace R c)) (short-trace : v .places ≤ maxStates) (own : meant (v .own) ≡ ownVerdicts r R) (plain : RewrittenIs false r R (v .plain)) (short : RewrittenIs true r R (v .short)) where
     line-is : (z : Bool) (word : List ℕ) (w : Rewritten) → RewrittenIs z r R w → rewrittenLine word w ≡ rewrittenText word (whole R c) (rewrittenFor z r R)
     unfolding rewrittenLine countedLine verdictsEnd rewrittenText
     line-is z word w is =
@@ -129,21 +107,22 @@ module _ (r : Rule) (R : Recording) (A : Accepted r R) (v : Report) where
           length-append m (b ++ (d ++ e)),
           length-append b (d ++ e),
           length-append d e,
-          local-length (v .places) (omega (arith, L, places-few R c (A .recording) (A .controller))),
+          local-length (v .places) (omega arith),
           own-length (v .own),
           rewritten-length plainWord (v .plain) (omega (arith, plain .count, few false)),
           rewritten-length shortWord (v .short) (omega (arith, short .count, few true)),
         )
 
 pub reported : (c k : ℕ) (nodes : List ℕ) (C N : ℕ) (masks states : List ℕ) → Accepted (ruleOf c k nodes) (recordingOf C N masks states) →
-    (L : ℕ) → L ≡ length (runsIn N c states) + 1 → (own : Verdicts) → meant own ≡ ownVerdicts (ruleOf c k nodes) (recordingOf C N masks states) →
+    (l : LocalTrace) → TraceIs (recordingOf C N masks states) c l → (own : Verdicts) → meant own ≡ verdictsOn (ruleOf c k nodes) l →
     (plain short : Rewritten) → RewrittenIs false (ruleOf c k nodes) (recordingOf C N masks states) plain → RewrittenIs true (ruleOf c k nodes) (recordingOf C N masks states) short →
-    ReportIs (ruleOf c k nodes) (recordingOf C N masks states) (record { places = L; own = own; plain = plain; short = short })
-reported c k nodes C N masks states A L e own o plain short p s =
+    ReportIs (ruleOf c k nodes) (recordingOf C N masks states) (record { places = l .count; own = own; plain = plain; short = short })
+reported c k nodes C N masks states A l is own o plain short p s =
     let r : Rule = ruleOf c k nodes in
     let R : Recording = recordingOf C N masks states in
-    let v : Report = record { places = L; own = own; plain = plain; short = short } in
-    let l = places-are c k nodes C N masks states A L e in
-    record { text = text-is r R A v l o p s; fits = fits r R A v l o p s }
+    let v : Report = record { places = l .count; own = own; plain = plain; short = short } in
+    let long : l .count ≡ length (localTrace R c) = trace-length R c l is in
+    let same : meant own ≡ ownVerdicts r R = o ∙ trace-verdicts r R l is in
+    record { text = text-is r R A v long (is .few) same p s; fits = fits r R A v long (is .few) same p s }
 
-pub ruleset table-laws = (needs, places-countable, places-fit, reported)
+pub ruleset table-laws = (needs, tables-traced, tables-ready, places-fit, reported)

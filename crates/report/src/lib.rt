@@ -5,12 +5,12 @@ ghost use Prim.Native.Nat.{_+_, _≤_};
 ghost use lib.ListN.{length};
 ghost use Rattle.definitions.specs.Program.{refusedText};
 ghost use Rattle.printing.specs.Printing.{Printed};
-ghost use Rattle.report.specs.Reporting.{verdictsEnd, Ends, countedLine, ownLine, rewrittenLine, reportText};
+ghost use Rattle.report.specs.Reporting.{verdictsEnd, Ends, ownLine, rewrittenLine, reportText};
 use judges::verdicts::Verdicts;
 use lines::scan;
 use printing::put;
 use printing::put_byte;
-use printing::put_field;
+use printing::put_line;
 use rewritten_judge::Rewritten;
 
 // All that is printed of an accepted rule and recording.
@@ -61,16 +61,6 @@ fn end_of(v: Verdicts) -> Ending
         return NO_YES;
     }
     NO_NO
-}
-
-// A word, a number and how the line ends.
-pub fn put_line(word: &[u8], number: u32, end: &[u8], at: usize, text: &mut [u8]) -> usize
-    requires { ⌜ at + length (countedLine (now word) number (now end)) ≤ length (now text) ⌝ }
-    ensures { λ r. ⌜ Printed (countedLine (now (word .entry)) number (now (end .entry))) (now (text .entry)) at r (now (text .exit)) ⌝ }
-{
-    let after_word = put(word, at, text);
-    let after_number = put_field(number, after_word, text);
-    put(end, after_number, text)
 }
 
 // "`own yes no` (weak, strong on the local trace)"

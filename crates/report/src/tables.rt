@@ -1,40 +1,14 @@
-// The values that are printed of an accepted rule and recording: by four judgements on the tables that were read.
+// The values that are printed of an accepted rule and recording: judged on the local trace, and rewritten, plain and short, over the whole recording.
 ghost use Rattle.theorems.proofs.ScheduleIndependence.{Accepted};
-ghost use Rattle.judges.specs.Headings.{ruleIn, recordingIn};
-ghost use Rattle.report.specs.Judged.{RewrittenIs, ReportIs};
+ghost use Rattle.rules.specs.Headings.{ruleIn};
+ghost use Rattle.recordings.specs.Heading.{recordingIn};
+ghost use Rattle.report.specs.Judged.{ReportIs};
 use super::Report;
-use judges::headings::RecordingHeading;
-use judges::headings::RuleHeading;
-use judges::local;
-use projection::places::local_length;
-use rewritten_judge::Rewritten;
-use rules::limits::Limits;
-
-// The rule rewritten, plain or short, and judged over the whole recording, in space of its own.
-fn judge_rewriting(
-    short: bool,
-    rule: RuleHeading,
-    nodes: &[u32],
-    recording: RecordingHeading,
-    masks: &[u32],
-    states: &[u64],
-) -> Rewritten
-    requires { ⌜ Accepted (ruleIn rule (now nodes)) (recordingIn recording (now masks) (now states)) ⌝ }
-    ensures { λ r. ⌜ RewrittenIs short (ruleIn rule (now (nodes .entry))) (recordingIn recording (now (masks .entry)) (now (states .entry))) r ⌝ }
-{
-    let mut table = [0u32; Limits::TABLE_NODES];
-    let mut rows = [0u64; Limits::ROW_WORDS];
-    rewritten_judge::judge_accepted(
-        short,
-        rule,
-        nodes,
-        recording,
-        masks,
-        states,
-        &mut table,
-        &mut rows,
-    )
-}
+use judges::local::judge_accepted_locally;
+use judges::local::local_trace;
+use recordings::heading::RecordingHeading;
+use rewritten_judge::judge_rewriting;
+use rules::headings::RuleHeading;
 
 // All that is printed, before any of it is.
 pub fn judge_tables(
@@ -47,12 +21,12 @@ pub fn judge_tables(
     requires { ⌜ Accepted (ruleIn rule (now nodes)) (recordingIn recording (now masks) (now states)) ⌝ }
     ensures { λ r. ⌜ ReportIs (ruleIn rule (now (nodes .entry))) (recordingIn recording (now (masks .entry)) (now (states .entry))) r ⌝ }
 {
-    let places = local_length(recording.count, rule.controller, states);
-    let own = local::judge_accepted(rule, nodes, recording, masks, states);
+    let trace = local_trace(rule.controller, recording, masks, states);
+    let own = judge_accepted_locally(rule, nodes, trace);
     let plain = judge_rewriting(false, rule, nodes, recording, masks, states);
     let short = judge_rewriting(true, rule, nodes, recording, masks, states);
     Report {
-        places: places as u32,
+        places: trace.count as u32,
         own: own,
         plain: plain,
         short: short,

@@ -2,22 +2,21 @@
 use mathlib.Core.Bool.{Bool, true, false, _&&_, true≢false}
 use mathlib.Core.List.{List, [], _∷_, _++_}
 use mathlib.Core.Path.{_≡_, refl, sym, ap, _∙_}
-use Prim.Native.Nat.{ℕ, zero, suc, _+_, _-_, _*_, _/_, _%_, _^_, _<_, _≤_}
+use Prim.Native.Nat.{ℕ, zero, suc, _+_, _-_, _*_, _<_, _≤_}
 use native.Mathlib.Decide.{decLt, ℕ-discrete}
 use native.Mathlib.Nat.{sub-zero}
 use native.Mathlib.Numerals.{add-one}
 use native.Mathlib.Omega.{arith}
 use borrow.Author.Needs.{needs}
-use lib.Dec.{eqb}
 use lib.ListN.{length, drop, set, getD, replicate, length-append, length-set, length-replicate, drop-of-length-le, List·getD-append, List·getD-eq-default}
 use lib.Seq.{drop-cons, getD-at, getD-set-same, getD-set-other}
 use Rattle.definitions.specs.Limits.{maxRuleNodes, maxTableNodes, ruleLines}
 use Rattle.definitions.specs.Bounded.{bitOf, orElse}
 use Rattle.definitions.specs.Nodes as words
-use Rattle.definitions.specs.Nodes.{Kind, kindOf, nodeOf}
+use Rattle.definitions.specs.Nodes.{Kind, kindOf, nodeOf, node}
 use Rattle.definitions.specs.Tables.{isUnknown, isRewritten, nodeRefusal, nodesRefusal, nodesIn}
 use Rattle.definitions.specs.Rewriting as table
-use Rattle.definitions.specs.Rewriting.{Emit, emit, opening, noImage, imageOf, image, tolerantAt, tolerantOf, part, step, steps, lastImage}
+use Rattle.definitions.specs.Rewriting.{Emit, emit, opening, noImage, imageOf, image, tolerantAt, tolerantOf, meaningsOf, part, step, steps, lastImage}
 use Rattle.theorems.proofs.Counts.{emit-count}
 use Rattle.theorems.proofs.Choice.{or-else-none}
 use Rattle.theorems.proofs.NodeLaws.{AcceptedNode, accepted-node, first-below, second-below}
@@ -31,11 +30,6 @@ use Rattle.images.specs.Images.{meant, Small, partOf, tolerantBy, Stepped}
 use Rattle.rewriting.specs.Drafts.{Index, Ruled, opened, draftOf, Drawn}
 use Rattle.images.proofs.EmitLaws.{emit-append, holds-more, holds-self, holds-under}
 
--- the shift by an atom's number
-pub own-bit : (mask a : ℕ) → eqb (mask / 2 ^ a % 2) 1 ≡ bitOf mask a
-unfolding bitOf
-own-bit mask a = refl
-
 -- a rule's kinds are the first eight
 rule-kind : (k : ℕ) → isUnknown (kindOf k) ≡ false → (isRewritten (kindOf k) && true) ≡ false → k ≤ 7
 rule-kind = kind-cases (λ k K. isUnknown K ≡ false → (isRewritten K && true) ≡ false → k ≤ 7)
@@ -44,10 +38,10 @@ rule-kind = kind-cases (λ k K. isUnknown K ≡ false → (isRewritten K && true
 
 -- `part` and `tolerantOf` look the operands' images up
 part-same : (short : Bool) (mask : ℕ) (is : List table.Image) (x g : ℕ) (weak : Bool) (a b : ℕ) (K : Kind) →
-    partOf short (bitOf mask a) (getD is a noImage) (getD is b noImage) x g weak K a ≡ part short mask is x g weak K a b
+    partOf short (bitOf mask a) (getD is a noImage) (getD is b noImage) x g weak K a ≡ part short weak K (meaningsOf mask is (node K a b) weak x g)
 unfolding partOf
 part-same short mask is x g weak a b =
-    by-kind (λ K. partOf short (bitOf mask a) (getD is a noImage) (getD is b noImage) x g weak K a ≡ part short mask is x g weak K a b)
+    by-kind (λ K. partOf short (bitOf mask a) (getD is a noImage) (getD is b noImage) x g weak K a ≡ part short weak K (meaningsOf mask is (node K a b) weak x g))
     refl refl refl refl refl refl refl refl refl refl refl
 
 tolerant-same : (mask : ℕ) (is : List table.Image) (a b : ℕ) (K : Kind) →
@@ -113,12 +107,12 @@ pub record Drafting (short : Bool) (mask count : ℕ) (ws o : List ℕ) (i at : 
 
 -- a step, with the numbers that its nodes have
 step-is : (short : Bool) (mask : ℕ) (D : table.Draft) (N : words.Node) (at m e : ℕ) → at ≡ length (D .nodes)
-    → m ≡ length (emit (D .nodes) (part short mask (D .images) at at true (N .kind) (N .first) (N .second)))
-    → e ≡ length (emit (emit (D .nodes) (part short mask (D .images) at at true (N .kind) (N .first) (N .second)))
-    (part short mask (D .images) at m false (N .kind) (N .first) (N .second)))
+    → m ≡ length (emit (D .nodes) (part short true (N .kind) (meaningsOf mask (D .images) N true at at)))
+    → e ≡ length (emit (emit (D .nodes) (part short true (N .kind) (meaningsOf mask (D .images) N true at at)))
+    (part short false (N .kind) (meaningsOf mask (D .images) N false at m)))
     → step short mask D N ≡ record {
-      nodes = emit (emit (D .nodes) (part short mask (D .images) at at true (N .kind) (N .first) (N .second)))
-          (part short mask (D .images) at m false (N .kind) (N .first) (N .second));
+      nodes = emit (emit (D .nodes) (part short true (N .kind) (meaningsOf mask (D .images) N true at at)))
+          (part short false (N .kind) (meaningsOf mask (D .images) N false at m));
       images = D .images ++ (record { weak = m - 1; strong = e - 1; tolerant = tolerantOf mask (D .images) (N .kind) (N .first) (N .second) } ∷ []);
     }
 step-is short mask D N at m e p q t = rw (t, q, p)
@@ -226,7 +220,7 @@ module _ (short : Bool) (mask count : ℕ) (ws o : List ℕ) (i at : ℕ) (I : L
 
     parted : (x g : ℕ) (weak : Bool) →
         partOf short own (meant (getD I a nothing)) (meant (getD I b nothing)) x g weak ((meaning n) .kind) ((meaning n) .first)
-        ≡ part short mask is x g weak (N .kind) (N .first) (N .second)
+        ≡ part short weak (N .kind) (meaningsOf mask is N weak x g)
     parted x g weak =
         let p = looked a ∙ ap (λ (c : ℕ). getD is c noImage) first-same in
         let q = looked b ∙ ap (λ (c : ℕ). getD is c noImage) second-same in
@@ -241,10 +235,10 @@ module _ (short : Bool) (mask count : ℕ) (ws o : List ℕ) (i at : ℕ) (I : L
         ∙ tolerant-same mask is (N .first) (N .second) (N .kind))
 
     abbrev weakPart : List Emit
-    weakPart = part short mask is at at true (N .kind) (N .first) (N .second)
+    weakPart = part short true (N .kind) (meaningsOf mask is N true at at)
 
     abbrev strongPart : List Emit
-    strongPart = part short mask is at (s .middle) false (N .kind) (N .first) (N .second)
+    strongPart = part short false (N .kind) (meaningsOf mask is N false at (s .middle))
 
     holds-both : Holds (emit (emit (d .D .nodes) weakPart) strongPart) o (r .strong + 1) o″
     holds-both =

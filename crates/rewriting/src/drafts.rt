@@ -1,13 +1,12 @@
 // The nodes of a rule in turn: the opening, then both images of each.
-ghost use mathlib.Core.Path.{_≡_};
 ghost use Prim.Native.Nat.{_<_, _≤_};
 ghost use lib.ListN.{length};
 ghost use Rattle.definitions.specs.Limits.{maxRuleNodes, maxTableNodes};
-ghost use Rattle.definitions.specs.Bounded.{bitOf};
 ghost use Rattle.rewriting.specs.Drafts.{Index, Ruled, Drawn};
 use images::Image;
+use images::draw_image;
 use images::opening;
-use images::step;
+use recordings::masks::is_own;
 use rules::limits::Limits;
 use rules::node::Node;
 
@@ -25,16 +24,8 @@ fn index(operand: u16) -> usize
     operand as usize
 }
 
-// "bit a is atom a"
-fn is_own(mask: u32, a: usize) -> bool
-    requires { ⌜ a < maxRuleNodes ⌝ }
-    ensures { λ r. ⌜ r ≡ bitOf mask a ⌝ }
-{
-    (mask as u64 >> a) % 2 == 1
-}
-
 // "Then each rule node in turn"; the array holds the images so far.
-pub fn steps(table: &mut [u32], short: bool, mask: u32, count: usize, nodes: &[u32]) -> Draft
+pub fn draw_images(table: &mut [u32], short: bool, mask: u32, count: usize, nodes: &[u32]) -> Draft
     requires { ⌜ (Ruled count (now nodes)) × (maxTableNodes ≤ length (now table)) ⌝ }
     ensures { λ r. ⌜ Drawn short mask count (now (nodes .entry)) (now (table .entry)) r (now (table .exit)) ⌝ }
 {
@@ -52,7 +43,7 @@ pub fn steps(table: &mut [u32], short: bool, mask: u32, count: usize, nodes: &[u
         let a = index(n.first);
         let b = index(n.second);
         let own = is_own(mask, a);
-        last = step(table, at, short, own, n, images[a], images[b]);
+        last = draw_image(table, at, short, own, n, images[a], images[b]);
         images[i] = last;
         at = last.strong as usize + 1;
         i += 1;

@@ -1,2 +1,1 @@
 pub mod RewrittenLaws
-pub mod FourJudgements

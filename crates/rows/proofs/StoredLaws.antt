@@ -5,7 +5,7 @@ use mathlib.Core.Path.{_≡_, refl, sym, ap, _∙_}
 use Prim.Native.Nat.{ℕ, zero, suc, _+_, _-_, _*_, _<_, _≤_}
 use native.Mathlib.Nat.{add-zero, not-suc-le-zero, le-of-suc-le-suc}
 use native.Mathlib.Omega.{arith}
-use lib.ListN.{length, take, drop, getD, set, length-append, List·getD-append}
+use lib.ListN.{length, take, drop, getD, set, List·getD-append}
 use lib.Seq.{drop-at, take-at, drop-drop, getD-take, getD-drop, sets-eq, length-take-le}
 use borrow.Author.Needs.{needs}
 use Rattle.definitions.specs.Limits.{maxStates, pairWords}
@@ -101,18 +101,5 @@ row-laid entry l l′ front at ms e n v =
     let d : drop (at + 3) l ≡ drop (at + 3) entry =
     sym (drop-drop 3 at l) ∙ ap (drop 3) (ap (drop at) e ∙ drop-at front (drop at entry) at n) ∙ drop-drop 3 at entry in
     v ∙ rw (t, d) (sym (append-assoc front (rowWords ms) (drop (at + 3) entry)))
-
-pub pair-laid : (entry l l′ l″ : List ℕ) (rs : List Rows) (i : ℕ) (r : Rows) → l ≡ pairsWords rs ++ drop (i * pairWords) entry → length rs ≡ i
-    → l′ ≡ take (i * pairWords) l ++ (rowWords (r .weak) ++ drop (i * pairWords + 3) l)
-    → l″ ≡ take (i * pairWords + 3) l′ ++ (rowWords (r .strong) ++ drop (i * pairWords + 3 + 3) l′)
-    → l″ ≡ pairsWords (rs ++ (r ∷ [])) ++ drop ((i + 1) * pairWords) entry
-pair-laid entry l l′ l″ rs i r e n v u =
-    let m : length (pairsWords rs) ≡ i * 6 = omega (arith, pairs-length rs) in
-    let k : length (pairsWords rs ++ rowWords (r .weak)) ≡ i * 6 + 3 = omega (arith, length-append (pairsWords rs) (rowWords (r .weak))) in
-    let j : i * 6 + 3 + 3 ≡ (i + 1) * 6 = omega arith in
-    let weak : l′ ≡ (pairsWords rs ++ rowWords (r .weak)) ++ drop (i * 6 + 3) entry = row-laid entry l l′ (pairsWords rs) (i * 6) (r .weak) e m v in
-    let both : l″ ≡ ((pairsWords rs ++ rowWords (r .weak)) ++ rowWords (r .strong)) ++ drop (i * 6 + 3 + 3) entry =
-    row-laid entry l′ l″ (pairsWords rs ++ rowWords (r .weak)) (i * 6 + 3) (r .strong) weak k u in
-    both ∙ rw (j, append-assoc (pairsWords rs) (rowWords (r .weak)) (rowWords (r .strong)), pairs-more)
 
 pub ruleset stored-laws = (needs, stored)

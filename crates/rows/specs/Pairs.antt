@@ -1,29 +1,16 @@
 -- A node's two rows, as the code has them.
 use mathlib.Core.Path.{_≡_}
-use mathlib.Core.List.{List, [], _∷_}
-use mathlib.Core.Bool.{Bool, true, false}
+use mathlib.Core.List.{List, [], _∷_, _++_}
+use mathlib.Core.Bool.{false}
 use Prim.Native.Nat.{ℕ, _+_, _*_, _≤_}
-use lib.ListN.{length}
+use lib.ListN.{length, take, drop}
 use Rattle.definitions.specs.Limits.{pairWords}
-use Rattle.definitions.specs.Nodes.{Kind, True, Atom, Not, Or, Next, Until, Prev, Since, Run, End, Unknown, node, kindOf}
-use Rattle.definitions.specs.Readings.{Trace, Rows, nodeRows}
+use Rattle.definitions.specs.Nodes.{Kind, node, kindOf}
+use Rattle.definitions.specs.Readings.{Trace, Rows, nodeRows, pairsWords}
+use Rattle.rules.specs.Kinds.{isLeaf}
 use Rattle.rows.specs.Marks.{marks, Whole, Made}
 use Rattle.rows.specs.Stored.{rowAt}
 use Rattle.rows.specs.declared.pair.Pair.{Pair}
-
--- a kind that has no operand nodes
-abbrev pub isLeaf : Kind → Bool
-isLeaf True = true
-isLeaf Atom = true
-isLeaf Not = false
-isLeaf Or = false
-isLeaf Next = false
-isLeaf Until = false
-isLeaf Prev = false
-isLeaf Since = false
-isLeaf Run = true
-isLeaf End = true
-isLeaf Unknown = true
 
 -- the rows that a pair holds
 abbrev pub rowsIn : Pair → Rows
@@ -33,6 +20,11 @@ rowsIn p = record { weak = marks (p .weak); strong = marks (p .strong) }
 pub record PairMade (p : Pair) (n : ℕ) (r : Rows) : Type 0 where
   pub weak : Made (p .weak) n (r .weak)
   pub strong : Made (p .strong) n (r .strong)
+
+-- both rows of a pair are whole
+pub record PairWhole (p : Pair) : Type 0 where
+  pub weak : Whole (p .weak)
+  pub strong : Whole (p .strong)
 
 -- both rows of a pair cover n places
 pub record Counted (n : ℕ) (p : Pair) : Type 0 where
@@ -64,6 +56,12 @@ pairAt l at = record { weak = rowAt l at; strong = rowAt l (at + 3) }
 -- the pair of node k
 abbrev pub pairOfNode : List ℕ → ℕ → Pair
 pairOfNode rows k = pairAt rows (k * pairWords)
+
+-- the words of p over those of node j: node j then has the pair p, and every other node the pair that it had
+pub record PairStored (entry : List ℕ) (j : ℕ) (p : Pair) (exit : List ℕ) : Type 0 where
+  pub words : exit ≡ take (j * pairWords) entry ++ (pairsWords (rowsIn p ∷ []) ++ drop ((j + 1) * pairWords) entry)
+  pub here : pairOfNode exit j ≡ p
+  pub others : (i : ℕ) → (i ≡ j → ⊥) → pairOfNode exit i ≡ pairOfNode entry i
 
 -- an operator whose operands' rows are laid, n places each
 pub record Operands (kind first second n : ℕ) (rows : List ℕ) : Type 0 where

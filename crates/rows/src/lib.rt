@@ -22,12 +22,18 @@ use mark_words::ones;
 use mark_words::since_word;
 use mark_words::until_word;
 
+// Before place 0 there is no place at which since could hold.
+const NO_PAST: u64 = 0;
+
 pub struct Row {
     pub words: [u64; 2],
     pub count: usize,
 }
 
 impl Row {
+    // The words of a row in lent space: low, high and count.
+    pub const WORDS: usize = 3;
+
     // The word of places 0 to 63.
     pub fn low(self) -> u64
         requires { ⌜ Whole self ⌝ }
@@ -229,7 +235,7 @@ impl Row {
         requires { ⌜ (Whole self) × (Whole q) × (self .count ≡ q .count) ⌝ }
         ensures { λ r. ⌜ Made r (self .count) (tabulate (self .count) (sinceAt (markAt (marks self)) (markAt (marks q)))) ⌝ }
     {
-        let low = since_word(self.low(), q.low(), 0);
+        let low = since_word(self.low(), q.low(), NO_PAST);
         let high = since_word(self.high(), q.high(), low >> (WORD_MARKS - 1));
         Row {
             words: [low, high],

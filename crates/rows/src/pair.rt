@@ -1,13 +1,16 @@
 // A node's two rows, and the operators on them.
 ghost use mathlib.Core.Path.{_≡_};
 ghost use mathlib.Core.Bool.{false};
-ghost use Prim.Native.Nat.{_+_, _≤_};
+ghost use Prim.Native.Nat.{_+_, _*_, _≤_};
 ghost use lib.ListN.{length};
 ghost use Rattle.definitions.specs.Limits.{pairWords};
 ghost use Rattle.definitions.specs.Nodes.{Until, kindOf};
-ghost use Rattle.rows.specs.Pairs.{isLeaf, rowsIn, PairMade, Counted, Operable, operated, pairAt};
+ghost use Rattle.rules.specs.Kinds.{isLeaf};
+ghost use Rattle.rows.specs.Pairs.{rowsIn, PairMade, PairWhole, PairStored, Counted, Operable, operated, pairAt, pairOfNode};
 use super::Row;
 use super::stored::load;
+use super::stored::store;
+use rules::limits::Limits;
 use rules::node::Node;
 
 pub struct Pair {
@@ -16,8 +19,8 @@ pub struct Pair {
 }
 
 impl Pair {
-    // Where the strong row lies in lent space, after the three words of the weak one.
-    pub const STRONG: usize = 3;
+    // Where the strong row lies in lent space: after the weak one.
+    pub const STRONG: usize = Row::WORDS;
 }
 
 pub fn load_pair(rows: &[u64], at: usize) -> Pair
@@ -28,6 +31,23 @@ pub fn load_pair(rows: &[u64], at: usize) -> Pair
         weak: load(rows, at),
         strong: load(rows, at + Pair::STRONG),
     }
+}
+
+// The rows of node j.
+pub fn pair_of_node(rows: &[u64], j: usize) -> Pair
+    requires { ⌜ j * pairWords + pairWords ≤ length (now rows) ⌝ }
+    ensures { λ r. ⌜ r ≡ pairOfNode (now (rows .entry)) j ⌝ }
+{
+    load_pair(rows, j * Limits::PAIR_WORDS)
+}
+
+// Lays a pair over that of node j.
+pub fn store_pair(rows: &mut [u64], j: usize, p: Pair)
+    requires { ⌜ (PairWhole p) × (j * pairWords + pairWords ≤ length (now rows)) ⌝ }
+    ensures { λ _. ⌜ PairStored (now (rows .entry)) j p (now (rows .exit)) ⌝ }
+{
+    store(rows, j * Limits::PAIR_WORDS, p.weak);
+    store(rows, j * Limits::PAIR_WORDS + Pair::STRONG, p.strong);
 }
 
 // The pair, its counts told to be n: the compiler then sees one count where there are two.

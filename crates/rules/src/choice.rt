@@ -1,5 +1,6 @@
 // Choice by a test, as the definitions have it: a table of cases is then a row of calls.
 ghost use mathlib.Core.Path.{_≡_};
+ghost use Prim.Native.Nat.{min};
 ghost use Rattle.definitions.specs.Bounded.{pick, orElse};
 use super::limits::Refusal;
 
@@ -28,6 +29,15 @@ pub fn pick_word(test: bool, yes: u32, no: u32) -> u32
         return yes;
     }
     no
+}
+
+pub fn least(a: usize, b: usize) -> usize
+    ensures { λ r. ⌜ r ≡ min a b ⌝ }
+{
+    if a < b {
+        return a;
+    }
+    b
 }
 
 // The first refusal, or the other.

@@ -3,6 +3,7 @@ ghost use mathlib.Core.Path.{_≡_};
 ghost use lib.Dec.{eqb};
 ghost use Rattle.definitions.specs.Nodes.{kindOf, operands};
 ghost use Rattle.definitions.specs.Tables.{isUnknown};
+ghost use Rattle.rules.specs.Kinds.{isLeaf};
 use super::choice::pick;
 use super::node::Node;
 
@@ -16,6 +17,13 @@ pub fn takes_two(kind: u8) -> bool
     ensures { λ r. ⌜ r ≡ eqb (operands (kindOf kind)) 2 ⌝ }
 {
     (kind == Node::OR) | (kind == Node::UNTIL) | (kind == Node::SINCE)
+}
+
+// Kinds without operand nodes.
+pub fn is_leaf(kind: u8) -> bool
+    ensures { λ r. ⌜ r ≡ isLeaf (kindOf kind) ⌝ }
+{
+    (kind < Node::NOT) | (Node::SINCE < kind)
 }
 
 // How many operands a kind uses.

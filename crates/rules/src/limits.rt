@@ -16,9 +16,11 @@ impl Limits {
 
     pub const TABLE_NODES: usize = 1024;
 
+    // The words of one node's two rows.
     pub const PAIR_WORDS: usize = 6;
 
-    pub const ROW_WORDS: usize = Limits::TABLE_NODES * Limits::PAIR_WORDS;
+    // The words of the rows of a whole table.
+    pub const ROWS_WORDS: usize = Limits::TABLE_NODES * Limits::PAIR_WORDS;
 
     pub const RULE_BYTES: usize = 1024;
 

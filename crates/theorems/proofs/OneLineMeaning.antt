@@ -12,7 +12,7 @@ use Rattle.definitions.specs.OneLineSigns as sign
 use Rattle.definitions.specs.OneLineGrammar as tree
 use Rattle.definitions.specs.OneLineGrammar.{Tree}
 use Rattle.definitions.specs.OneLineNodes as rule-tree
-use Rattle.definitions.specs.OneLineNodes.{RuleTree, leaf, unary, binary, negation, prefixed, joined, ruleTreeOf, nodesFrom, nodesOf}
+use Rattle.definitions.specs.OneLineNodes.{RuleTree, atomic, unary, binary, negation, prefixFormula, infixFormula, ruleTreeOf, nodesFrom, nodesOf}
 use Rattle.theorems.proofs.Recursions.{some-cong}
 use Rattle.theorems.proofs.Semantics.{Row, noRow, reading-is, verdict-is}
 use Rattle.theorems.proofs.Terms.{Unary, not₁, next₁, prev₁, Binary, or₂, until₂, since₂, Term, yes₀, atom₀, one, two, kind₁, kind₂, op₁, op₂, den, comp, top, Below, comp-den, size, above, topFrom, code, top-last, comp-code}
@@ -26,7 +26,7 @@ operandsOf p q (suc n) = q
 
 -- the reading of a rule's tree: that of a node of its kind, from the readings of its operands
 unfoldable pub means : Trace → RuleTree → Row
-means t (leaf k n) = reading t (operandsOf noRow noRow) k n 0
+means t (atomic k n) = reading t (operandsOf noRow noRow) k n 0
 means t (unary k p) = reading t (operandsOf (means t p) noRow) k 0 0
 means t (binary k p q) = reading t (operandsOf (means t p) (means t q)) k 0 1
 
@@ -53,7 +53,7 @@ not-some f zero k = refl
 not-some f (suc n) k = not-or (not (f k)) (someOf n (suc k) (λ j. not (f j))) ∙ rw (twice (f k), not-some f n (suc k))
 
 -- "F p": p at some place from here on; weak also since the trace may go on
-pub eventually-means : (t : Trace) (p : RuleTree) (weak : Bool) (i : ℕ) → means t (prefixed sign.Future p) weak i ≡ (some i (t .places) (means t p weak) || weak)
+pub eventually-means : (t : Trace) (p : RuleTree) (weak : Bool) (i : ℕ) → means t (prefixFormula sign.Future p) weak i ≡ (some i (t .places) (means t p weak) || weak)
 unfolding means
 eventually-means t p weak i =
     let e : everyOf (t .places - i) i (λ j. true) ≡ true = every-true (t .places - i) i in
@@ -68,20 +68,20 @@ not-some-not t p true i = not-some (means t p true) (t .places - i) i
 not-some-not t p false i = not-some (means t p false) (t .places - i) i
 
 -- "G p": p at every place from here on; strong never, since the trace may go on
-pub always-means : (t : Trace) (p : RuleTree) (weak : Bool) (i : ℕ) → means t (prefixed sign.Always p) weak i ≡ (every i (t .places) (means t p weak) && weak)
+pub always-means : (t : Trace) (p : RuleTree) (weak : Bool) (i : ℕ) → means t (prefixFormula sign.Always p) weak i ≡ (every i (t .places) (means t p weak) && weak)
 unfolding means
 always-means t p weak i =
     ap not (eventually-means t (negation p) (not weak) i)
     ∙ (not-or (some i (t .places) (means t (negation p) (not weak))) (not weak) ∙ rw (not-some-not t p weak i, twice weak))
 
 -- "p & q": both
-pub both-mean : (t : Trace) (p q : RuleTree) (weak : Bool) (i : ℕ) → means t (joined sign.And p q) weak i ≡ (means t p weak i && means t q weak i)
+pub both-mean : (t : Trace) (p q : RuleTree) (weak : Bool) (i : ℕ) → means t (infixFormula sign.And p q) weak i ≡ (means t p weak i && means t q weak i)
 unfolding means
 both-mean t p q weak i =
     rw (twice weak) (not-or (not (means t p weak i)) (not (means t q weak i)) ∙ rw (twice (means t p weak i), twice (means t q weak i)))
 
 -- "p -> q": q, or not p, which is p in the other reading
-pub implies-means : (t : Trace) (p q : RuleTree) (weak : Bool) (i : ℕ) → means t (joined sign.Implies p q) weak i ≡ (not (means t p (not weak) i) || means t q weak i)
+pub implies-means : (t : Trace) (p q : RuleTree) (weak : Bool) (i : ℕ) → means t (infixFormula sign.Implies p q) weak i ≡ (not (means t p (not weak) i) || means t q weak i)
 unfolding means
 implies-means t p q weak i = refl
 
@@ -89,39 +89,39 @@ implies-means t p q weak i = refl
 
 -- a rule's tree as a term that is written out at the end of a table
 pub data Writes : RuleTree → Term → Type 0 where
-  writes-true : Writes (leaf True 0) yes₀
-  writes-atom : (n : ℕ) → Writes (leaf Atom n) (atom₀ n)
+  writes-true : Writes (atomic True 0) yes₀
+  writes-atom : (n : ℕ) → Writes (atomic Atom n) (atom₀ n)
   writes-one : {p : RuleTree} {x : Term} (o : Unary) → Writes p x → Writes (unary (kind₁ o) p) (one o x)
   writes-two : {p q : RuleTree} {x y : Term} (o : Binary) → Writes p x → Writes q y → Writes (binary (kind₂ o) p q) (two o x y)
 
 abbrev pub termOf : Tree → Term
-termOf tree.always = yes₀
-termOf (tree.reading n) = atom₀ n
-termOf (tree.one sign.Not p) = one not₁ (termOf p)
-termOf (tree.one sign.Next p) = one next₁ (termOf p)
-termOf (tree.one sign.Prev p) = one prev₁ (termOf p)
-termOf (tree.one sign.Future p) = two until₂ yes₀ (termOf p)
-termOf (tree.one sign.Always p) = one not₁ (two until₂ yes₀ (one not₁ (termOf p)))
-termOf (tree.two sign.Implies p q) = two or₂ (one not₁ (termOf p)) (termOf q)
-termOf (tree.two sign.Or p q) = two or₂ (termOf p) (termOf q)
-termOf (tree.two sign.And p q) = one not₁ (two or₂ (one not₁ (termOf p)) (one not₁ (termOf q)))
-termOf (tree.two sign.Until p q) = two until₂ (termOf p) (termOf q)
-termOf (tree.two sign.Since p q) = two since₂ (termOf p) (termOf q)
+termOf tree.truth = yes₀
+termOf (tree.atom n) = atom₀ n
+termOf (tree.prefixed sign.Not p) = one not₁ (termOf p)
+termOf (tree.prefixed sign.Next p) = one next₁ (termOf p)
+termOf (tree.prefixed sign.Prev p) = one prev₁ (termOf p)
+termOf (tree.prefixed sign.Future p) = two until₂ yes₀ (termOf p)
+termOf (tree.prefixed sign.Always p) = one not₁ (two until₂ yes₀ (one not₁ (termOf p)))
+termOf (tree.joined sign.Implies p q) = two or₂ (one not₁ (termOf p)) (termOf q)
+termOf (tree.joined sign.Or p q) = two or₂ (termOf p) (termOf q)
+termOf (tree.joined sign.And p q) = one not₁ (two or₂ (one not₁ (termOf p)) (one not₁ (termOf q)))
+termOf (tree.joined sign.Until p q) = two until₂ (termOf p) (termOf q)
+termOf (tree.joined sign.Since p q) = two since₂ (termOf p) (termOf q)
 
 pub tree-writes : (t : Tree) → Writes (ruleTreeOf t) (termOf t)
 unfolding ruleTreeOf
-tree-writes tree.always = writes-true
-tree-writes (tree.reading n) = writes-atom n
-tree-writes (tree.one sign.Not p) = writes-one not₁ (tree-writes p)
-tree-writes (tree.one sign.Next p) = writes-one next₁ (tree-writes p)
-tree-writes (tree.one sign.Prev p) = writes-one prev₁ (tree-writes p)
-tree-writes (tree.one sign.Future p) = writes-two until₂ writes-true (tree-writes p)
-tree-writes (tree.one sign.Always p) = writes-one not₁ (writes-two until₂ writes-true (writes-one not₁ (tree-writes p)))
-tree-writes (tree.two sign.Implies p q) = writes-two or₂ (writes-one not₁ (tree-writes p)) (tree-writes q)
-tree-writes (tree.two sign.Or p q) = writes-two or₂ (tree-writes p) (tree-writes q)
-tree-writes (tree.two sign.And p q) = writes-one not₁ (writes-two or₂ (writes-one not₁ (tree-writes p)) (writes-one not₁ (tree-writes q)))
-tree-writes (tree.two sign.Until p q) = writes-two until₂ (tree-writes p) (tree-writes q)
-tree-writes (tree.two sign.Since p q) = writes-two since₂ (tree-writes p) (tree-writes q)
+tree-writes tree.truth = writes-true
+tree-writes (tree.atom n) = writes-atom n
+tree-writes (tree.prefixed sign.Not p) = writes-one not₁ (tree-writes p)
+tree-writes (tree.prefixed sign.Next p) = writes-one next₁ (tree-writes p)
+tree-writes (tree.prefixed sign.Prev p) = writes-one prev₁ (tree-writes p)
+tree-writes (tree.prefixed sign.Future p) = writes-two until₂ writes-true (tree-writes p)
+tree-writes (tree.prefixed sign.Always p) = writes-one not₁ (writes-two until₂ writes-true (writes-one not₁ (tree-writes p)))
+tree-writes (tree.joined sign.Implies p q) = writes-two or₂ (writes-one not₁ (tree-writes p)) (tree-writes q)
+tree-writes (tree.joined sign.Or p q) = writes-two or₂ (tree-writes p) (tree-writes q)
+tree-writes (tree.joined sign.And p q) = writes-one not₁ (writes-two or₂ (writes-one not₁ (tree-writes p)) (writes-one not₁ (tree-writes q)))
+tree-writes (tree.joined sign.Until p q) = writes-two until₂ (tree-writes p) (tree-writes q)
+tree-writes (tree.joined sign.Since p q) = writes-two since₂ (tree-writes p) (tree-writes q)
 
 above-sum : (k n : ℕ) → above k n ≡ n + k
 above-sum zero n = omega arith

@@ -14,7 +14,7 @@ use Rattle.definitions.specs.Tables.{isRewritten, nodeRefusal, nodesRefusal, ru
 use Rattle.definitions.specs.OneLineSigns as sign
 use Rattle.definitions.specs.OneLineGrammar as tree
 use Rattle.definitions.specs.OneLineGrammar.{Tree}
-use Rattle.definitions.specs.OneLineNodes.{RuleTree, leaf, unary, binary, ruleTreeOf, size, nodesFrom, nodesOf, largestAtom}
+use Rattle.definitions.specs.OneLineNodes.{RuleTree, atomic, unary, binary, ruleTreeOf, size, nodesFrom, nodesOf, largestAtom}
 use Rattle.theorems.proofs.Choice.{pick-true, none-or-else}
 use Rattle.theorems.proofs.NodeWords.{node-of-word, AllHeld}
 use Rattle.theorems.proofs.TableNodes.{TableNodes, nodes-append, nodes-held, node-accepted}
@@ -25,7 +25,7 @@ use Rattle.theorems.proofs.OneLineMeaning.{Writes, writes-true, writes-
 -- as many nodes come out as the size says
 pub nodes-size : (f : RuleTree) (b : ℕ) → length (nodesFrom b f) ≡ size f
 unfolding nodesFrom size
-nodes-size (leaf k n) b = refl
+nodes-size (atomic k n) b = refl
 nodes-size (unary k p) b = omega (arith, length-append (nodesFrom b p) (node k (b + size p - 1) 0 ∷ []), nodes-size p b)
 nodes-size (binary k p q) b =
     let last = node k (b + size p - 1) (b + size p + size q - 1) ∷ [] in
@@ -39,30 +39,30 @@ nodes-size (binary k p q) b =
 
 pub size-some : (f : RuleTree) → 0 < size f
 unfolding size
-size-some (leaf k n) = omega arith
+size-some (atomic k n) = omega arith
 size-some (unary k p) = omega arith
 size-some (binary k p q) = omega arith
 
 -- each atom is below m
 abbrev AtomsBelow : ℕ → RuleTree → Type 0
-AtomsBelow m (leaf k n) = n < m
+AtomsBelow m (atomic k n) = n < m
 AtomsBelow m (unary k p) = AtomsBelow m p
 AtomsBelow m (binary k p q) = AtomsBelow m p × AtomsBelow m q
 
 tree-atoms : (m : ℕ) (t : Tree) → largestAtom t < m → AtomsBelow m (ruleTreeOf t)
 unfolding ruleTreeOf largestAtom
-tree-atoms m tree.always h = h
-tree-atoms m (tree.reading n) h = h
-tree-atoms m (tree.one sign.Not p) h = tree-atoms m p h
-tree-atoms m (tree.one sign.Next p) h = tree-atoms m p h
-tree-atoms m (tree.one sign.Prev p) h = tree-atoms m p h
-tree-atoms m (tree.one sign.Future p) h = (omega arith, tree-atoms m p h)
-tree-atoms m (tree.one sign.Always p) h = (omega arith, tree-atoms m p h)
-tree-atoms m (tree.two sign.Implies p q) h = (tree-atoms m p (omega (arith, larger-first (largestAtom p) (largestAtom q))), tree-atoms m q (omega (arith, larger-second (largestAtom p) (largestAtom q))))
-tree-atoms m (tree.two sign.Or p q) h = (tree-atoms m p (omega (arith, larger-first (largestAtom p) (largestAtom q))), tree-atoms m q (omega (arith, larger-second (largestAtom p) (largestAtom q))))
-tree-atoms m (tree.two sign.And p q) h = (tree-atoms m p (omega (arith, larger-first (largestAtom p) (largestAtom q))), tree-atoms m q (omega (arith, larger-second (largestAtom p) (largestAtom q))))
-tree-atoms m (tree.two sign.Until p q) h = (tree-atoms m p (omega (arith, larger-first (largestAtom p) (largestAtom q))), tree-atoms m q (omega (arith, larger-second (largestAtom p) (largestAtom q))))
-tree-atoms m (tree.two sign.Since p q) h = (tree-atoms m p (omega (arith, larger-first (largestAtom p) (largestAtom q))), tree-atoms m q (omega (arith, larger-second (largestAtom p) (largestAtom q))))
+tree-atoms m tree.truth h = h
+tree-atoms m (tree.atom n) h = h
+tree-atoms m (tree.prefixed sign.Not p) h = tree-atoms m p h
+tree-atoms m (tree.prefixed sign.Next p) h = tree-atoms m p h
+tree-atoms m (tree.prefixed sign.Prev p) h = tree-atoms m p h
+tree-atoms m (tree.prefixed sign.Future p) h = (omega arith, tree-atoms m p h)
+tree-atoms m (tree.prefixed sign.Always p) h = (omega arith, tree-atoms m p h)
+tree-atoms m (tree.joined sign.Implies p q) h = (tree-atoms m p (omega (arith, larger-first (largestAtom p) (largestAtom q))), tree-atoms m q (omega (arith, larger-second (largestAtom p) (largestAtom q))))
+tree-atoms m (tree.joined sign.Or p q) h = (tree-atoms m p (omega (arith, larger-first (largestAtom p) (largestAtom q))), tree-atoms m q (omega (arith, larger-second (largestAtom p) (largestAtom q))))
+tree-atoms m (tree.joined sign.And p q) h = (tree-atoms m p (omega (arith, larger-first (largestAtom p) (largestAtom q))), tree-atoms m q (omega (arith, larger-second (largestAtom p) (largestAtom q))))
+tree-atoms m (tree.joined sign.Until p q) h = (tree-atoms m p (omega (arith, larger-first (largestAtom p) (largestAtom q))), tree-atoms m q (omega (arith, larger-second (largestAtom p) (largestAtom q))))
+tree-atoms m (tree.joined sign.Since p q) h = (tree-atoms m p (omega (arith, larger-first (largestAtom p) (largestAtom q))), tree-atoms m q (omega (arith, larger-second (largestAtom p) (largestAtom q))))
 
 -- no kind that only rewritten tables have
 abbrev RuleKinds : List Node → Type 0

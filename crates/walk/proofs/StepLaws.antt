@@ -16,8 +16,8 @@ use Rattle.mark_words.specs.Marks.{markAt}
 use Rattle.rows.specs.Marks.{marks, Whole, Made}
 use Rattle.rows.specs.declared.Row.{Row}
 use Rattle.rows.proofs.PackedLaws.{marks-length, retold}
-use Rattle.rows.specs.Pairs.{isLeaf}
-use Rattle.rows.proofs.KindLaws.{kind-not, kind-or, kind-next, kind-until, kind-prev, kind-since}
+use Rattle.rules.specs.Kinds.{isLeaf}
+use Rattle.rules.proofs.KindLaws.{kind-not, kind-or, kind-next, kind-until, kind-prev, kind-since}
 use Rattle.walk.specs.declared.step.Step.{Step}
 use Rattle.walk.specs.Steps.{Twin, Even, markOf, Marks, OfFirst, Reached, Stepped}
 
@@ -47,6 +47,7 @@ until-below n d p q p′ q′ h g k l = until-recursion d n p q k ∙ (until-agr
 
 -- ---- p and not q
 
+-- `but_not`
 pub but-not-made : (p q b r : Row) → Twin p q → Made b (q .count) (tabulate (q .count) (λ k. not (markOf q k))) → Made r (p .count) (tabulate (p .count) (λ k. markOf p k && markOf b k))
     → Made r (p .count) (tabulate (p .count) (λ k. markOf p k && not (markOf q k)))
 but-not-made p q b r t mb mr =
@@ -55,6 +56,7 @@ but-not-made p q b r t mb mr =
 
 -- ---- of the first operand alone
 
+-- `of_first`
 pub of-first : (places none : Row) → Made none (places .count) (tabulate (places .count) (λ k. false)) → OfFirst places (stepOf places none)
 of-first places none m = record { first = refl; second = m }
 
@@ -66,6 +68,7 @@ or-takes true false p = refl
 or-takes true true true = refl
 or-takes true true false = refl
 
+-- `or_step`: "an or that is yes takes its first yes operand, one that is no takes both" (`firstMarks`, `secondMarks` of Or)
 pub or-step : (w u p c r s : Row) → Even w u p p → Marks c (u .count) (λ k. markOf u k && not (markOf p k)) → Marks r (w .count) (λ k. markOf w k && not (markOf c k))
     → Marks s (w .count) (λ k. markOf w k && not (markOf p k)) → Stepped Or w u p p (stepOf r s)
 or-step w u p c r s E mc mr ms = record {
@@ -87,6 +90,7 @@ here-second true true = refl
 here-second true false = refl
 here-second false q = refl
 
+-- `reached`: what is taken at the places that were come to (`pHere`, `qHere`)
 pub reached-step : (w u p q held nu failed some r s : Row) → Even w u p q
     → Marks held (u .count) (λ k. markOf u k && not (markOf q k)) → Marks nu (u .count) (λ k. not (markOf u k)) → Marks failed (nu .count) (λ k. markOf nu k && not (markOf p k))
     → Marks some (held .count) (λ k. markOf held k || markOf failed k) → Marks r (w .count) (λ k. markOf w k && markOf some k) → Marks s (w .count) (λ k. markOf w k && not (markOf held k))
@@ -124,6 +128,7 @@ module _ (w u p q on from reach : Row) (s : Step) (E : Even w u p q) (mo : Marks
     came-second = marks-same (s .second) (reach .count) (w .count) (λ k. markOf reach k && qHere (markOf u) (markOf q) k) (λ k. f k && qHere (markOf u) (markOf q) k) (R .second) m
         (λ k l. ap (λ (z : Bool). z && qHere (markOf u) (markOf q) k) (c k l))
 
+  -- `until_step`: the places from each wanted one on to the first at which it is decided (`untilReach`)
   pub until-step : Marks from (on .count) (prevAt (markOf on)) → Marks reach (from .count) (sinceAt (markOf from) (markOf w)) → Reached reach u p q s → Stepped Until w u p q s
   until-step mf mr R =
       let n : ℕ = w .count in
@@ -135,6 +140,7 @@ module _ (w u p q on from reach : Row) (s : Step) (E : Even w u p q) (mo : Marks
       ∙ since-below n (markOf from) (markOf w) (prevAt (goesOn (markOf p) (markOf q))) (markOf w) f (λ k l. refl) k l in
       record { first = came-first (untilReach (markOf p) (markOf q) (markOf w)) (mr .count ∙ e) c R; second = came-second (untilReach (markOf p) (markOf q) (markOf w)) (mr .count ∙ e) c R }
 
+  -- `since_step`: the same from each wanted place back (`sinceReach`)
   pub since-step : Marks from (on .count) (nextAt false (on .count) (markOf on)) → Marks reach (from .count) (untilAt false (from .count) (markOf from) (markOf w)) → Reached reach u p q s
       → Stepped Since w u p q s
   since-step mf mr R =
@@ -159,6 +165,7 @@ module _ (kind : ℕ) (w u p q : Row) (s : Step) (E : Even w u p q) where
   itself : Marks w (w .count) (markOf w)
   itself = record { whole = E .wanted; count = refl; marked = whole-marks w (E .wanted) }
 
+  -- `step_of`: a law for each kind, to `firstMarks` and `secondMarks` of that kind
   pub step-not : kind ≡ 2 → OfFirst w s → Stepped (kindOf kind) w u p q s
   step-not e o = rw (e, kind-not) (record { first = rw (o .first) itself; second = o .second })
 

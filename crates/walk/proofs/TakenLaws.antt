@@ -9,11 +9,12 @@ use Rattle.rows.specs.declared.Row.{Row}
 use Rattle.rows.proofs.PackedLaws.{recounted}
 use Rattle.rows.specs.declared.pair.Pair.{Pair}
 use Rattle.rows.specs.Pairs.{rowsIn, PairMade}
-use Rattle.rows.proofs.KindLaws.{kind-not}
+use Rattle.rules.proofs.KindLaws.{kind-not}
 use Rattle.rules.proofs.KindLaws.{kind-cases}
 use Rattle.walk.specs.declared.step.Step.{Step}
 use Rattle.walk.specs.Steps.{markOf, Marks, Stepped, PairsEven, pairUnder, takenFirst, takenSecond, bothOf, TakenMade}
 
+-- `under`: not swaps the readings (`pairUnder`), no other kind does
 pub under-not : (kind : ℕ) (weak strong : Row) → kind ≡ 2 → record { weak = strong; strong = weak } ≡ pairUnder (kindOf kind) weak strong
 unfolding pairUnder
 under-not kind weak strong e = rw (e, kind-not)
@@ -68,6 +69,7 @@ module _ (w u p q : Pair) (E : PairsEven w u p q) (a b : Step) where
   second-made End x y = record { weak = x .second; strong = strong-second End y }
   second-made Unknown x y = record { weak = x .second; strong = strong-second Unknown y }
 
+  -- `take`: a step in each reading makes what is taken in both (`takenFirst`, `takenSecond`)
   pub taken-made : (kind : ℕ) → Stepped (kindOf kind) (w .weak) (u .weak) (p .weak) (q .weak) a → Stepped (kindOf kind) (w .strong) (u .strong) (p .strong) (q .strong) b
       → (f s : Pair) → f ≡ pairUnder (kindOf kind) (a .first) (b .first) → s ≡ pairUnder (kindOf kind) (a .second) (b .second)
       → TakenMade (kindOf kind) w u p q (record { first = f; second = s })

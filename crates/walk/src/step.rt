@@ -5,7 +5,7 @@ ghost use Rattle.definitions.specs.Bounded.{tabulate};
 ghost use Rattle.definitions.specs.Nodes.{kindOf, Or, Until, Since};
 ghost use Rattle.mark_words.specs.Marks.{markAt};
 ghost use Rattle.rows.specs.Marks.{marks, Whole, Made};
-ghost use Rattle.rows.specs.Pairs.{isLeaf};
+ghost use Rattle.rules.specs.Kinds.{isLeaf};
 ghost use Rattle.walk.specs.Steps.{Twin, Even, OfFirst, Reached, Stepped};
 use rows::Row;
 use rules::node::Node;

@@ -2,7 +2,7 @@
 ghost use mathlib.Core.Path.{_≡_};
 ghost use mathlib.Core.Bool.{false};
 ghost use Rattle.definitions.specs.Nodes.{kindOf};
-ghost use Rattle.rows.specs.Pairs.{isLeaf};
+ghost use Rattle.rules.specs.Kinds.{isLeaf};
 ghost use Rattle.walk.specs.Steps.{PairsEven, pairUnder, TakenMade};
 use super::step::step_of;
 use rows::Row;

@@ -11,16 +11,19 @@ use borrow.Author.Tests.{ne-eqb, eq-eqb, lt-ltb, le-ltb}
 use Rattle.definitions.specs.Limits.{maxInputBytes, inputLong, ruleForm, maxRuleNodes, maxControllers, maxStates}
 use Rattle.definitions.specs.Bounded.{pick}
 use Rattle.definitions.specs.RecordingText.{jointNumber}
-use Rattle.definitions.specs.Program.{ruleIn, recordingIn, refusedText}
+use Rattle.definitions.specs.Program.{ruleTextIn, recordingTextIn, refusedText}
 use Rattle.definitions.specs.Why.{asks, whyTexts, whyOutput}
 use Rattle.theorems.proofs.Choice.{by-test}
-use Rattle.printing.specs.Printing.{Printed}
+use Rattle.printing.specs.Printing.{Printed, OutputIs}
+use Rattle.printing.proofs.LineLaws.{printed-all}
+use Rattle.report.proofs.ReportLaws.{refused-length}
 use Rattle.lines.proofs.PartLaws.{part-to-end}
 use Rattle.joint_reading.specs.Joining.{ReadJoint}
 use Rattle.program_input.specs.Splitting.{SplitAt}
-use Rattle.judge_program.specs.Output.{foundRule, foundRecording, OutputIs}
+use Rattle.program_input.proofs.SplitLaws.{rule-counted, texts-fit}
+use Rattle.judge_program.specs.Output.{foundRule, foundRecording}
 use Rattle.program_input.specs.declared.Parts.{Parts}
-use Rattle.judge_program.proofs.OutputLaws.{refused-length, first-is, line-is, rule-is, recording-is, refusal-room, tables-found, nodes-counted, masks-counted, states-counted, rule-counted, printed-all}
+use Rattle.judge_program.proofs.OutputLaws.{first-is, line-is, rule-is, recording-is, refusal-room, tables-found, nodes-counted, masks-counted, states-counted}
 use Rattle.evidence_text.specs.Behind.{behindOf, BehindReady}
 use Rattle.program_input.specs.Asking.{askedIn, AskedIs}
 use Rattle.why_program.specs.Output.{maxWhyBytes, FoundRoom, WhyRoom, InputRoom}
@@ -92,24 +95,22 @@ pub ruleset texts-laws = (needs, refused-room, refused-printed, found-room, foun
 module _ (input text : List ℕ) (room : InputRoom input text) (s : Parts) (is : SplitAt input s) where
   pub asked-room : WhyRoom (take (s .«rule_end») input) (take (length input - s .«recording_at») (drop (s .«recording_at») input)) text
   asked-room = record {
-    texts = record {
-      ruleFits = rw length-take (omega (arith, room .fits));
-      recordingFits = rw (part-to-end input (s .«recording_at»), length-drop) (omega (arith, room .fits));
-      textRoom = omega (arith, room .room);
-    };
+    texts =
+        let fit = texts-fit input s is (room .fits) in
+        record { ruleFits = fit .ruleFits; recordingFits = fit .recordingFits; textRoom = omega (arith, room .room) };
     room = room .room;
   }
 
   pub asked-printed : (weak : Bool) (e : ℕ) (text′ : List ℕ)
       → Printed (whyTexts weak (take (s .«rule_end») input) (take (length input - s .«recording_at») (drop (s .«recording_at») input))) text 0 e text′
-      → Printed (whyTexts weak (ruleIn input) (recordingIn input)) text 0 e text′
+      → Printed (whyTexts weak (ruleTextIn input) (recordingTextIn input)) text 0 e text′
   asked-printed weak e text′ p = rw (← is .rule, ← is .recording, ← part-to-end input (s .«recording_at»)) p
 
 pub ruleset split-laws = (needs, rule-counted, asked-room, asked-printed)
 
 -- ---- what is printed by each answer
 unfoldable answerText : List ℕ → Asked → List ℕ
-answerText input (Reading weak at) = whyTexts weak (ruleIn (drop at input)) (recordingIn (drop at input))
+answerText input (Reading weak at) = whyTexts weak (ruleTextIn (drop at input)) (recordingTextIn (drop at input))
 answerText input (Nothing len) = refusedText ruleForm (take len input)
 
 by-answer : (input : List ℕ) → length input ≤ maxInputBytes → whyOutput input ≡ answerText input (askedIn input)
@@ -119,7 +120,7 @@ by-answer input short =
     (by-test (asks true input) (λ t. rw t) (λ t. by-test (asks false input) (λ s. rw (t, s)) (λ s. rw (t, s))))
 
 module _ (input : List ℕ) (short : length input ≤ maxInputBytes) (r : Asked) (is : AskedIs input r) where
-  output-reading : (weak : Bool) (at : ℕ) → r ≡ Reading weak at → whyOutput input ≡ whyTexts weak (ruleIn (drop at input)) (recordingIn (drop at input))
+  output-reading : (weak : Bool) (at : ℕ) → r ≡ Reading weak at → whyOutput input ≡ whyTexts weak (ruleTextIn (drop at input)) (recordingTextIn (drop at input))
   unfolding answerText
   output-reading weak at e = by-answer input short ∙ ap (answerText input) (sym (is .is) ∙ e)
 
@@ -143,7 +144,7 @@ module _ (input output : List ℕ) (full : length output ≡ maxWhyBytes) where
       reading-room = record { fits = rw (part-to-end input at, length-drop) (omega arith); room = omega arith }
 
       pub reading-printed : (r : ℕ) (output′ : List ℕ)
-          → Printed (whyTexts weak (ruleIn (take (length input - at) (drop at input))) (recordingIn (take (length input - at) (drop at input)))) output 0 r output′
+          → Printed (whyTexts weak (ruleTextIn (take (length input - at) (drop at input))) (recordingTextIn (take (length input - at) (drop at input)))) output 0 r output′
           → OutputIs (whyOutput input) output r output′
       reading-printed r output′ p =
           rw (output-reading input short a is weak at e) (rw (part-to-end input at) at (printed-all _ output r output′ p))

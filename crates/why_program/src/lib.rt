@@ -1,19 +1,19 @@
 // The program: the first line asks for a reading, and both texts after it are read, judged, and printed of.
-ghost use Rattle.definitions.specs.Program.{ruleIn, recordingIn};
+ghost use Rattle.definitions.specs.Program.{ruleTextIn, recordingTextIn};
 ghost use Rattle.definitions.specs.Why.{whyTexts, whyOutput};
-ghost use Rattle.printing.specs.Printing.{Printed};
-ghost use Rattle.judge_program.specs.Output.{foundRule, foundRecording, OutputIs};
+ghost use Rattle.printing.specs.Printing.{Printed, OutputIs};
+ghost use Rattle.judge_program.specs.Output.{foundRule, foundRecording};
 ghost use Rattle.evidence_text.specs.Behind.{behindOf};
 ghost use Rattle.why_program.specs.Output.{FoundRoom, WhyRoom, InputRoom};
 use evidence_text::MOST_BYTES;
 use evidence_text::put_behind;
 use joint_reading::read_joint;
-use judges::headings::RecordingHeading;
-use judges::headings::RuleHeading;
 use program_input::asked::Asked;
 use program_input::asked::asked_by;
 use program_input::split;
+use recordings::heading::RecordingHeading;
 use report::put_refused;
+use rules::headings::RuleHeading;
 use rules::limits::Limits;
 use rules::limits::Refusal;
 
@@ -81,7 +81,7 @@ fn why_texts<'a>(weak: bool, rule: &'a [u8], recording: &'a [u8], text: &mut [u8
 // The input of the program `judge`, split at its first line `-`.
 fn why_asked(weak: bool, input: &[u8], text: &mut [u8]) -> usize
     requires { ⌜ InputRoom (now input) (now text) ⌝ }
-    ensures { λ r. ⌜ Printed (whyTexts weak (ruleIn (now (input .entry))) (recordingIn (now (input .entry)))) (now (text .entry)) 0 r (now (text .exit)) ⌝ }
+    ensures { λ r. ⌜ Printed (whyTexts weak (ruleTextIn (now (input .entry))) (recordingTextIn (now (input .entry)))) (now (text .entry)) 0 r (now (text .exit)) ⌝ }
 {
     let parts = split(input);
     let rule_end = parts.rule_end;

@@ -1,13 +1,14 @@
+-- `evaluate` meets its contract (EvaluateLaws, `evaluated-none`, `evaluated-more`, `evaluated-done`).
 use Prim.Native.Nat.{_-_}
 use Rattle.evaluation.proofs.EvaluateLaws.{Evaluated, table-laws}
 use Rattle.evaluation.proofs.evaluate.Statement.{statement}
 use Rattle.evaluation.proofs.evaluate.Tie as tie
 
 abbrev Inv-loop : tie.InvT-loop
-Inv-loop nodes count states n c own rows₀ seen₀ i₀ rows seen i = Evaluated nodes count states n c own rows₀ i rows seen
+Inv-loop nodes count states n c own rows₀ traced seen₀ i₀ rows seen i = Evaluated nodes count states n c own rows₀ i rows seen
 
 abbrev μ-loop : tie.MeasureT-loop
-μ-loop nodes count states n c own rows₀ seen₀ i₀ rows seen i = count - i
+μ-loop nodes count states n c own rows₀ traced seen₀ i₀ rows seen i = count - i
 
 loop-holds : tie.Need-loop-holds Inv-loop μ-loop
 loop-holds c = search table-laws

@@ -1,3 +1,4 @@
+-- `evaluate_node` meets its contract (EvaluateLaws, `turn-laid`).
 use Rattle.evaluation.proofs.EvaluateLaws.{table-laws}
 use Rattle.evaluation.proofs.evaluate_node.Statement.{statement}
 use Rattle.evaluation.proofs.evaluate_node.Tie as tie
@@ -5,20 +6,8 @@ use Rattle.evaluation.proofs.evaluate_node.Tie as tie
 node-rows-requires : tie.Need-node-rows-requires
 node-rows-requires c κs = search table-laws
 
-mul-store : tie.Need-mul-store
-mul-store c = search table-laws
-
-store-requires : tie.Need-store-requires
-store-requires c κs = search table-laws
-
-mul-store-2 : tie.Need-mul-store-2
-mul-store-2 c = search table-laws
-
-add-store : tie.Need-add-store
-add-store c = search table-laws
-
-store-requires-2 : tie.Need-store-requires-2
-store-requires-2 c κs = search table-laws
+store-pair-requires : tie.Need-store-pair-requires
+store-pair-requires c κs = search table-laws
 
 same-length : tie.Need-same-length
 same-length c = search table-laws
@@ -34,11 +23,7 @@ evaluate-node-spec =
     tie.close
     (tie.spec
     node-rows-requires
-    mul-store
-    store-requires
-    mul-store-2
-    add-store
-    store-requires-2
+    store-pair-requires
     same-length
     same-length-2
     returns)

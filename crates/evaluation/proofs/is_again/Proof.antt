@@ -1,3 +1,4 @@
+-- `is_again` meets its contract (EvaluateLaws, `again-tested`, `again-late`).
 use Rattle.evaluation.proofs.EvaluateLaws.{table-laws, again-tested, again-late}
 use Rattle.evaluation.proofs.is_again.Statement.{statement}
 use Rattle.evaluation.proofs.is_again.Tie as tie

@@ -1,3 +1,4 @@
+-- `node_rows` meets its contract: one law for each return (EvaluateLaws, `again-turn`, `leaf-turn`, `operator-turn`).
 use Rattle.evaluation.proofs.EvaluateLaws.{table-laws}
 use Rattle.evaluation.proofs.node_rows.Statement.{statement}
 use Rattle.evaluation.proofs.node_rows.Tie as tie

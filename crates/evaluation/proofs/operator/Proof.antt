@@ -1,3 +1,4 @@
+-- `operator` meets its contract (EvaluateLaws, `operator-rows`).
 use Rattle.evaluation.proofs.EvaluateLaws.{table-laws}
 use Rattle.evaluation.proofs.operator.Statement.{statement}
 use Rattle.evaluation.proofs.operator.Tie as tie

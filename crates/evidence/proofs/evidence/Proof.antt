@@ -1,4 +1,4 @@
--- `evidence::evidence::evidence` meets its contract.
+-- `evidence` meets its contract.
 use borrow.Author.Needs.{needs}
 use Rattle.evidence.proofs.EvidenceLaws.{evidence-laws}
 use Rattle.evidence.proofs.evidence.Statement.{statement}
@@ -25,6 +25,9 @@ same-length c = search needs
 returns : tie.Need-returns
 returns c = search evidence-laws
 
+local-trace-requires : tie.Need-local-trace-requires
+local-trace-requires c κs = search evidence-laws
+
 evidence-accepted-requires : tie.Need-evidence-accepted-requires
 evidence-accepted-requires c κs = search evidence-laws
 
@@ -45,6 +48,7 @@ evidence-spec =
     clear-u32-requires
     same-length
     returns
+    local-trace-requires
     evidence-accepted-requires
     same-length-2
     returns-2)

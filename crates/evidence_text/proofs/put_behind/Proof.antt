@@ -4,23 +4,26 @@ use Rattle.evidence_text.proofs.BehindLaws.{behind-laws}
 use Rattle.evidence_text.proofs.put_behind.Statement.{statement}
 use Rattle.evidence_text.proofs.put_behind.Tie as tie
 
-judge-accepted-requires : tie.Need-judge-accepted-requires
-judge-accepted-requires c κs = search needs
+local-trace-requires : tie.Need-local-trace-requires
+local-trace-requires c κs = search needs
 
-verdict-line-requires : tie.Need-verdict-line-requires
-verdict-line-requires c κs = search needs
+slice-aggregate-evidence-accepted : tie.Need-slice-aggregate-evidence-accepted
+slice-aggregate-evidence-accepted c = search needs
 
-array-share-prefix-bytes : tie.Need-array-share-prefix-bytes
-array-share-prefix-bytes c = search needs
+evidence-accepted-requires : tie.Need-evidence-accepted-requires
+evidence-accepted-requires c κs = search needs
 
-slice-aggregate-put : tie.Need-slice-aggregate-put
-slice-aggregate-put c = search behind-laws
+put-verdict-requires : tie.Need-put-verdict-requires
+put-verdict-requires c κs = search needs
 
-put-requires : tie.Need-put-requires
-put-requires c κs = search behind-laws
+array-share-prefix-pairs : tie.Need-array-share-prefix-pairs
+array-share-prefix-pairs c = search behind-laws
 
-put-evidence-requires : tie.Need-put-evidence-requires
-put-evidence-requires c κs = search behind-laws
+slice-aggregate-put-pairs : tie.Need-slice-aggregate-put-pairs
+slice-aggregate-put-pairs c = search behind-laws
+
+put-pairs-requires : tie.Need-put-pairs-requires
+put-pairs-requires c κs = search behind-laws
 
 same-length : tie.Need-same-length
 same-length c = search needs
@@ -32,11 +35,12 @@ pub put-behind-spec : {M : Type 1} → statement M
 put-behind-spec =
     tie.close
     (tie.spec
-    judge-accepted-requires
-    verdict-line-requires
-    array-share-prefix-bytes
-    slice-aggregate-put
-    put-requires
-    put-evidence-requires
+    local-trace-requires
+    slice-aggregate-evidence-accepted
+    evidence-accepted-requires
+    put-verdict-requires
+    array-share-prefix-pairs
+    slice-aggregate-put-pairs
+    put-pairs-requires
     same-length
     returns)

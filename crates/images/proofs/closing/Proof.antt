@@ -1,13 +1,13 @@
--- `closing` meets its contract.
+-- `closing` meets its contract (ImageLaws, `closing-laws`).
 use Rattle.images.proofs.ImageLaws.{closing-laws}
 use Rattle.images.proofs.closing.Statement.{statement}
 use Rattle.images.proofs.closing.Tie as tie
 
-meanings-requires : tie.Need-meanings-requires
-meanings-requires c κs = search closing-laws
+named-operands-requires : tie.Need-named-operands-requires
+named-operands-requires c κs = search closing-laws
 
-lay-requires : tie.Need-lay-requires
-lay-requires c κs = search closing-laws
+lay-block-requires : tie.Need-lay-block-requires
+lay-block-requires c κs = search closing-laws
 
 add-t12 : tie.Need-add-t12
 add-t12 c = search closing-laws
@@ -26,4 +26,4 @@ returns c = search closing-laws
 
 pub closing-spec : {M : Type 1} → statement M
 closing-spec =
-    tie.close (tie.spec meanings-requires lay-requires add-t12 sub-t13 sub-t14 same-length returns)
+    tie.close (tie.spec named-operands-requires lay-block-requires add-t12 sub-t13 sub-t14 same-length returns)

@@ -1,4 +1,4 @@
--- `form_of` meets its contract.
+-- `form_of` meets its contract (ImageLaws, `form-laws`).
 use borrow.Author.Needs.{needs}
 use Rattle.images.proofs.ImageLaws.{form-laws}
 use Rattle.images.proofs.form_of.Statement.{statement}

@@ -1,4 +1,4 @@
--- `tolerant_of` meets its contract.
+-- `tolerant_of` meets its contract (ImageLaws, `tolerance`).
 use Rattle.images.proofs.ImageLaws.{tolerance}
 use Rattle.images.proofs.tolerant_of.Statement.{statement}
 use Rattle.images.proofs.tolerant_of.Tie as tie

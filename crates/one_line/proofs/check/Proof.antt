@@ -1,3 +1,4 @@
+-- Carried by LineLaws: check-long, check-nothing, check-counted.
 use Rattle.one_line.proofs.LineLaws.{check-laws, check-long, check-nothing, check-counted}
 use Rattle.one_line.proofs.check.Statement.{statement}
 use Rattle.one_line.proofs.check.Tie as tie

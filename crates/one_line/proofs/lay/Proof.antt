@@ -1,3 +1,4 @@
+-- Carried by LineLaws: lay-none and lay-more (the turns), lay-all.
 use Prim.Native.Nat.{_-_}
 use Rattle.definitions.specs.Limits.{maxRuleNodes}
 use Rattle.one_line.proofs.LineLaws.{Copied, lay-laws}

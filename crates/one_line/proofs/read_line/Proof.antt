@@ -1,3 +1,4 @@
+-- Carried by LineLaws: read-short, read-refused, read-accepted.
 use Rattle.one_line.proofs.LineLaws.{read-laws, read-short, read-refused, read-accepted}
 use borrow.Author.Needs.{needs}
 use Rattle.one_line.proofs.read_line.Statement.{statement}

@@ -1,8 +1,11 @@
+-- Carried by ReadLaws: arrows-read, arrows-stop; ors-start and ors-again (the turns), ors-stop; ands-start and ands-again (the turns), ands-stop;
+-- untils-read, untils-stop; prefixes-read, prefixes-primary; primaries-bracket, primaries-true, primaries-atom; `measure` falls by the laws
+-- whose names have `falls` in them.
 use Prim.Native.Nat.{_-_}
 use borrow.Author.Needs.{needs}
 use lib.ListN.{length, take}
 use Rattle.definitions.specs.OneLineGrammar.{Ors, Ands}
-use Rattle.one_line_readers.proofs.ReadLaws.{Turn, ands-again, ands-dual, ands-falls, ands-index, ands-laws, ands-less, ands-low-first, ands-low-second, ands-not, ands-ready, ands-stop, arrows-falling, arrows-index, arrows-laws, arrows-low-first, arrows-low-second, arrows-not, arrows-read, arrows-ready, arrows-stop, arrows-write-after, measure, ors-again, ors-falls, ors-fits, ors-index, ors-laws, ors-less, ors-low-first, ors-low-second, ors-ready, ors-stop, ors-write-after, prefixes-falling, prefixes-last, prefixes-laws, prefixes-primary, prefixes-read, prefixes-ready, primaries-laws, untils-falling, untils-index, untils-laws, untils-low-first, untils-low-second, untils-read, untils-ready, untils-stop-high, untils-stop-low, untils-write-after}
+use Rattle.one_line_readers.proofs.ReadLaws.{Turn, ands-again, ands-dual, ands-falls, ands-index, ands-laws, ands-less, ands-low-first, ands-low-second, ands-not, ands-ready, ands-stop, arrows-falling, arrows-index, arrows-laws, arrows-low-first, arrows-low-second, arrows-not, arrows-read, arrows-ready, arrows-stop, arrows-write-after, measure, ors-again, ors-falling, ors-fits, ors-index, ors-laws, ors-less, ors-low-first, ors-low-second, ors-ready, ors-stop, ors-write-after, prefixes-falling, prefixes-last, prefixes-laws, prefixes-primary, prefixes-read, prefixes-ready, primaries-laws, untils-falling, untils-index, untils-laws, untils-low-first, untils-low-second, untils-read, untils-ready, untils-stop, untils-write-after}
 use Prim.Native.Nat.{ℕ, _<_}
 use borrow.Fn.Kinds.{In}
 use borrow.Fn.PlainCycle.{Measures, is, falls, and}
@@ -32,27 +35,29 @@ use Rattle.one_line_readers.proofs.word.until.Reads as until-reads
 use Rattle.one_line_readers.proofs.write.close_prefix.Reads as close-prefix-reads
 use Rattle.one_line_readers.proofs.write.dual.Reads as dual-reads
 use Rattle.one_line_readers.proofs.write.open_prefix.Reads as open-prefix-reads
+use Rattle.one_line_readers.proofs.is_prefix.Reads as is-prefix-reads
+use Rattle.one_line_readers.proofs.is_until.Reads as is-until-reads
 use Rattle.one_line_readers.proofs.peek.Reads as peek-reads
 use Rattle.one_line_readers.proofs.+ands+arrows+ors+prefixes+primaries+untils.{statement}
 use Rattle.one_line_readers.proofs.+ands+arrows+ors+prefixes+primaries+untils.Tie.{close}
 
 abbrev μ-ands : Measures 2 ands-kinds.ps ℕ
-μ-ands κs a = measure (length (take (a .1 .0) (a .0 .now))) (a .1 .1 .0) 4
+μ-ands κs a = measure (a .1 .1 .1 .0) (length (take (a .1 .0) (a .0 .now))) (a .1 .1 .0) 4
 
 abbrev μ-arrows : Measures 2 arrows-kinds.ps ℕ
-μ-arrows κs a = measure (length (take (a .1 .0) (a .0 .now))) (a .1 .1 .0) 6
+μ-arrows κs a = measure (a .1 .1 .1 .0) (length (take (a .1 .0) (a .0 .now))) (a .1 .1 .0) 6
 
 abbrev μ-ors : Measures 2 ors-kinds.ps ℕ
-μ-ors κs a = measure (length (take (a .1 .0) (a .0 .now))) (a .1 .1 .0) 5
+μ-ors κs a = measure (a .1 .1 .1 .0) (length (take (a .1 .0) (a .0 .now))) (a .1 .1 .0) 5
 
 abbrev μ-prefixes : Measures 2 prefixes-kinds.ps ℕ
-μ-prefixes κs a = measure (length (take (a .1 .0) (a .0 .now))) (a .1 .1 .0) 2
+μ-prefixes κs a = measure (a .1 .1 .1 .0) (length (take (a .1 .0) (a .0 .now))) (a .1 .1 .0) 2
 
 abbrev μ-primaries : Measures 2 primaries-kinds.ps ℕ
-μ-primaries κs a = measure (length (take (a .1 .0) (a .0 .now))) (a .1 .1 .0) 1
+μ-primaries κs a = measure (a .1 .1 .1 .0) (length (take (a .1 .0) (a .0 .now))) (a .1 .1 .0) 1
 
 abbrev μ-untils : Measures 2 untils-kinds.ps ℕ
-μ-untils κs a = measure (length (take (a .1 .0) (a .0 .now))) (a .1 .1 .0) 3
+μ-untils κs a = measure (a .1 .1 .1 .0) (length (take (a .1 .0) (a .0 .now))) (a .1 .1 .0) 3
 
 abbrev ands-at : ℕ → In 2 ands-kinds.ps
 ands-at t = and 2 ands-kinds.ps (is 2 ands-kinds.ps μ-ands t) ands.Pre
@@ -102,13 +107,13 @@ abbrev ors-claims : ℕ → ors-lts.Claims
 ors-claims t = (ands-below t, ands.Post, peek-reads.Asked, peek-reads.Learnt, or-reads.Asked, or-reads.Learnt)
 
 abbrev prefixes-claims : ℕ → prefixes-lts.Claims
-prefixes-claims t = (peek-reads.Asked, peek-reads.Learnt, primaries-below t, primaries.Post, open-prefix-reads.Asked, open-prefix-reads.Learnt, prefixes-below t, prefixes.Post, close-prefix-reads.Asked, close-prefix-reads.Learnt)
+prefixes-claims t = (peek-reads.Asked, peek-reads.Learnt, is-prefix-reads.Asked, is-prefix-reads.Learnt, open-prefix-reads.Asked, open-prefix-reads.Learnt, prefixes-below t, prefixes.Post, close-prefix-reads.Asked, close-prefix-reads.Learnt, primaries-below t, primaries.Post)
 
 abbrev primaries-claims : ℕ → primaries-lts.Claims
 primaries-claims t = (peek-reads.Asked, peek-reads.Learnt, arrows-below t, arrows.Post, truth-reads.Asked, truth-reads.Learnt, atom-reads.Asked, atom-reads.Learnt)
 
 abbrev untils-claims : ℕ → untils-lts.Claims
-untils-claims t = (prefixes-below t, prefixes.Post, peek-reads.Asked, peek-reads.Learnt, untils-below t, untils.Post, until-reads.Asked, until-reads.Learnt)
+untils-claims t = (prefixes-below t, prefixes.Post, peek-reads.Asked, peek-reads.Learnt, is-until-reads.Asked, is-until-reads.Learnt, untils-below t, untils.Post, until-reads.Asked, until-reads.Learnt)
 
 abbrev ands-Inv-loop : ands-lts.InvT-loop
 ands-Inv-loop codes count at left made nodes₀ a₀ m₀ nodes a m = Turn Ands 4 left (take count codes) at made a₀ m₀ nodes₀ a m nodes
@@ -150,7 +155,7 @@ ands-returns : (t : ℕ) → ands-lts.Need-returns (ands-claims t) (ands-at t) a
 ands-returns t c = search ands-stop
 
 arrows-ors-requires : (t : ℕ) → arrows-lts.Need-ors-requires (arrows-claims t) (arrows-at t) arrows.Post
-arrows-ors-requires t c κs = (search arrows-falling, (search needs, search arrows-ready))
+arrows-ors-requires t c κs = (search arrows-falling, (search needs, search needs))
 
 arrows-peek-requires : (t : ℕ) → arrows-lts.Need-peek-requires (arrows-claims t) (arrows-at t) arrows.Post
 arrows-peek-requires t c κs = search needs
@@ -204,7 +209,7 @@ ors-add-ands : (t : ℕ) → ors-lts.Need-add-ands (ors-claims t) (ors-at t) ors
 ors-add-ands t c = search ors-index
 
 ors-ands-requires-2 : (t : ℕ) → ors-lts.Need-ands-requires-2 (ors-claims t) (ors-at t) ors.Post ors-Inv-loop ors-μ-loop
-ors-ands-requires-2 t c κs = (search ors-falls, (search needs, search ors-ready))
+ors-ands-requires-2 t c κs = (search ors-falling, (search needs, search ors-ready))
 
 ors-sub-or : (t : ℕ) → ors-lts.Need-sub-or (ors-claims t) (ors-at t) ors.Post ors-Inv-loop ors-μ-loop
 ors-sub-or t c = search ors-laws
@@ -236,17 +241,8 @@ ors-returns t c = search ors-stop
 prefixes-peek-requires : (t : ℕ) → prefixes-lts.Need-peek-requires (prefixes-claims t) (prefixes-at t) prefixes.Post
 prefixes-peek-requires t c κs = search prefixes-laws
 
-prefixes-primaries-requires : (t : ℕ) → prefixes-lts.Need-primaries-requires (prefixes-claims t) (prefixes-at t) prefixes.Post
-prefixes-primaries-requires t c κs = search prefixes-laws
-
-prefixes-returns : (t : ℕ) → prefixes-lts.Need-returns (prefixes-claims t) (prefixes-at t) prefixes.Post
-prefixes-returns t c = search prefixes-primary
-
-prefixes-primaries-requires-2 : (t : ℕ) → prefixes-lts.Need-primaries-requires-2 (prefixes-claims t) (prefixes-at t) prefixes.Post
-prefixes-primaries-requires-2 t c κs = search prefixes-laws
-
-prefixes-returns-2 : (t : ℕ) → prefixes-lts.Need-returns-2 (prefixes-claims t) (prefixes-at t) prefixes.Post
-prefixes-returns-2 t c = search prefixes-primary
+prefixes-is-prefix-requires : (t : ℕ) → prefixes-lts.Need-is-prefix-requires (prefixes-claims t) (prefixes-at t) prefixes.Post
+prefixes-is-prefix-requires t c κs = search prefixes-laws
 
 prefixes-open-prefix-requires : (t : ℕ) → prefixes-lts.Need-open-prefix-requires (prefixes-claims t) (prefixes-at t) prefixes.Post
 prefixes-open-prefix-requires t c κs = search prefixes-laws
@@ -260,8 +256,14 @@ prefixes-prefixes-requires t c κs = (search prefixes-falling, (search needs, se
 prefixes-close-prefix-requires : (t : ℕ) → prefixes-lts.Need-close-prefix-requires (prefixes-claims t) (prefixes-at t) prefixes.Post
 prefixes-close-prefix-requires t c κs = search prefixes-last
 
-prefixes-returns-3 : (t : ℕ) → prefixes-lts.Need-returns-3 (prefixes-claims t) (prefixes-at t) prefixes.Post
-prefixes-returns-3 t c = search prefixes-read
+prefixes-returns : (t : ℕ) → prefixes-lts.Need-returns (prefixes-claims t) (prefixes-at t) prefixes.Post
+prefixes-returns t c = search prefixes-read
+
+prefixes-primaries-requires : (t : ℕ) → prefixes-lts.Need-primaries-requires (prefixes-claims t) (prefixes-at t) prefixes.Post
+prefixes-primaries-requires t c κs = search prefixes-laws
+
+prefixes-returns-2 : (t : ℕ) → prefixes-lts.Need-returns-2 (prefixes-claims t) (prefixes-at t) prefixes.Post
+prefixes-returns-2 t c = search prefixes-primary
 
 primaries-peek-requires : (t : ℕ) → primaries-lts.Need-peek-requires (primaries-claims t) (primaries-at t) primaries.Post
 primaries-peek-requires t c κs = search primaries-laws
@@ -324,16 +326,13 @@ primaries-returns-3 : (t : ℕ) → primaries-lts.Need-returns-3 (primaries-clai
 primaries-returns-3 t c = search primaries-laws
 
 untils-prefixes-requires : (t : ℕ) → untils-lts.Need-prefixes-requires (untils-claims t) (untils-at t) untils.Post
-untils-prefixes-requires t c κs = (search untils-falling, (search needs, search untils-ready))
+untils-prefixes-requires t c κs = (search untils-falling, (search needs, search needs))
 
 untils-peek-requires : (t : ℕ) → untils-lts.Need-peek-requires (untils-claims t) (untils-at t) untils.Post
 untils-peek-requires t c κs = search untils-laws
 
-untils-returns : (t : ℕ) → untils-lts.Need-returns (untils-claims t) (untils-at t) untils.Post
-untils-returns t c = search untils-stop-low
-
-untils-returns-2 : (t : ℕ) → untils-lts.Need-returns-2 (untils-claims t) (untils-at t) untils.Post
-untils-returns-2 t c = search untils-stop-high
+untils-is-until-requires : (t : ℕ) → untils-lts.Need-is-until-requires (untils-claims t) (untils-at t) untils.Post
+untils-is-until-requires t c κs = search untils-laws
 
 untils-add-next : (t : ℕ) → untils-lts.Need-add-next (untils-claims t) (untils-at t) untils.Post
 untils-add-next t c = search untils-index
@@ -359,8 +358,11 @@ untils-element-write-nodes t c = search untils-write-after
 untils-add-end : (t : ℕ) → untils-lts.Need-add-end (untils-claims t) (untils-at t) untils.Post
 untils-add-end t c = search untils-laws
 
-untils-returns-3 : (t : ℕ) → untils-lts.Need-returns-3 (untils-claims t) (untils-at t) untils.Post
-untils-returns-3 t c = search untils-read
+untils-returns : (t : ℕ) → untils-lts.Need-returns (untils-claims t) (untils-at t) untils.Post
+untils-returns t c = search untils-read
+
+untils-returns-2 : (t : ℕ) → untils-lts.Need-returns-2 (untils-claims t) (untils-at t) untils.Post
+untils-returns-2 t c = search untils-stop
 
 pub +ands+arrows+ors+prefixes+primaries+untils-spec : {M : Type 1} → statement M
 +ands+arrows+ors+prefixes+primaries+untils-spec =
@@ -414,15 +416,14 @@ pub +ands+arrows+ors+prefixes+primaries+untils-spec : {M : Type 1} → statement
     (λ t. prefixes-lts.spec (prefixes-claims t) (prefixes-at t)
     prefixes.Post
     (prefixes-peek-requires t)
-    (prefixes-primaries-requires t)
-    (prefixes-returns t)
-    (prefixes-primaries-requires-2 t)
-    (prefixes-returns-2 t)
+    (prefixes-is-prefix-requires t)
     (prefixes-open-prefix-requires t)
     (prefixes-add-next t)
     (prefixes-prefixes-requires t)
     (prefixes-close-prefix-requires t)
-    (prefixes-returns-3 t))
+    (prefixes-returns t)
+    (prefixes-primaries-requires t)
+    (prefixes-returns-2 t))
     (λ t. primaries-lts.spec (primaries-claims t) (primaries-at t)
     primaries.Post
     (primaries-peek-requires t)
@@ -449,8 +450,7 @@ pub +ands+arrows+ors+prefixes+primaries+untils-spec : {M : Type 1} → statement
     untils.Post
     (untils-prefixes-requires t)
     (untils-peek-requires t)
-    (untils-returns t)
-    (untils-returns-2 t)
+    (untils-is-until-requires t)
     (untils-add-next t)
     (untils-untils-requires t)
     (untils-add-end t)
@@ -459,4 +459,5 @@ pub +ands+arrows+ors+prefixes+primaries+untils-spec : {M : Type 1} → statement
     (untils-until-requires t)
     (untils-mul-nodes t)
     (untils-element-write-nodes t)
-    (untils-returns-3 t)
+    (untils-returns t)
+    (untils-returns-2 t)

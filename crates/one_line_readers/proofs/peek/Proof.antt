@@ -1,3 +1,4 @@
+-- Carried by ReadLaws: peek-some, peek-none.
 use Rattle.one_line_readers.proofs.ReadLaws.{peek-laws}
 use borrow.Author.Needs.{needs}
 use Rattle.one_line_readers.proofs.peek.Statement.{statement}

@@ -1,4 +1,4 @@
--- `projection::project::project` meets its contract.
+-- `project` meets its contract: one law for each return (ProjectLaws, `project-refused`, `project-accepted`).
 use borrow.Author.Needs.{needs}
 use Rattle.projection.proofs.ProjectLaws.{project-laws, project-refused, project-accepted}
 use Rattle.projection.proofs.project.Statement.{statement}

@@ -1,4 +1,4 @@
--- `rewrite` meets its contract: one law for each return (AnswerLaws).
+-- `rewrite` meets its contract: one law for each return (AnswerLaws, `rewrote-short`, `rewrote-refused`, `rewrote-done`).
 use borrow.Author.Needs.{needs}
 use Rattle.rewriting.proofs.AnswerLaws.{rewrite-laws, rewrote-short, rewrote-refused, rewrote-done}
 use Rattle.rewriting.proofs.rewrite.Statement.{statement}

@@ -1,11 +1,11 @@
--- `tabled` meets its contract: one law for each return (AnswerLaws).
+-- `tabled` meets its contract: one law for each return (AnswerLaws, `tabled-open`, `tabled-closed`).
 use borrow.Author.Needs.{needs}
 use Rattle.rewriting.proofs.AnswerLaws.{tabled-open, tabled-closed}
 use Rattle.rewriting.proofs.tabled.Statement.{statement}
 use Rattle.rewriting.proofs.tabled.Tie as tie
 
-steps-requires : tie.Need-steps-requires
-steps-requires c κs = search needs
+draw-images-requires : tie.Need-draw-images-requires
+draw-images-requires c κs = search needs
 
 cast-t11 : tie.Need-cast-t11
 cast-t11 c = search needs
@@ -32,7 +32,7 @@ pub tabled-spec : {M : Type 1} → statement M
 tabled-spec =
     tie.close
     (tie.spec
-    steps-requires
+    draw-images-requires
     cast-t11
     cast-t12
     same-length

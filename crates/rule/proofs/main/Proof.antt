@@ -1,3 +1,4 @@
+-- No promise of its own; that the parts of its arrays have the lengths that they say: main-laws of InputLaws, caller-laws of PrintLaws.
 use Rattle.line_programs.proofs.PrintLaws.{caller-laws}
 use Rattle.standard_streams.proofs.InputLaws.{main-laws}
 use borrow.Author.Needs.{needs}

@@ -1,3 +1,4 @@
+-- `taken_by` meets its contract (WalkLaws, `taking-done`).
 use Rattle.walk.proofs.WalkLaws.{taken-laws}
 use Rattle.walk.proofs.taken_by.Statement.{statement}
 use Rattle.walk.proofs.taken_by.Tie as tie

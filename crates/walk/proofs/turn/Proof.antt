@@ -1,3 +1,4 @@
+-- `turn` meets its contract (WalkLaws, `turn-leaf`, `turn-done`).
 use Rattle.walk.proofs.WalkLaws.{turn-laws}
 use Rattle.walk.proofs.turn.Statement.{statement}
 use Rattle.walk.proofs.turn.Tie as tie

@@ -1,3 +1,4 @@
+-- `turn_operator` meets its contract (WalkLaws, `operator-done`).
 use Rattle.walk.proofs.WalkLaws.{operator-laws}
 use Rattle.walk.proofs.turn_operator.Statement.{statement}
 use Rattle.walk.proofs.turn_operator.Tie as tie

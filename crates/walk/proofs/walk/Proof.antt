@@ -1,3 +1,4 @@
+-- `walk` meets its contract (WalkLaws, `walk-start`, `walk-more`, `walk-done`).
 use borrow.Author.Needs.{needs}
 use Rattle.walk.proofs.WalkLaws.{Walking, walk-turning, walk-laws}
 use Rattle.walk.proofs.walk.Statement.{statement}

@@ -1,3 +1,4 @@
+-- `atom` meets its contract (LeafLaws, `own-atom`, `foreign-atom`).
 use Rattle.evaluation.proofs.LeafLaws.{leaf-laws}
 use Rattle.evaluation.proofs.leaf.atom.Statement.{statement}
 use Rattle.evaluation.proofs.leaf.atom.Tie as tie
@@ -5,11 +6,8 @@ use Rattle.evaluation.proofs.leaf.atom.Tie as tie
 column-requires : tie.Need-column-requires
 column-requires c κs = search leaf-laws
 
-cast-if1 : tie.Need-cast-if1
-cast-if1 c = search leaf-laws
-
-shr-if1 : tie.Need-shr-if1
-shr-if1 c = search leaf-laws
+is-own-requires : tie.Need-is-own-requires
+is-own-requires c κs = search leaf-laws
 
 returns : tie.Need-returns
 returns c = search leaf-laws
@@ -28,8 +26,7 @@ atom-spec =
     tie.close
     (tie.spec
     column-requires
-    cast-if1
-    shr-if1
+    is-own-requires
     returns
     with-last-requires
     with-last-requires-2

@@ -1,3 +1,4 @@
+-- `end` meets its contract (LeafLaws, `end-row`).
 use Rattle.evaluation.proofs.LeafLaws.{leaf-laws, end-row}
 use Rattle.evaluation.proofs.leaf.end.Statement.{statement}
 use Rattle.evaluation.proofs.leaf.end.Tie as tie

@@ -1,3 +1,4 @@
+-- `leaf` meets its contract: one law for each return (LeafLaws, `leaf-atom`, `leaf-run`, `leaf-end`, `leaf-true`).
 use Rattle.evaluation.proofs.LeafLaws.{leaf-laws}
 use Rattle.evaluation.proofs.leaf.leaf.Statement.{statement}
 use Rattle.evaluation.proofs.leaf.leaf.Tie as tie

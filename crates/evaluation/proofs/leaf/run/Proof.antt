@@ -1,3 +1,4 @@
+-- `run` meets its contract (LeafLaws, `run-row`).
 use Rattle.evaluation.proofs.LeafLaws.{leaf-laws, run-row}
 use Rattle.evaluation.proofs.leaf.run.Statement.{statement}
 use Rattle.evaluation.proofs.leaf.run.Tie as tie

@@ -1,3 +1,4 @@
+-- `found_row` meets its contract: one law for each return (FindLaws, `found-none`, `found-own`, `found-foreign`).
 use Rattle.evidence.proofs.FindLaws.{find-laws}
 use Rattle.evidence.proofs.found.found_row.Statement.{statement}
 use Rattle.evidence.proofs.found.found_row.Tie as tie
@@ -23,14 +24,11 @@ pair-of-node-requires c κs = search find-laws
 or-requires : tie.Need-or-requires
 or-requires c κs = search find-laws
 
-cast-a : tie.Need-cast-a
-cast-a c = search find-laws
+cast-is-own : tie.Need-cast-is-own
+cast-is-own c = search find-laws
 
-cast-if2 : tie.Need-cast-if2
-cast-if2 c = search find-laws
-
-shr-if2 : tie.Need-shr-if2
-shr-if2 c = search find-laws
+is-own-requires : tie.Need-is-own-requires
+is-own-requires c κs = search find-laws
 
 returns-2 : tie.Need-returns-2
 returns-2 c = search find-laws
@@ -52,9 +50,8 @@ found-row-spec =
     returns
     pair-of-node-requires
     or-requires
-    cast-a
-    cast-if2
-    shr-if2
+    cast-is-own
+    is-own-requires
     returns-2
     with-last-requires
     returns-3)

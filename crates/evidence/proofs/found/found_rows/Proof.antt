@@ -1,3 +1,4 @@
+-- `found_rows` meets its contract (FindLaws, `finding-none`, `finding-more`, `finding-done`).
 use Prim.Native.Nat.{_-_}
 use Rattle.evidence.proofs.FindLaws.{Finding, find-laws}
 use Rattle.evidence.proofs.found.found_rows.Statement.{statement}

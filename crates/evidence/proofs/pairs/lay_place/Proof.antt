@@ -1,3 +1,4 @@
+-- `lay_place` meets its contract (LayLaws, `place-none`, `place-more`, `place-done`).
 use Prim.Native.Nat.{_-_}
 use Rattle.evidence.proofs.LayLaws.{PlaceLaying, lay-laws}
 use Rattle.evidence.proofs.pairs.lay_place.Statement.{statement}

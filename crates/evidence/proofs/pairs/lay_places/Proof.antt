@@ -1,3 +1,4 @@
+-- `lay_places` meets its contract (LayLaws, `places-none`, `places-more`, `places-done`).
 use Prim.Native.Nat.{_-_}
 use Rattle.evidence.proofs.LayLaws.{PlacesLaying, lay-laws}
 use Rattle.evidence.proofs.pairs.lay_places.Statement.{statement}

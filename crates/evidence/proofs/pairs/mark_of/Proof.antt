@@ -1,3 +1,4 @@
+-- `mark_of` meets its contract (LayLaws, `mark-number`).
 use Rattle.evidence.proofs.LayLaws.{lay-laws}
 use Rattle.evidence.proofs.pairs.mark_of.Statement.{statement}
 use Rattle.evidence.proofs.pairs.mark_of.Tie as tie

@@ -1,4 +1,4 @@
--- `block_of` meets its contract.
+-- `block_of` meets its contract (BlockLaws, `form-block`).
 use borrow.Author.Needs.{needs}
 use mathlib.Core.Path.{refl}
 use Rattle.definitions.specs.Bounded.{pick}

@@ -1,4 +1,4 @@
--- `made` meets its contract.
+-- `made` meets its contract (BlockLaws, `made-laws`).
 use Rattle.images.proofs.BlockLaws.{made-laws}
 use Rattle.images.proofs.lay.made.Statement.{statement}
 use Rattle.images.proofs.lay.made.Tie as tie

@@ -1,3 +1,4 @@
+-- Carried by PrintLaws: only-line.
 use Rattle.line_programs.proofs.PrintLaws.{only-laws}
 use Rattle.line_programs.proofs.input.only_line.Statement.{statement}
 use Rattle.line_programs.proofs.input.only_line.Tie as tie

@@ -1,3 +1,4 @@
+-- Carried by PrintLaws: refusal-printed.
 use Rattle.line_programs.proofs.PrintLaws.{refusal-laws}
 use Rattle.line_programs.proofs.print.print_refusal.Statement.{statement}
 use Rattle.line_programs.proofs.print.print_refusal.Tie as tie

@@ -1,3 +1,4 @@
+-- Carried by PrintLaws: rule-written, rule-refused.
 use Rattle.line_programs.proofs.PrintLaws.{rule-laws}
 use Rattle.line_programs.proofs.print.print_rule.Statement.{statement}
 use Rattle.line_programs.proofs.print.print_rule.Tie as tie

@@ -1,3 +1,4 @@
+-- Carried by PrintLaws: refusal-put.
 use Rattle.line_programs.proofs.PrintLaws.{put-laws}
 use Rattle.line_programs.proofs.print.put_refusal.Statement.{statement}
 use Rattle.line_programs.proofs.print.put_refusal.Tie as tie

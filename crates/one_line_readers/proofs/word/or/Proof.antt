@@ -1,3 +1,4 @@
+-- Carried by WordLaws: word-built.
 use Rattle.one_line_readers.proofs.WordLaws.{word-laws}
 use Rattle.one_line_readers.proofs.word.or.Statement.{statement}
 use Rattle.one_line_readers.proofs.word.or.Tie as tie

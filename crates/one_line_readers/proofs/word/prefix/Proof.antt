@@ -1,3 +1,4 @@
+-- Carried by WordLaws: prefix-not, prefix-next, prefix-prev, prefix-until.
 use Rattle.one_line_readers.proofs.WordLaws.{word-laws}
 use Rattle.one_line_readers.proofs.word.prefix.Statement.{statement}
 use Rattle.one_line_readers.proofs.word.prefix.Tie as tie

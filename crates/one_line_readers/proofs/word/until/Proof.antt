@@ -1,3 +1,4 @@
+-- Carried by WordLaws: until-there, since-there.
 use Rattle.one_line_readers.proofs.WordLaws.{word-laws}
 use Rattle.one_line_readers.proofs.word.until.Statement.{statement}
 use Rattle.one_line_readers.proofs.word.until.Tie as tie

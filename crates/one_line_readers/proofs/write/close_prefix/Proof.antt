@@ -1,3 +1,4 @@
+-- Carried by Laying: close-always, close-other.
 use Rattle.one_line_readers.proofs.Laying.{close-laws}
 use borrow.Author.Needs.{needs}
 use Rattle.one_line_readers.proofs.write.close_prefix.Statement.{statement}

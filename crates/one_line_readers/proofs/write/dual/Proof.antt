@@ -1,4 +1,5 @@
-use Rattle.one_line_readers.proofs.Laying.{dual-second, dual-laid}
+-- Carried by Laying: dual-laid.
+use Rattle.one_line_readers.proofs.Laying.{dual-room, dual-laid}
 use borrow.Author.Needs.{needs}
 use Rattle.one_line_readers.proofs.write.dual.Statement.{statement}
 use Rattle.one_line_readers.proofs.write.dual.Tie as tie
@@ -16,7 +17,7 @@ add-not : tie.Need-add-not
 add-not c = search needs
 
 not-requires-2 : tie.Need-not-requires-2
-not-requires-2 c κs = search dual-second
+not-requires-2 c κs = search dual-room
 
 returns : tie.Need-returns
 returns c = search dual-laid

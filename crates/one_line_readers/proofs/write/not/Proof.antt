@@ -1,3 +1,4 @@
+-- Carried by Laying: not-laid.
 use Rattle.one_line_readers.proofs.Laying.{not-laid}
 use borrow.Author.Needs.{needs}
 use Rattle.one_line_readers.proofs.write.not.Statement.{statement}

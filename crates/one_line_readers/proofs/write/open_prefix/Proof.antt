@@ -1,3 +1,4 @@
+-- Carried by Laying: open-future, open-always, open-other.
 use Rattle.one_line_readers.proofs.Laying.{open-laws}
 use borrow.Author.Needs.{needs}
 use Rattle.one_line_readers.proofs.write.open_prefix.Statement.{statement}

@@ -1,3 +1,4 @@
+-- Carried by TallyLaws: of-tally-made.
 use Rattle.one_line_signs.proofs.TallyLaws.{refusal-laws, of-tally-made}
 use Rattle.one_line_signs.proofs.refusal.of_tally.Statement.{statement}
 use Rattle.one_line_signs.proofs.refusal.of_tally.Tie as tie

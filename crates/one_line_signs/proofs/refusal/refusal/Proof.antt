@@ -1,3 +1,4 @@
+-- Carried by TallyLaws: refusal-made.
 use Rattle.one_line_signs.proofs.TallyLaws.{refusal-laws}
 use Rattle.one_line_signs.proofs.refusal.refusal.Statement.{statement}
 use Rattle.one_line_signs.proofs.refusal.refusal.Tie as tie

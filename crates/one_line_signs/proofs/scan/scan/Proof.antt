@@ -1,3 +1,4 @@
+-- Carried by ScanLaws: scan-start and scan-again (the turns), scan-last, scan-none, scan-end.
 use Rattle.one_line_signs.proofs.ScanLaws.{scan-laws, Scanning, scan-start, scan-last, scan-less, scan-again, scan-none, scan-end}
 use Prim.Native.Nat.{_-_}
 use lib.ListN.{length}

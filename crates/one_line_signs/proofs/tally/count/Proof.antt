@@ -1,3 +1,4 @@
+-- Carried by TallyLaws: count-start and count-again (the turns), count-done.
 use Rattle.one_line_signs.proofs.TallyLaws.{count-laws, Counting}
 use Prim.Native.Nat.{_-_}
 use lib.ListN.{length}

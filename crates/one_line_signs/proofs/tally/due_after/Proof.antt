@@ -1,3 +1,4 @@
+-- Carried by TallyLaws: due-opening, due-early, due-late.
 use Rattle.one_line_signs.proofs.TallyLaws.{due-laws}
 use Rattle.one_line_signs.proofs.tally.due_after.Statement.{statement}
 use Rattle.one_line_signs.proofs.tally.due_after.Tie as tie

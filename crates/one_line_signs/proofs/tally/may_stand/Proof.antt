@@ -1,3 +1,4 @@
+-- Carried by TallyLaws: stand-closing, stand-early, stand-infix, stand-atom.
 use Rattle.one_line_signs.proofs.TallyLaws.{stand-laws}
 use Rattle.one_line_signs.proofs.tally.may_stand.Statement.{statement}
 use Rattle.one_line_signs.proofs.tally.may_stand.Tie as tie

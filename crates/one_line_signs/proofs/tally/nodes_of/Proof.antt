@@ -1,3 +1,4 @@
+-- Carried by TallyLaws: nodes-brackets, nodes-future, nodes-always, nodes-implies, nodes-and, nodes-other.
 use Rattle.one_line_signs.proofs.TallyLaws.{nodes-brackets, nodes-future, nodes-always, nodes-implies, nodes-and, nodes-other}
 use Rattle.one_line_signs.proofs.tally.nodes_of.Statement.{statement}
 use Rattle.one_line_signs.proofs.tally.nodes_of.Tie as tie

@@ -1,3 +1,4 @@
+-- Carried by TallyLaws: open-opening, open-none, open-closing, open-other.
 use Rattle.one_line_signs.proofs.TallyLaws.{open-laws}
 use Rattle.one_line_signs.proofs.tally.open_after.Statement.{statement}
 use Rattle.one_line_signs.proofs.tally.open_after.Tie as tie

@@ -1,3 +1,4 @@
+-- Carried by TallyLaws: step-made.
 use Rattle.one_line_signs.proofs.TallyLaws.{step-laws, step-made}
 use Rattle.one_line_signs.proofs.tally.step.Statement.{statement}
 use Rattle.one_line_signs.proofs.tally.step.Tie as tie

@@ -1,3 +1,4 @@
+-- Carried by TokenLaws: space-there, space-none.
 use Rattle.one_line_signs.proofs.TokenLaws.{space-laws}
 use Rattle.one_line_signs.proofs.token.after_space.Statement.{statement}
 use Rattle.one_line_signs.proofs.token.after_space.Tie as tie

@@ -1,3 +1,4 @@
+-- Carried by TokenLaws: atom-low, atom-high.
 use Rattle.one_line_signs.proofs.TokenLaws.{atom-laws, atom-low, atom-high}
 use Rattle.one_line_signs.proofs.token.atom.Statement.{statement}
 use Rattle.one_line_signs.proofs.token.atom.Tie as tie

@@ -1,3 +1,4 @@
+-- Carried by TokenLaws: atom-none, atom-there.
 use Rattle.one_line_signs.proofs.TokenLaws.{atom-at-laws}
 use Rattle.one_line_signs.proofs.token.atom_at.Statement.{statement}
 use Rattle.one_line_signs.proofs.token.atom_at.Tie as tie

@@ -1,3 +1,4 @@
+-- Carried by TokenLaws: begins-short, begins-same.
 use Rattle.one_line_signs.proofs.TokenLaws.{begins-laws}
 use Rattle.one_line_signs.proofs.token.begins.Statement.{statement}
 use Rattle.one_line_signs.proofs.token.begins.Tie as tie

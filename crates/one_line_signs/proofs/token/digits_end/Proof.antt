@@ -1,3 +1,4 @@
+-- Carried by TokenLaws: digits-start and digits-next (the turns), digits-low, digits-high, digits-stop.
 use Prim.Native.Nat.{_-_}
 use lib.ListN.{length}
 use Rattle.one_line_signs.proofs.TokenLaws.{digits-laws, Passed}

@@ -1,3 +1,4 @@
+-- Carried by TokenLaws: sign-single, sign-atom, sign-implies, sign-true, sign-none.
 use Rattle.one_line_signs.proofs.TokenLaws.{sign-at-laws}
 use Rattle.one_line_signs.proofs.token.sign_at.Statement.{statement}
 use Rattle.one_line_signs.proofs.token.sign_at.Tie as tie

@@ -1,3 +1,4 @@
+-- Carried by TokenLaws: single-opening to single-since, a law for each byte, and single-none.
 use Rattle.one_line_signs.proofs.TokenLaws.{single-opening, single-closing, single-not, single-next, single-prev, single-future, single-always, single-or, single-and, single-until, single-since, single-none}
 use Rattle.one_line_signs.proofs.token.single.Statement.{statement}
 use Rattle.one_line_signs.proofs.token.single.Tie as tie

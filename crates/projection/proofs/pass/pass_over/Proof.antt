@@ -1,4 +1,4 @@
--- `pass_over` meets its contract: the invariant says what is held of each beginning.
+-- `pass_over` meets its contract: the invariant says what is held of each beginning (PassLaws, `passing-next`, `passing-end`).
 use Prim.Native.Nat.{_-_}
 use Rattle.projection.proofs.PassLaws.{Passing, pass-bounds, passing-start, passing-next, passing-end}
 use Rattle.projection.proofs.pass.pass_over.Statement.{statement}

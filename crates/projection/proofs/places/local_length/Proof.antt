@@ -1,4 +1,4 @@
--- `projection::places::local_length` meets its contract.
+-- `local_length` meets its contract (PlaceLaws, `own-places`).
 use borrow.Author.Needs.{needs}
 use Rattle.projection.proofs.PlaceLaws.{own-places}
 use Rattle.projection.proofs.places.local_length.Statement.{statement}

@@ -1,4 +1,4 @@
--- `projection::places::project_into` meets its contract.
+-- `project_into` meets its contract (PlaceLaws, `into-placed`, `into-laid`).
 use borrow.Author.Needs.{needs}
 use Rattle.projection.proofs.PlaceLaws.{into-laws}
 use Rattle.projection.proofs.places.project_into.Statement.{statement}

@@ -1,4 +1,4 @@
--- `mark_digits` meets its contract.
+-- `mark_digits` meets its contract (StateLaws, `digits-is`).
 use borrow.Author.Needs.{needs}
 use Rattle.recording_reader.proofs.StateLaws.{digits-is}
 use Rattle.recording_reader.proofs.line.mark_digits.Statement.{statement}

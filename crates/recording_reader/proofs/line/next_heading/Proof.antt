@@ -1,4 +1,4 @@
--- `next_heading` meets its contract.
+-- `next_heading` meets its contract: one law for each return (HeadingLaws, `heading-unread`, `heading-malformed`, `heading-refused`, `heading-read`).
 use Rattle.recording_reader.proofs.HeadingLaws.{heading-laws, heading-unread, heading-malformed, heading-refused, heading-read}
 use borrow.Author.Needs.{needs}
 use Rattle.recording_reader.proofs.line.next_heading.Statement.{statement}

@@ -1,4 +1,4 @@
--- `next_mask` meets its contract.
+-- `next_mask` meets its contract: one law for each return (MaskLaws, `mask-unread`, `mask-malformed`, `mask-refused`, `mask-read`).
 use Rattle.recording_reader.proofs.MaskLaws.{mask-laws, mask-unread, mask-malformed, mask-refused, mask-read}
 use borrow.Author.Needs.{needs}
 use Rattle.recording_reader.proofs.line.next_mask.Statement.{statement}

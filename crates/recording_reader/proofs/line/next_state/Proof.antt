@@ -1,4 +1,4 @@
--- `next_state` meets its contract.
+-- `next_state` meets its contract: one law for each return (StateLaws, `state-unread`, `state-malformed`, `state-refused`, `state-read`).
 use Rattle.recording_reader.proofs.StateLaws.{state-laws, digits-few, state-unread, state-malformed, state-refused, state-read}
 use borrow.Author.Needs.{needs}
 use Rattle.recording_reader.proofs.line.next_state.Statement.{statement}

@@ -1,4 +1,4 @@
--- `traces::check::heading_refusal` meets its contract.
+-- `heading_refusal` meets its contract (CheckLaws, `heading-is`).
 use borrow.Author.Needs.{needs}
 use Rattle.recordings.proofs.CheckLaws.{heading-is}
 use Rattle.recordings.proofs.check.heading_refusal.Statement.{statement}

@@ -1,4 +1,4 @@
--- `traces::check::joined_refusal` meets its contract.
+-- `joined_refusal` meets its contract (CheckLaws, `joining-is`).
 use borrow.Author.Needs.{needs}
 use Rattle.recordings.proofs.CheckLaws.{joining-is}
 use Rattle.recordings.proofs.check.joined_refusal.Statement.{statement}

@@ -1,4 +1,4 @@
--- `traces::check::lines_refusal` meets its contract.
+-- `lines_refusal` meets its contract (CheckLaws, `recording-laws`).
 use borrow.Author.Needs.{needs}
 use Rattle.recordings.proofs.CheckLaws.{recording-laws}
 use Rattle.recordings.proofs.check.lines_refusal.Statement.{statement}

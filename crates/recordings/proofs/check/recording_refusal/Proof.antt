@@ -1,4 +1,4 @@
--- `traces::check::recording_refusal` meets its contract.
+-- `recording_refusal` meets its contract (CheckLaws, `recording-heading`, `recording-is`).
 use borrow.Author.Needs.{needs}
 use Rattle.recordings.proofs.CheckLaws.{heading-bounds, recording-is, recording-heading}
 use Rattle.recordings.proofs.check.recording_refusal.Statement.{statement}

@@ -1,4 +1,4 @@
--- `traces::check::state_limit` meets its contract.
+-- `state_limit` meets its contract (CheckLaws, `limit-is`).
 use borrow.Author.Needs.{needs}
 use Rattle.recordings.proofs.CheckLaws.{limit-is}
 use Rattle.recordings.proofs.check.state_limit.Statement.{statement}

@@ -1,4 +1,4 @@
--- `traces::check::state_refusal` meets its contract.
+-- `state_refusal` meets its contract (CheckLaws, `state-laws`).
 use borrow.Author.Needs.{needs}
 use Rattle.recordings.proofs.CheckLaws.{state-laws}
 use Rattle.recordings.proofs.check.state_refusal.Statement.{statement}

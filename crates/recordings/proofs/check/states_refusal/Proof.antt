@@ -1,4 +1,4 @@
--- `traces::check::states_refusal` meets its contract.
+-- `states_refusal` meets its contract (CheckLaws, `states-next`).
 use Prim.Native.Nat.{_-_}
 use Rattle.recordings.proofs.CheckLaws.{StatesLeft, states-next, state-laws}
 use Rattle.recordings.proofs.check.states_refusal.Statement.{statement}

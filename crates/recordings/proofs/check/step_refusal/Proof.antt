@@ -1,4 +1,4 @@
--- `traces::check::step_refusal` meets its contract.
+-- `step_refusal` meets its contract (CheckLaws, `state-laws`).
 use borrow.Author.Needs.{needs}
 use Rattle.recordings.proofs.CheckLaws.{state-laws}
 use Rattle.recordings.proofs.check.step_refusal.Statement.{statement}

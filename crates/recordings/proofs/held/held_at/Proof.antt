@@ -1,4 +1,4 @@
--- `held_atoms::held::held_at` meets its contract.
+-- `held_at` meets its contract (HeldLaws, `at-few`, `at-many`).
 use borrow.Author.Needs.{needs}
 use Rattle.recordings.proofs.HeldLaws.{at-few, at-many}
 use Rattle.recordings.proofs.held.held_at.Statement.{statement}

@@ -1,4 +1,4 @@
--- `held_atoms::held::held_by` meets its contract.
+-- `held_by` meets its contract (HeldLaws, `by-next`, `by-end`).
 use Prim.Native.Nat.{_-_}
 use borrow.Author.Needs.{needs}
 use Rattle.recordings.proofs.HeldLaws.{HeldLeft, by-start, by-next, by-end}

@@ -1,4 +1,4 @@
--- `held_atoms::held::held_changed` meets its contract.
+-- `held_changed` meets its contract (HeldLaws, `held-laws`).
 use borrow.Author.Needs.{needs}
 use Rattle.recordings.proofs.HeldLaws.{held-laws}
 use Rattle.recordings.proofs.held.held_changed.Statement.{statement}

@@ -1,4 +1,4 @@
--- `held_atoms::held::held_group` meets its contract.
+-- `held_group` meets its contract (HeldLaws, `held-laws`).
 use borrow.Author.Needs.{needs}
 use Rattle.recordings.proofs.HeldLaws.{held-laws}
 use Rattle.recordings.proofs.held.held_group.Statement.{statement}

@@ -1,4 +1,4 @@
--- `held_atoms::held::held_table` meets its contract.
+-- `held_table` meets its contract (HeldLaws, `held-laws`).
 use Rattle.recordings.proofs.HeldLaws.{held-laws}
 use Rattle.recordings.proofs.held.held_table.Statement.{statement}
 use Rattle.recordings.proofs.held.held_table.Tie as tie

@@ -1,4 +1,4 @@
--- `held_atoms::held::held_top` meets its contract.
+-- `held_top` meets its contract (HeldLaws, `group-none`).
 use borrow.Author.Needs.{needs}
 use Rattle.recordings.proofs.HeldLaws.{group-none}
 use Rattle.recordings.proofs.held.held_top.Statement.{statement}

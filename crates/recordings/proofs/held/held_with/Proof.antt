@@ -1,4 +1,4 @@
--- `held_atoms::held::held_with` meets its contract.
+-- `held_with` meets its contract (HeldLaws, `with-ran`, `with-held`).
 use Rattle.recordings.proofs.HeldLaws.{with-ran, with-held}
 use Rattle.recordings.proofs.held.held_with.Statement.{statement}
 use Rattle.recordings.proofs.held.held_with.Tie as tie

@@ -1,4 +1,4 @@
--- `held_atoms::held::output_broken` meets its contract.
+-- `output_broken` meets its contract (HeldLaws, `broken-is`).
 use borrow.Author.Needs.{needs}
 use Rattle.recordings.proofs.HeldLaws.{broken-is}
 use Rattle.recordings.proofs.held.output_broken.Statement.{statement}

@@ -1,4 +1,4 @@
--- `state_words::masks::mask_at` meets its contract.
+-- `mask_at` meets its contract (WordLaws, `mask-none`).
 use borrow.Author.Needs.{needs}
 use Rattle.recordings.proofs.WordLaws.{word-laws}
 use Rattle.recordings.proofs.masks.mask_at.Statement.{statement}

@@ -1,4 +1,4 @@
--- `state_words::masks::mask_refusal` meets its contract.
+-- `mask_refusal` meets its contract (MaskLaws, `mask-is`).
 use borrow.Author.Needs.{needs}
 use Rattle.recordings.proofs.MaskLaws.{mask-is}
 use Rattle.recordings.proofs.masks.mask_refusal.Statement.{statement}

@@ -1,4 +1,4 @@
--- `state_words::masks::masks_refusal` meets its contract.
+-- `masks_refusal` meets its contract: the union of the earlier masks stands for them (MaskLaws, `masks-union`; the turns: `masks-missing`, `masks-refused`, `masks-next`, `masks-end`).
 use Prim.Native.Nat.{_-_}
 use borrow.Author.Needs.{needs}
 use Rattle.recordings.proofs.MaskLaws.{MasksLeft, masks-start, masks-missing, masks-refused, masks-next, masks-end}

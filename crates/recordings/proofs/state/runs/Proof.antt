@@ -1,4 +1,4 @@
--- `state_words::state::runs` meets its contract.
+-- `runs` meets its contract (WordLaws, `marked-shifted`).
 use borrow.Author.Needs.{needs}
 use Rattle.recordings.proofs.WordLaws.{word-laws}
 use Rattle.recordings.proofs.state.runs.Statement.{statement}

@@ -1,4 +1,4 @@
--- `Row::next` meets its contract: the row one place on, and the ending at its last place (RowLaws).
+-- `Row::next` meets its contract: the row one place on, and the ending at its last place (RowLaws, `next-made`).
 use Rattle.rows.proofs.RowLaws.{row-laws, next-made}
 use Rattle.rows.proofs.Row.next.Statement.{statement}
 use Rattle.rows.proofs.Row.next.Tie as tie

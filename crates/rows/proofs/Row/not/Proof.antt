@@ -1,4 +1,4 @@
--- `Row::not` meets its contract: against the full row (RowLaws).
+-- `Row::not` meets its contract: against the full row (RowLaws, `not-made`).
 use Rattle.rows.proofs.RowLaws.{row-laws}
 use Rattle.rows.proofs.Row.not.Statement.{statement}
 use Rattle.rows.proofs.Row.not.Tie as tie

@@ -1,4 +1,4 @@
--- `Row::prev` meets its contract: the low word carries into the high, and the full row cuts (RowLaws).
+-- `Row::prev` meets its contract: the low word carries into the high, and the full row cuts (RowLaws, `prev-made`).
 use Rattle.rows.proofs.RowLaws.{row-laws, prev-made}
 use Rattle.rows.proofs.Row.prev.Statement.{statement}
 use Rattle.rows.proofs.Row.prev.Tie as tie

@@ -1,4 +1,4 @@
--- `Row::since` meets its contract: the low word carries into the high (RowLaws).
+-- `Row::since` meets its contract: the low word carries into the high (RowLaws, `since-made`).
 use Rattle.rows.proofs.RowLaws.{row-laws, since-made}
 use Rattle.rows.proofs.Row.since.Statement.{statement}
 use Rattle.rows.proofs.Row.since.Tie as tie

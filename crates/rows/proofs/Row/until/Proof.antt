@@ -1,4 +1,4 @@
--- `Row::until` meets its contract: the ending enters at the last place, the high word at the end of the low (RowLaws).
+-- `Row::until` meets its contract: the ending enters at the last place, the high word at the end of the low (RowLaws, `until-made`).
 use Rattle.rows.proofs.RowLaws.{row-laws, until-made}
 use Rattle.rows.proofs.Row.until.Statement.{statement}
 use Rattle.rows.proofs.Row.until.Tie as tie

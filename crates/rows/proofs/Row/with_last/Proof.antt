@@ -1,4 +1,4 @@
--- `Row::with_last` meets its contract: its last mark is cut off, then put (RowLaws).
+-- `Row::with_last` meets its contract: its last mark is cut off, then put (RowLaws, `last-made`).
 use Rattle.rows.proofs.RowLaws.{row-laws, last-made}
 use Rattle.rows.proofs.Row.with_last.Statement.{statement}
 use Rattle.rows.proofs.Row.with_last.Tie as tie

@@ -1,3 +1,4 @@
+-- `counted` meets its contract (PairLaws, `counted-pair`).
 use Rattle.rows.proofs.PairLaws.{counted-laws}
 use Rattle.rows.proofs.pair.counted.Statement.{statement}
 use Rattle.rows.proofs.pair.counted.Tie as tie

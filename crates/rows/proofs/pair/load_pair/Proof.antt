@@ -1,3 +1,4 @@
+-- `load_pair` meets its contract (PairLaws, `pair-at`).
 use Rattle.rows.proofs.PairLaws.{pair-laws}
 use Rattle.rows.proofs.pair.load_pair.Statement.{statement}
 use Rattle.rows.proofs.pair.load_pair.Tie as tie

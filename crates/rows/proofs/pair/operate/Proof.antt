@@ -1,3 +1,4 @@
+-- `operate` meets its contract: one law for each kind (PairLaws, `not-pair` to `since-pair`).
 use Rattle.rows.proofs.PairLaws.{pair-laws, not-pair, or-pair, next-pair, until-pair, prev-pair, since-pair}
 use Rattle.rows.proofs.pair.operate.Statement.{statement}
 use Rattle.rows.proofs.pair.operate.Tie as tie

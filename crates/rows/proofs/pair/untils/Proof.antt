@@ -1,3 +1,4 @@
+-- `untils` meets its contract (PairLaws, `untils-made`).
 use Rattle.rows.proofs.PairLaws.{first-weak, second-weak, even-weak, first-strong, second-strong, even-strong, untils-made}
 use borrow.Author.Needs.{needs}
 use Rattle.rows.proofs.pair.untils.Statement.{statement}

@@ -1,4 +1,4 @@
--- `store` meets its contract: three words are set one after the other (StoredLaws).
+-- `store` meets its contract: three words are set one after the other (StoredLaws, `stored`).
 use native.Mathlib.Omega.{arith}
 use lib.ListN.{length-set}
 use Rattle.rows.proofs.StoredLaws.{stored-laws, stored}

@@ -1,4 +1,4 @@
--- `or_else` meets its contract.
+-- `or_else` meets its contract (ChoiceLaws, `or-else-is`).
 use Rattle.rules.proofs.ChoiceLaws.{choices}
 use Rattle.rules.proofs.choice.or_else.Statement.{statement}
 use Rattle.rules.proofs.choice.or_else.Tie as tie

@@ -1,4 +1,4 @@
--- `pick` meets its contract: one return for each answer of the test.
+-- `pick` meets its contract: one return for each answer of the test (ChoiceLaws, `pick-yes`, `pick-no`).
 use Rattle.rules.proofs.ChoiceLaws.{choices}
 use Rattle.rules.proofs.choice.pick.Statement.{statement}
 use Rattle.rules.proofs.choice.pick.Tie as tie

@@ -1,4 +1,4 @@
--- `is_unknown` meets its contract, by cases of the kind (KindLaws).
+-- `is_unknown` meets its contract, by cases of the kind (KindLaws, `unknown-of`).
 use borrow.Author.Needs.{needs}
 use Rattle.rules.proofs.KindLaws.{unknown-of}
 use Rattle.rules.proofs.kind.is_unknown.Statement.{statement}

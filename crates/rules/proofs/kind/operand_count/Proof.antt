@@ -1,4 +1,4 @@
--- `operand_count` meets its contract, by cases of the kind (KindLaws).
+-- `operand_count` meets its contract, by cases of the kind (KindLaws, `operands-tested`).
 use borrow.Author.Needs.{needs}
 use Rattle.rules.proofs.KindLaws.{operands-tested}
 use Rattle.rules.proofs.kind.operand_count.Statement.{statement}

@@ -1,4 +1,4 @@
--- `takes_two` meets its contract, by cases of the kind (KindLaws).
+-- `takes_two` meets its contract, by cases of the kind (KindLaws, `two-of`).
 use borrow.Author.Needs.{needs}
 use Rattle.rules.proofs.KindLaws.{two-of}
 use Rattle.rules.proofs.kind.takes_two.Statement.{statement}

@@ -1,4 +1,4 @@
--- `all_fit` meets its contract. The invariant: where all so far fit, what is left to test is the answer.
+-- `all_fit` meets its contract (TableLaws, `fit-next`). The invariant: where all so far fit, what is left to test is the answer.
 use Prim.Native.Nat.{_-_}
 use Rattle.rules.proofs.TableLaws.{Fitting, fit-laws, fit-next}
 use Rattle.rules.proofs.table_check.all_fit.Statement.{statement}

@@ -1,4 +1,4 @@
--- `first_refusal` meets its contract. The invariant: what is left to test at node i is the answer.
+-- `first_refusal` meets its contract (TableLaws, `node-laws`). The invariant: what is left to test at node i is the answer.
 use Prim.Native.Nat.{_-_}
 use Rattle.rules.proofs.TableLaws.{Left, node-laws}
 use Rattle.rules.proofs.table_check.first_refusal.Statement.{statement}

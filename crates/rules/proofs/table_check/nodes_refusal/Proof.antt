@@ -1,4 +1,4 @@
--- `nodes_refusal` meets its contract: where all nodes fit, nothing refuses them.
+-- `nodes_refusal` meets its contract: where all nodes fit, nothing refuses them (TableLaws, `all-fit`).
 use borrow.Author.Needs.{needs}
 use Rattle.rules.proofs.TableLaws.{all-fit}
 use Rattle.rules.proofs.table_check.nodes_refusal.Statement.{statement}

@@ -1,3 +1,4 @@
+-- `but_not` meets its contract (StepLaws, `but-not-made`).
 use borrow.Author.Needs.{needs}
 use Rattle.walk.proofs.StepLaws.{but-not-made, step-laws}
 use Rattle.walk.proofs.step.but_not.Statement.{statement}

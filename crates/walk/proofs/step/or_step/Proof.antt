@@ -1,3 +1,4 @@
+-- `or_step` meets its contract (StepLaws, `or-step`).
 use Rattle.walk.proofs.StepLaws.{step-laws}
 use Rattle.walk.proofs.step.or_step.Statement.{statement}
 use Rattle.walk.proofs.step.or_step.Tie as tie

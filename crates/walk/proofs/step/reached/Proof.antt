@@ -1,3 +1,4 @@
+-- `reached` meets its contract (StepLaws, `reached-step`).
 use Rattle.walk.proofs.StepLaws.{step-laws}
 use Rattle.walk.proofs.step.reached.Statement.{statement}
 use Rattle.walk.proofs.step.reached.Tie as tie

@@ -1,3 +1,4 @@
+-- `since_step` meets its contract (StepLaws, `since-step`).
 use Rattle.walk.proofs.StepLaws.{step-laws}
 use Rattle.walk.proofs.step.since_step.Statement.{statement}
 use Rattle.walk.proofs.step.since_step.Tie as tie

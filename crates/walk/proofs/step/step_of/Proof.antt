@@ -1,3 +1,4 @@
+-- `step_of` meets its contract: one law for each kind (StepLaws, `step-not` to `step-since`).
 use Rattle.walk.proofs.StepLaws.{step-laws}
 use Rattle.walk.proofs.step.step_of.Statement.{statement}
 use Rattle.walk.proofs.step.step_of.Tie as tie

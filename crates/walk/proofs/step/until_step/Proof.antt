@@ -1,3 +1,4 @@
+-- `until_step` meets its contract (StepLaws, `until-step`).
 use Rattle.walk.proofs.StepLaws.{step-laws}
 use Rattle.walk.proofs.step.until_step.Statement.{statement}
 use Rattle.walk.proofs.step.until_step.Tie as tie

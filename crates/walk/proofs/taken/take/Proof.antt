@@ -1,3 +1,4 @@
+-- `take` meets its contract (TakenLaws, `taken-made`).
 use Rattle.walk.proofs.TakenLaws.{taken-laws}
 use Rattle.walk.proofs.taken.take.Statement.{statement}
 use Rattle.walk.proofs.taken.take.Tie as tie

@@ -1,3 +1,4 @@
+-- `under` meets its contract (TakenLaws, `under-not`, `under-other`).
 use Rattle.walk.proofs.TakenLaws.{taken-laws}
 use Rattle.walk.proofs.taken.under.Statement.{statement}
 use Rattle.walk.proofs.taken.under.Tie as tie

@@ -1,3 +1,4 @@
+-- `blank` meets its contract (WantedLaws, `blank-none`, `blank-more`, `blank-done`).
 use Prim.Native.Nat.{_-_}
 use Rattle.walk.proofs.WantedLaws.{Blanking, wanted-laws}
 use Rattle.walk.proofs.wanted.blank.Statement.{statement}
@@ -15,8 +16,8 @@ none-requires c κs = search wanted-laws
 loop-holds : tie.Need-loop-holds Inv-loop μ-loop
 loop-holds c = search wanted-laws
 
-put-requires : tie.Need-put-requires Inv-loop μ-loop
-put-requires c κs = search wanted-laws
+store-pair-requires : tie.Need-store-pair-requires Inv-loop μ-loop
+store-pair-requires c κs = search wanted-laws
 
 add-j : tie.Need-add-j Inv-loop μ-loop
 add-j c = search wanted-laws
@@ -41,7 +42,7 @@ blank-spec =
     μ-loop
     none-requires
     loop-holds
-    put-requires
+    store-pair-requires
     add-j
     loop-less
     loop-again

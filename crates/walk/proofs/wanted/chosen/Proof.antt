@@ -1,3 +1,4 @@
+-- `chosen` meets its contract (WantedLaws, `chosen-weak`, `chosen-strong`).
 use Rattle.walk.proofs.WantedLaws.{wanted-laws}
 use Rattle.walk.proofs.wanted.chosen.Statement.{statement}
 use Rattle.walk.proofs.wanted.chosen.Tie as tie

@@ -1,3 +1,4 @@
+-- `start` meets its contract (WantedLaws, `start-done`).
 use Rattle.walk.proofs.WantedLaws.{wanted-laws}
 use Rattle.walk.proofs.wanted.start.Statement.{statement}
 use Rattle.walk.proofs.wanted.start.Tie as tie

@@ -1,4 +1,4 @@
--- `Pass::begin` meets its contract: one state has one place.
+-- `Pass::begin` meets its contract: one state has one place (PassLaws, `held-first`).
 use borrow.Author.Needs.{needs}
 use Rattle.projection.proofs.PassLaws.{held-first}
 use Rattle.projection.proofs.pass.Pass.begin.Statement.{statement}

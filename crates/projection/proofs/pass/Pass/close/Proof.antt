@@ -1,4 +1,4 @@
--- `Pass::close` meets its contract: the last place is laid after the others.
+-- `Pass::close` meets its contract: the last place is laid after the others (PassLaws, `closed`).
 use borrow.Author.Needs.{needs}
 use Rattle.projection.proofs.PassLaws.{closed}
 use Rattle.projection.proofs.pass.Pass.close.Statement.{statement}

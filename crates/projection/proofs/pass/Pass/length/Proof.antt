@@ -1,4 +1,4 @@
--- `Pass::length` meets its contract: the ones of the row, and one more.
+-- `Pass::length` meets its contract: the ones of the row, and one more (PassLaws, `counted`).
 use borrow.Author.Needs.{needs}
 use Rattle.projection.proofs.PassLaws.{counted}
 use Rattle.projection.proofs.pass.Pass.length.Statement.{statement}

@@ -1,4 +1,4 @@
--- `Pass::take` meets its contract: the local trace of one state more.
+-- `Pass::take` meets its contract: the local trace of one state more (PassLaws, `held-more`).
 use borrow.Author.Needs.{needs}
 use Rattle.projection.proofs.PassLaws.{held-more}
 use Rattle.projection.proofs.pass.Pass.take.Statement.{statement}
