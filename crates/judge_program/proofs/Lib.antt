@@ -1,4 +1,3 @@
-pub mod RecordingAccepted
 pub mod OutputLaws
 pub mod PrintedEarly
 pub mod PrintedVerdicts

@@ -31,7 +31,7 @@ use Rattle.theorems.proofs.EarlyRecordings.{begins-for, beginning-begins}
 use Rattle.theorems.proofs.EarlyJudged.{verdictsOn, announced-same}
 use Rattle.rewritten_judge.proofs.RewrittenLaws.{verdicts-agree}
 use Rattle.printing.specs.Printing.{OutputIs}
-use Rattle.judge_program.proofs.RecordingAccepted.{texts-accepted, recording-fine}
+use Rattle.report.proofs.RecordingAccepted.{texts-accepted, recording-fine}
 
 -- a line of a rewriting: its word, its node count, the verdicts
 abbrev pub countedLine : (word : List ℕ) (count : ℕ) (v : Verdicts) → List ℕ

@@ -1,7 +1,7 @@
 // The program: both texts are read, judged, and printed of.
 ghost use Rattle.definitions.specs.Program.{textsOutput, programOutput};
 ghost use Rattle.printing.specs.Printing.{Printed, OutputIs};
-ghost use Rattle.judge_program.specs.Output.{TextsRoom, foundRule, foundRecording, Found};
+ghost use Rattle.report.specs.ReadTables.{TextsRoom, foundRule, foundRecording, Found};
 ghost use Rattle.report.specs.Judged.{ReportIs};
 use joint_reading::read_joint;
 use program_input::split;

@@ -68,16 +68,6 @@ countable R c h l =
       controller = omega (arith, K .fewControllers);
     }
 
--- the local length alone: places in space of its own
-pub own-places : (N c : ℕ) (states places : List ℕ) → Countable N c states → maxStates ≤ length places → Projectable N c states places
-own-places N c states places C room = record {
-  someState = C .someState;
-  fewStates = C .fewStates;
-  allThere = C .allThere;
-  room = room;
-  controller = C .controller;
-}
-
 pub local-places : (R : Recording) (c : ℕ) → placesIn (R .count) (maskOf R c) c (R .states) ≡ localTrace R c
 unfolding placesIn
 local-places R c = refl

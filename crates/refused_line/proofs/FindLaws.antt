@@ -18,7 +18,7 @@ use Rattle.joint_reading.specs.declared.scan.Found.{Found}
 use Rattle.program_input.specs.Splitting.{SplitAt}
 use Rattle.program_input.specs.declared.Parts.{Parts}
 use Rattle.program_input.proofs.SplitLaws.{rule-counted, texts-fit}
-use Rattle.judge_program.proofs.OutputLaws.{joint-low}
+use Rattle.report.proofs.ReadTableLaws.{joint-low}
 use Rattle.refused_line.specs.Numbering.{lineNumber, LineStart}
 use Rattle.refused_line.specs.Finding.{Readable, partLine, textsLine, inputLine}
 use Rattle.refused_line.specs.declared.Line.{Line}

@@ -21,9 +21,9 @@ use Rattle.lines.proofs.PartLaws.{part-to-end}
 use Rattle.joint_reading.specs.Joining.{ReadJoint}
 use Rattle.program_input.specs.Splitting.{SplitAt}
 use Rattle.program_input.proofs.SplitLaws.{rule-counted, texts-fit}
-use Rattle.judge_program.specs.Output.{foundRule, foundRecording}
+use Rattle.report.specs.ReadTables.{foundRule, foundRecording}
 use Rattle.program_input.specs.declared.Parts.{Parts}
-use Rattle.judge_program.proofs.OutputLaws.{first-is, line-is, rule-is, recording-is, refusal-room, tables-found, nodes-counted, masks-counted, states-counted}
+use Rattle.report.proofs.ReadTableLaws.{first-is, line-is, rule-is, recording-is, refusal-room, tables-found, nodes-counted, masks-counted, states-counted}
 use Rattle.evidence_text.specs.Behind.{behindOf, BehindReady}
 use Rattle.program_input.specs.Asking.{askedIn, AskedIs}
 use Rattle.why_program.specs.Output.{maxWhyBytes, FoundRoom, WhyRoom, InputRoom}

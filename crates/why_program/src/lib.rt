@@ -2,7 +2,7 @@
 ghost use Rattle.definitions.specs.Program.{ruleTextIn, recordingTextIn};
 ghost use Rattle.definitions.specs.Why.{whyTexts, whyOutput};
 ghost use Rattle.printing.specs.Printing.{Printed, OutputIs};
-ghost use Rattle.judge_program.specs.Output.{foundRule, foundRecording};
+ghost use Rattle.report.specs.ReadTables.{foundRule, foundRecording};
 ghost use Rattle.evidence_text.specs.Behind.{behindOf};
 ghost use Rattle.why_program.specs.Output.{FoundRoom, WhyRoom, InputRoom};
 use evidence_text::MOST_BYTES;

@@ -1,6 +1,6 @@
 -- `judge_found` meets its contract.
 use borrow.Author.Needs.{needs}
-use Rattle.judge_program.proofs.OutputLaws.{found-laws}
+use Rattle.report.proofs.ReadTableLaws.{found-laws}
 use Rattle.judge_program.proofs.judge_found.Statement.{statement}
 use Rattle.judge_program.proofs.judge_found.Tie as tie
 

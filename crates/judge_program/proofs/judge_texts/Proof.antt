@@ -1,6 +1,6 @@
 -- `judge_texts` meets its contract.
 use borrow.Author.Needs.{needs}
-use Rattle.judge_program.proofs.OutputLaws.{judged-printed, read-laws}
+use Rattle.report.proofs.ReadTableLaws.{judged-printed, read-laws}
 use Rattle.judge_program.proofs.judge_texts.Statement.{statement}
 use Rattle.judge_program.proofs.judge_texts.Tie as tie
 

@@ -1,4 +1,4 @@
--- What the program prints.
+-- Two texts of one input, as tables in lent space: what `judge` and `why` share of reading them.
 use Prim.Native.Nat.{ℕ, _≤_}
 use mathlib.Core.List.{List}
 use lib.ListN.{length, take, getD}
