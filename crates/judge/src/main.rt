@@ -2,6 +2,7 @@
 // refused line stands, or what could not be read or written.
 use libc::STDOUT_FILENO;
 use refused_line::refused_line;
+use report::REFUSED;
 use rules::limits::Limits;
 use standard_streams::failures;
 use standard_streams::input::read_input;
@@ -19,7 +20,10 @@ fn main() {
     let mut output = [0u8; judge_program::OUTPUT_BYTES];
     let printed = judge_program::judge(&space[..length], &mut output);
     if io::write_all(STDOUT_FILENO, &output[..printed]) {
-        say_line(refused_line(&space[..length]));
+        // What was accepted has no refused line, and is not read again.
+        if output[0] == REFUSED {
+            say_line(refused_line(&space[..length]));
+        }
     } else {
         failures::say_unwritten(b"judge");
     }

@@ -13,6 +13,9 @@ use printing::put_byte;
 use printing::put_line;
 use rewritten_judge::Rewritten;
 
+// The first byte of what is printed of a refusal, and of nothing else that a program prints.
+pub const REFUSED: u8 = b'r';
+
 // All that is printed of an accepted rule and recording.
 pub struct Report {
     pub places: u32,

@@ -4,6 +4,7 @@ use libc::STDOUT_FILENO;
 use program_input::asked::Asked;
 use program_input::asked::asked_by;
 use refused_line::refused_line;
+use report::REFUSED;
 use rules::limits::Limits;
 use standard_streams::failures;
 use standard_streams::input::read_input;
@@ -31,7 +32,10 @@ fn main() {
     let mut output = [0u8; why_program::OUTPUT_BYTES];
     let printed = why_program::why(&space[..length], &mut output);
     if io::write_all(STDOUT_FILENO, &output[..printed]) {
-        say_refused(&space[..length]);
+        // What was accepted has no refused line, and is not read again.
+        if output[0] == REFUSED {
+            say_refused(&space[..length]);
+        }
     } else {
         failures::say_unwritten(b"why");
     }

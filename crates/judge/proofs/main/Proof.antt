@@ -1,6 +1,6 @@
--- `main` meets its contract.
-use Rattle.standard_streams.proofs.ToldLaws.{told-laws}
+-- `main` meets its contract: it reads and writes, and asks nothing of what it calls.
 use borrow.Author.Needs.{needs}
+use Rattle.standard_streams.proofs.ToldLaws.{told-laws}
 use Rattle.judge.proofs.main.Statement.{statement}
 use Rattle.judge.proofs.main.Tie as tie
 
@@ -23,7 +23,7 @@ array-share-prefix-space : tie.Need-array-share-prefix-space
 array-share-prefix-space c = search needs
 
 slice-aggregate-judge : tie.Need-slice-aggregate-judge
-slice-aggregate-judge c = search told-laws
+slice-aggregate-judge c = search (needs, told-laws)
 
 judge-requires : tie.Need-judge-requires
 judge-requires c κs = search needs
@@ -32,16 +32,19 @@ array-share-prefix-output : tie.Need-array-share-prefix-output
 array-share-prefix-output c = search needs
 
 slice-aggregate-write-all : tie.Need-slice-aggregate-write-all
-slice-aggregate-write-all c = search told-laws
+slice-aggregate-write-all c = search (needs, told-laws)
 
 write-all-requires : tie.Need-write-all-requires
 write-all-requires c κs = search needs
+
+array-read-if3 : tie.Need-array-read-if3
+array-read-if3 c = search needs
 
 array-share-prefix-space-2 : tie.Need-array-share-prefix-space-2
 array-share-prefix-space-2 c = search needs
 
 slice-aggregate-refused-line : tie.Need-slice-aggregate-refused-line
-slice-aggregate-refused-line c = search told-laws
+slice-aggregate-refused-line c = search (needs, told-laws)
 
 refused-line-requires : tie.Need-refused-line-requires
 refused-line-requires c κs = search needs
@@ -61,6 +64,9 @@ returns-2 c = search needs
 returns-3 : tie.Need-returns-3
 returns-3 c = search needs
 
+returns-4 : tie.Need-returns-4
+returns-4 c = search needs
+
 pub main-spec : {M : Type 1} → statement M
 main-spec =
     tie.close
@@ -76,6 +82,7 @@ main-spec =
     array-share-prefix-output
     slice-aggregate-write-all
     write-all-requires
+    array-read-if3
     array-share-prefix-space-2
     slice-aggregate-refused-line
     refused-line-requires
@@ -83,4 +90,5 @@ main-spec =
     slice-aggregate-say-unwritten
     say-unwritten-requires
     returns-2
-    returns-3)
+    returns-3
+    returns-4)

@@ -1,6 +1,6 @@
--- `main` meets its contract.
-use Rattle.standard_streams.proofs.ToldLaws.{told-laws}
+-- `main` meets its contract: it reads and writes, and asks nothing of what it calls.
 use borrow.Author.Needs.{needs}
+use Rattle.standard_streams.proofs.ToldLaws.{told-laws}
 use Rattle.why.proofs.main.Statement.{statement}
 use Rattle.why.proofs.main.Tie as tie
 
@@ -23,7 +23,7 @@ array-share-prefix-space : tie.Need-array-share-prefix-space
 array-share-prefix-space c = search needs
 
 slice-aggregate-why : tie.Need-slice-aggregate-why
-slice-aggregate-why c = search told-laws
+slice-aggregate-why c = search (needs, told-laws)
 
 why-requires : tie.Need-why-requires
 why-requires c κs = search needs
@@ -32,16 +32,19 @@ array-share-prefix-output : tie.Need-array-share-prefix-output
 array-share-prefix-output c = search needs
 
 slice-aggregate-write-all : tie.Need-slice-aggregate-write-all
-slice-aggregate-write-all c = search told-laws
+slice-aggregate-write-all c = search (needs, told-laws)
 
 write-all-requires : tie.Need-write-all-requires
 write-all-requires c κs = search needs
+
+array-read-if3 : tie.Need-array-read-if3
+array-read-if3 c = search needs
 
 array-share-prefix-space-2 : tie.Need-array-share-prefix-space-2
 array-share-prefix-space-2 c = search needs
 
 slice-aggregate-say-refused : tie.Need-slice-aggregate-say-refused
-slice-aggregate-say-refused c = search told-laws
+slice-aggregate-say-refused c = search (needs, told-laws)
 
 say-refused-requires : tie.Need-say-refused-requires
 say-refused-requires c κs = search needs
@@ -58,6 +61,9 @@ returns-2 c = search needs
 returns-3 : tie.Need-returns-3
 returns-3 c = search needs
 
+returns-4 : tie.Need-returns-4
+returns-4 c = search needs
+
 pub main-spec : {M : Type 1} → statement M
 main-spec =
     tie.close
@@ -73,10 +79,12 @@ main-spec =
     array-share-prefix-output
     slice-aggregate-write-all
     write-all-requires
+    array-read-if3
     array-share-prefix-space-2
     slice-aggregate-say-refused
     say-refused-requires
     slice-aggregate-say-unwritten
     say-unwritten-requires
     returns-2
-    returns-3)
+    returns-3
+    returns-4)
