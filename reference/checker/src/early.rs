@@ -68,11 +68,11 @@ impl<'a> Early<'a> {
             of_first.map(|member| member.recording).collect()
         };
         let views: Vec<Vec<usize>> = views.into_iter().map(|view| first(view.members)).collect();
-        let recordings: Vec<Recording> =
+        let read: Vec<Recording> =
             views.iter().map(|view| recording(&recordings[view[0]])).collect();
         let mut pairs = Vec::new();
-        for (first, a) in recordings.iter().enumerate() {
-            for (second, b) in recordings.iter().enumerate() {
+        for (first, a) in read.iter().enumerate() {
+            for (second, b) in read.iter().enumerate() {
                 let lacks = missing(a, b, 0);
                 let few = a.states.len().max(b.states.len()) <= 2;
                 if lacks.is_empty() || (lacks.len() == 1 && few) {
@@ -95,7 +95,11 @@ impl<'a> Early<'a> {
             found.push(if nodes.len() <= self.plan.small.every_recording_nodes {
                 one_verdict(&mut whole, &rule, recording)?
             } else {
-                ragyvosin::judge_local(library::rule(&rule), library::recording(recording)).1
+                ragyvosin::judge_local(
+                    library::lent_rule(&rule),
+                    library::lent_recording(recording),
+                )
+                .1
             });
         }
         Ok(found)

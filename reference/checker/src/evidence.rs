@@ -169,7 +169,7 @@ pub fn accepted(random: &mut Random) -> (RuleTable, RecordingTable) {
 /// How many pairs the library gives for both verdicts.
 fn pairs(rule: &RuleTable, recording: &RecordingTable) -> usize {
     let mut lent = vec![0; PAIRS];
-    let (rule, recording) = (library::rule(rule), library::recording(recording));
+    let (rule, recording) = (library::lent_rule(rule), library::lent_recording(recording));
     [true, false]
         .map(|weak| ragyvosin::evidence(rule, recording, weak, &mut lent).1[0])
         .iter()

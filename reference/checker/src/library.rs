@@ -9,12 +9,12 @@ use crate::input::{Input, Lent, Space};
 use crate::outcome::Outcome;
 
 /// A rule as the library takes it.
-pub fn rule(table: &RuleTable) -> Rule<'_> {
+pub fn lent_rule(table: &RuleTable) -> Rule<'_> {
     Rule { controller: table.controller, count: table.count, nodes: &table.nodes }
 }
 
 /// A recording as the library takes it.
-pub fn recording(table: &RecordingTable) -> Recording<'_> {
+pub fn lent_recording(table: &RecordingTable) -> Recording<'_> {
     let RecordingTable { controllers, length, masks, states } = table;
     Recording { controllers: *controllers, count: *length, masks, states }
 }
@@ -69,7 +69,7 @@ impl Whole {
         rule: &RuleTable,
         recording: &RecordingTable,
     ) -> Result<[[usize; 2]; 3], u8> {
-        let (rule, recording) = (rule(rule), recording(recording));
+        let (rule, recording) = (lent_rule(rule), lent_recording(recording));
         let accepted = |(number, values)| if number == 0 { Ok(values) } else { Err(number) };
         let local = accepted(ragyvosin::judge_local(rule, recording))?;
         let c = rule.controller;
@@ -97,34 +97,34 @@ pub fn of(input: &Input) -> Outcome {
         }
         Input::WriteRule { rule: table, text } => {
             let mut text = Space::new(*text);
-            outcome(ragyvosin::write_rule(rule(table), text.lend()), vec![text.words()])
+            outcome(ragyvosin::write_rule(lent_rule(table), text.lend()), vec![text.words()])
         }
         Input::ReadRecording { text, masks, states } => read_recording(text, *masks, *states),
         Input::ReadJoint { rule, recording, nodes, masks, states } => {
             read_joint(rule, recording, [*nodes, *masks, *states])
         }
-        Input::Project { recording: recording, controller, places } => {
+        Input::Project { recording, controller, places } => {
             let mut places = Space::new(*places);
-            let answer = ragyvosin::project(recording(recording), *controller, places.lend());
+            let answer = ragyvosin::project(lent_recording(recording), *controller, places.lend());
             outcome(answer, vec![places.words()])
         }
-        Input::JudgeLocal { rule: rule, recording: recording } => {
-            outcome(ragyvosin::judge_local(rule(rule), recording(recording)), vec![])
+        Input::JudgeLocal { rule, recording } => {
+            outcome(ragyvosin::judge_local(lent_rule(rule), lent_recording(recording)), vec![])
         }
-        Input::Rewrite { short, rule: rule, mask, table } => {
+        Input::Rewrite { short, rule, mask, table } => {
             let mut space = Space::new(*table);
-            let answer = ragyvosin::rewrite(*short, rule(rule), *mask, space.lend());
+            let answer = ragyvosin::rewrite(*short, lent_rule(rule), *mask, space.lend());
             outcome(answer, vec![space.words()])
         }
-        Input::JudgeRecording { table: nodes, recording: recording, controller, rows } => {
+        Input::JudgeRecording { table: nodes, recording, controller, rows } => {
             let mut rows = Space::new(*rows);
-            let (nodes, recording) = (table(nodes), recording(recording));
+            let (nodes, recording) = (table(nodes), lent_recording(recording));
             let answer = ragyvosin::judge_recording(nodes, recording, *controller, rows.lend());
             outcome(answer, vec![rows.words()])
         }
-        Input::Evidence { rule: rule, recording: recording, weak, pairs } => {
+        Input::Evidence { rule, recording, weak, pairs } => {
             let mut pairs = Space::new(*pairs);
-            let (rule, recording) = (rule(rule), recording(recording));
+            let (rule, recording) = (lent_rule(rule), lent_recording(recording));
             let answer = ragyvosin::evidence(rule, recording, *weak, pairs.lend());
             outcome(answer, vec![pairs.words()])
         }

@@ -62,8 +62,9 @@ impl Walker {
         weak: bool,
     ) -> Result<&[u32], Difference> {
         let count = self.expect(check, rule, recording, weak);
-        let (rule, recording) = (library::rule(rule), library::recording(recording));
-        let found = ragyvosin::evidence(rule, recording, weak, self.pairs.lend());
+        let (lent_rule, lent_recording) =
+            (library::lent_rule(rule), library::lent_recording(recording));
+        let found = ragyvosin::evidence(lent_rule, lent_recording, weak, self.pairs.lend());
         check.count(Operation::Evidence, 1, self.pairs.entries());
         let input = || Input::evidence(rule.clone(), recording.clone(), weak);
         self.pairs.require([count], found, input)?;
