@@ -91,13 +91,13 @@ fn since(p: u128, q: u128) -> u128 {
 }
 
 /// A trace of words, state words or places.
-struct Recording<'a, W> {
+struct Trace<'a, W> {
     words: &'a [W],
     own: u32,
     c: usize,
 }
 
-impl<W: Copy + Into<u64>> Recording<'_, W> {
+impl<W: Copy + Into<u64>> Trace<'_, W> {
     fn last(&self) -> u128 {
         1 << (self.words.len() - 1)
     }
@@ -172,9 +172,9 @@ pub fn judge_recording(
     if let Err(number) = check::table(table).and_then(|()| check::controller(recording, c)) {
         return refused(number, rows, full::ROW_WORDS);
     }
-    let recording = Recording { words: &recording.states[..recording.count], own: u32::MAX, c };
+    let trace = Trace { words: &recording.states[..recording.count], own: u32::MAX, c };
     let mut lent = Lent { words: rows, marks: recording.count };
-    recording.evaluate(&table.nodes[..table.count], &mut lent);
+    trace.evaluate(&table.nodes[..table.count], &mut lent);
     let weak = lent.pair(table.weak_top).weak & 1;
     let strong = lent.pair(table.strong_top).strong & 1;
     rows[6 * table.count..full::ROW_WORDS].fill(0);
@@ -208,7 +208,7 @@ pub fn local(rule: Rule, recording: Recording) -> Local {
     let mut places = [0; limits::PLACES];
     let length = places_into(recording, c, &mut places);
     let mut rows = [Pair::both(0); limits::RULE_NODES];
-    Recording { words: &places[..length], own, c }.evaluate(&rule.nodes[..rule.count], &mut rows);
+    Trace { words: &places[..length], own, c }.evaluate(&rule.nodes[..rule.count], &mut rows);
     Local { own, length, rows }
 }
 
