@@ -20,27 +20,27 @@ abbrev pub eventually : RuleTree → RuleTree
 eventually p = binary table.Until (atomic table.True 0) p
 
 -- "`! | X Y U S` are not, or, next, prev, until and since"; "`G p` is `!F!p`"
-abbrev pub prefixFormula : Prefix → (p : RuleTree) → RuleTree
-prefixFormula Not p = negation p
-prefixFormula Next p = unary table.Next p
-prefixFormula Prev p = unary table.Prev p
-prefixFormula Future p = eventually p
-prefixFormula Always p = negation (eventually (negation p))
+abbrev pub prefixTree : Prefix → (p : RuleTree) → RuleTree
+prefixTree Not p = negation p
+prefixTree Next p = unary table.Next p
+prefixTree Prev p = unary table.Prev p
+prefixTree Future p = eventually p
+prefixTree Always p = negation (eventually (negation p))
 
 -- "`p & q` is `!(!p|!q)`; `p -> q` is `!p|q`"
-abbrev pub infixFormula : Infix → (p q : RuleTree) → RuleTree
-infixFormula Implies p q = binary table.Or (negation p) q
-infixFormula Or p q = binary table.Or p q
-infixFormula And p q = negation (binary table.Or (negation p) (negation q))
-infixFormula Until p q = binary table.Until p q
-infixFormula Since p q = binary table.Since p q
+abbrev pub infixTree : Infix → (p q : RuleTree) → RuleTree
+infixTree Implies p q = binary table.Or (negation p) q
+infixTree Or p q = binary table.Or p q
+infixTree And p q = negation (binary table.Or (negation p) (negation q))
+infixTree Until p q = binary table.Until p q
+infixTree Since p q = binary table.Since p q
 
 -- what a tree stands for
 unfoldable pub ruleTreeOf : Tree → RuleTree
 ruleTreeOf truth = atomic table.True 0
 ruleTreeOf (atom n) = atomic table.Atom n
-ruleTreeOf (prefixed x p) = prefixFormula x (ruleTreeOf p)
-ruleTreeOf (joined x p q) = infixFormula x (ruleTreeOf p) (ruleTreeOf q)
+ruleTreeOf (prefixed x p) = prefixTree x (ruleTreeOf p)
+ruleTreeOf (joined x p q) = infixTree x (ruleTreeOf p) (ruleTreeOf q)
 
 -- how many nodes come out
 unfoldable pub size : RuleTree → ℕ

@@ -138,6 +138,7 @@ module _ (rule recording nodes masks states nodes′ : List ℕ) (u : ruled.Scan
         recorded-number : (scanRecording recording) .number ≡ 0
         recorded-number = sym (t .number) ∙ b
 
+        -- `scan_joint`, 11: `jointPart` is the rule's first line
         pub joining-refused : (f : Found) → v .controllers ≤ u .controller → f ≡ refusedAt 11 true 0 (lineLength rule)
             → JointScanned rule recording nodes masks states f nodes′ masks′ states′
         unfolding pick

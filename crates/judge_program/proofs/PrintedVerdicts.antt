@@ -32,7 +32,7 @@ abbrev pub ownTrace : (input : List ℕ) → List ℕ
 ownTrace input = localTrace (recordingOfText (recordingTextIn input)) ((ruleRead input) .controller)
 
 -- the answer of a rule on a local trace, for an own mask: its places, the node counts of both rewritings, and in each of the lines `own`, `plain` and
--- `short` the verdicts of the rule on that trace
+-- `short` the verdicts of the rule on that local trace
 abbrev pub onePair : (r : Rule) (mask : ℕ) (places : List ℕ) → List ℕ
 onePair r mask places =
     let ns = nodesIn (r .count) (r .nodes) in

@@ -99,7 +99,7 @@ module _ (count : ℕ) (nodes : List ℕ) (weakTop strongTop n : ℕ) (states : 
       pub whole-topped : Topped l weakTop strongTop
       whole-topped = topped (wholeIn n states c) (nodesIn count nodes) l (drop (count * pairWords) entry) weakTop strongTop (ready .few) rows-laid weak-below strong-below
 
-      -- `judge_accepted`
+      -- `judge_accepted_table`
       pub whole-verdicts : (v : Verdicts) (exit : List ℕ) → v ≡ topsIn l weakTop strongTop → exit ≡ cleared l (count * pairWords) maxRowWords
           → WholeVerdicts t n states c entry v exit
       whole-verdicts v exit e x =

@@ -1,4 +1,4 @@
--- Laws of the program: one for each return.
+-- Laws of the program `longest`: one for each return.
 use mathlib.Core.Path.{_≡_, refl, sym, ap, _∙_}
 use Prim.Native.Nat.{ℕ, zero, suc, _-_, _<_, _≤_}
 use native.Mathlib.Omega.{arith}

@@ -1,4 +1,4 @@
--- Laws of the program: one for each return.
+-- Laws of the program `rule`: one for each return.
 use mathlib.Core.Path.{_≡_, sym, ap, _∙_}
 use Prim.Native.Nat.{ℕ, _+_, _<_, _≤_}
 use native.Mathlib.Omega.{arith}

@@ -1,4 +1,4 @@
-// From the input's bytes to the output's bytes.
+// The program `longest`, from the input's bytes to the output's bytes.
 ghost use Rattle.definitions.specs.Longest.{countOutput, longestOutput};
 ghost use Rattle.line_programs.specs.Printing.{Prints};
 use super::input::only_line;

@@ -1,4 +1,4 @@
-// From the input's bytes to the output's bytes.
+// The program `rule`, from the input's bytes to the output's bytes.
 ghost use Rattle.definitions.specs.OneLine.{lineOutput, typedOutput, ruleOutput};
 ghost use Rattle.line_programs.specs.Printing.{Prints};
 use super::input::only_line;

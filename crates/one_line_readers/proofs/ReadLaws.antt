@@ -1038,7 +1038,7 @@ module _ (left at made c : ℕ) (cs out : List ℕ) (pr : Primed left cs at made
     pub primaries-true-next : Fits w64 (made + 1)
     primaries-true-next = record { fits = omega (arith, true-room) }
 
-    -- `primaries`, `Phrase`'s `isTrue`: `true`
+    -- `primaries`, `Phrase`'s `truthAlone`: `true`
     pub primaries-true : (w : ℕ) → w ≡ nodeWord (node table.True 0 0) → Read Primaries 5 cs at made out (at + 1) (made + 1) (set out made w)
     unfolding nodesFrom ruleTreeOf
     primaries-true w e = record { tree = truth; phrase = rw true-ahead truthAlone; stops = tight-most (ahead cs (at + 1)); laid = relaid (rw e) (laid-one w out made (omega (arith, true-room, pr .ready .held))) }

@@ -12,7 +12,7 @@ use rules::choice::pick;
 use rules::limits::Limits;
 use rules::limits::Refusal;
 
-// 15, then 16, then 2.
+// 15, then 16, then 2; 15 of a line that is too long or spells no signs is given before there are signs to count (`one_line`).
 fn of_tally(controller: usize, t: Tally) -> u8
     ensures { λ r. ⌜ r ≡ tallyRefusal controller t ⌝ }
 {

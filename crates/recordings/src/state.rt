@@ -27,7 +27,8 @@ pub fn marks_of(state: u64) -> u64
     state >> Limits::ATOMS
 }
 
-// Component c is scheduled in this state: one shift, since a pass over the states asks nothing else of the marks.
+// Controller c is marked in this state; that a mark in the last state is no run (`runsAt`) is the caller's to know. One shift, since a pass over the states
+// asks nothing else of the marks.
 pub fn runs(c: usize, state: u64) -> bool
     requires { ⌜ c < atomCount ⌝ }
     ensures { λ r. ⌜ r ≡ marked c state ⌝ }

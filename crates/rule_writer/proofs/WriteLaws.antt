@@ -60,6 +60,7 @@ module _ (c n : ℕ) (ws o : List ℕ) where
   unfolding writeRuleNumber pick
   number-checked h = rw (le-ltb (length o) maxRuleBytes h)
 
+  -- `write_rule`, 13: `writeRuleText` is what was lent
   pub write-short : length o < maxRuleBytes → WroteRule (ruleOf c n ws) o (Refused lentShort) o
   unfolding writeRuleAnswer writeRuleText
   write-short h =
@@ -70,6 +71,7 @@ module _ (c n : ℕ) (ws o : List ℕ) where
     is : writeRuleNumber rule o ≡ k
     is = number-checked long ∙ sym ks
 
+    -- `write_rule`, another refusal: `writeRuleText` is zero over its full size
     pub write-refused : (k ≡ 0 → ⊥) → (o′ : List ℕ) → o′ ≡ cleared o 0 maxRuleBytes → WroteRule (ruleOf c n ws) o (Refused k) o′
     unfolding writeRuleAnswer writeRuleText
     write-refused z o′ e = record {

@@ -1,5 +1,5 @@
 // The writer of a rule text: its lines into lent space, its length as the answer.
-// What is left of lent space past the text, or after a refusal, is zeros.
+// What is left of lent space past the text, or after a refusal, is zeros; 13 leaves it alone.
 ghost use Prim.Native.Nat.{_+_, _≤_};
 ghost use lib.ListN.{length};
 ghost use Rattle.definitions.specs.Nodes.{kindOf};

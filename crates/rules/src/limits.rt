@@ -19,7 +19,7 @@ impl Limits {
     // The words of one node's two rows.
     pub const PAIR_WORDS: usize = 6;
 
-    // The words of the rows of a whole table.
+    // The words of the rows of a whole table: 6,144.
     pub const ROWS_WORDS: usize = Limits::TABLE_NODES * Limits::PAIR_WORDS;
 
     pub const RULE_BYTES: usize = 1024;

@@ -12,7 +12,7 @@ use Rattle.definitions.specs.OneLineSigns as sign
 use Rattle.definitions.specs.OneLineGrammar as tree
 use Rattle.definitions.specs.OneLineGrammar.{Tree}
 use Rattle.definitions.specs.OneLineNodes as rule-tree
-use Rattle.definitions.specs.OneLineNodes.{RuleTree, atomic, unary, binary, negation, prefixFormula, infixFormula, ruleTreeOf, nodesFrom, nodesOf}
+use Rattle.definitions.specs.OneLineNodes.{RuleTree, atomic, unary, binary, negation, prefixTree, infixTree, ruleTreeOf, nodesFrom, nodesOf}
 use Rattle.theorems.proofs.Recursions.{some-cong}
 use Rattle.theorems.proofs.Semantics.{Row, noRow, reading-is, verdict-is}
 use Rattle.theorems.proofs.Terms.{Unary, not₁, next₁, prev₁, Binary, or₂, until₂, since₂, Term, yes₀, atom₀, one, two, kind₁, kind₂, op₁, op₂, den, comp, top, Below, comp-den, size, above, topFrom, code, top-last, comp-code}
@@ -53,7 +53,7 @@ not-some f zero k = refl
 not-some f (suc n) k = not-or (not (f k)) (someOf n (suc k) (λ j. not (f j))) ∙ rw (twice (f k), not-some f n (suc k))
 
 -- "F p": p at some place from here on; weak also since the trace may go on
-pub eventually-means : (t : Trace) (p : RuleTree) (weak : Bool) (i : ℕ) → means t (prefixFormula sign.Future p) weak i ≡ (some i (t .places) (means t p weak) || weak)
+pub eventually-means : (t : Trace) (p : RuleTree) (weak : Bool) (i : ℕ) → means t (prefixTree sign.Future p) weak i ≡ (some i (t .places) (means t p weak) || weak)
 unfolding means
 eventually-means t p weak i =
     let e : everyOf (t .places - i) i (λ j. true) ≡ true = every-true (t .places - i) i in
@@ -68,20 +68,20 @@ not-some-not t p true i = not-some (means t p true) (t .places - i) i
 not-some-not t p false i = not-some (means t p false) (t .places - i) i
 
 -- "G p": p at every place from here on; strong never, since the trace may go on
-pub always-means : (t : Trace) (p : RuleTree) (weak : Bool) (i : ℕ) → means t (prefixFormula sign.Always p) weak i ≡ (every i (t .places) (means t p weak) && weak)
+pub always-means : (t : Trace) (p : RuleTree) (weak : Bool) (i : ℕ) → means t (prefixTree sign.Always p) weak i ≡ (every i (t .places) (means t p weak) && weak)
 unfolding means
 always-means t p weak i =
     ap not (eventually-means t (negation p) (not weak) i)
     ∙ (not-or (some i (t .places) (means t (negation p) (not weak))) (not weak) ∙ rw (not-some-not t p weak i, twice weak))
 
 -- "p & q": both
-pub both-mean : (t : Trace) (p q : RuleTree) (weak : Bool) (i : ℕ) → means t (infixFormula sign.And p q) weak i ≡ (means t p weak i && means t q weak i)
+pub both-mean : (t : Trace) (p q : RuleTree) (weak : Bool) (i : ℕ) → means t (infixTree sign.And p q) weak i ≡ (means t p weak i && means t q weak i)
 unfolding means
 both-mean t p q weak i =
     rw (twice weak) (not-or (not (means t p weak i)) (not (means t q weak i)) ∙ rw (twice (means t p weak i), twice (means t q weak i)))
 
 -- "p -> q": q, or not p, which is p in the other reading
-pub implies-means : (t : Trace) (p q : RuleTree) (weak : Bool) (i : ℕ) → means t (infixFormula sign.Implies p q) weak i ≡ (not (means t p (not weak) i) || means t q weak i)
+pub implies-means : (t : Trace) (p q : RuleTree) (weak : Bool) (i : ℕ) → means t (infixTree sign.Implies p q) weak i ≡ (not (means t p (not weak) i) || means t q weak i)
 unfolding means
 implies-means t p q weak i = refl
 

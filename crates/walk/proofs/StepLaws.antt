@@ -128,7 +128,7 @@ module _ (w u p q on from reach : Row) (s : Step) (E : Even w u p q) (mo : Marks
     came-second = marks-same (s .second) (reach .count) (w .count) (λ k. markOf reach k && qHere (markOf u) (markOf q) k) (λ k. f k && qHere (markOf u) (markOf q) k) (R .second) m
         (λ k l. ap (λ (z : Bool). z && qHere (markOf u) (markOf q) k) (c k l))
 
-  -- `until_step`: the places from each wanted one on to the first at which it is decided (`untilReach`)
+  -- `until_step`: the places from each wanted one on to the first at which it is decided, "the first fitting k" or where p first fails (`untilReach`)
   pub until-step : Marks from (on .count) (prevAt (markOf on)) → Marks reach (from .count) (sinceAt (markOf from) (markOf w)) → Reached reach u p q s → Stepped Until w u p q s
   until-step mf mr R =
       let n : ℕ = w .count in

@@ -1,4 +1,4 @@
--- `evidence` meets its contract.
+-- `evidence` meets its contract (EvidenceLaws: evidence-laws).
 use borrow.Author.Needs.{needs}
 use Rattle.evidence.proofs.EvidenceLaws.{evidence-laws}
 use Rattle.evidence.proofs.evidence.Statement.{statement}

@@ -1,4 +1,4 @@
--- `put_behind` meets its contract.
+-- `put_behind` meets its contract (BehindLaws: behind-laws).
 use borrow.Author.Needs.{needs}
 use Rattle.evidence_text.proofs.BehindLaws.{behind-laws}
 use Rattle.evidence_text.proofs.put_behind.Statement.{statement}

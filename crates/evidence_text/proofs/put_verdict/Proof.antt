@@ -1,4 +1,4 @@
--- `put_verdict` meets its contract.
+-- `put_verdict` meets its contract (BehindLaws: put-verdict-laws).
 use borrow.Author.Needs.{needs}
 use Rattle.evidence_text.proofs.BehindLaws.{put-verdict-laws}
 use Rattle.evidence_text.proofs.put_verdict.Statement.{statement}

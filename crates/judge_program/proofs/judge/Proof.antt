@@ -1,4 +1,4 @@
--- `program::judge::judge` meets its contract.
+-- `judge` meets its contract (OutputLaws: judge-laws, long-printed, texts-printed).
 use Rattle.judge_program.proofs.OutputLaws.{judge-laws, long-printed, texts-printed}
 use Rattle.judge_program.proofs.judge.Statement.{statement}
 use Rattle.judge_program.proofs.judge.Tie as tie

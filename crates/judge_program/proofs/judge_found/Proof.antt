@@ -1,4 +1,4 @@
--- `judge_found` meets its contract.
+-- `judge_found` meets its contract (ReadTableLaws of report: found-laws).
 use borrow.Author.Needs.{needs}
 use Rattle.report.proofs.ReadTableLaws.{found-laws}
 use Rattle.judge_program.proofs.judge_found.Statement.{statement}

@@ -1,4 +1,4 @@
--- `judge_texts` meets its contract.
+-- `judge_texts` meets its contract (ReadTableLaws of report: judged-printed, read-laws).
 use borrow.Author.Needs.{needs}
 use Rattle.report.proofs.ReadTableLaws.{judged-printed, read-laws}
 use Rattle.judge_program.proofs.judge_texts.Statement.{statement}

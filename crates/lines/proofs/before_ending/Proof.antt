@@ -1,4 +1,4 @@
--- `before_ending`: by the byte before the newline.
+-- `before_ending`: by the byte before the newline (NextLaws: ending-laws).
 use Rattle.lines.proofs.NextLaws.{ending-laws}
 use Rattle.lines.proofs.before_ending.Statement.{statement}
 use Rattle.lines.proofs.before_ending.Tie as tie

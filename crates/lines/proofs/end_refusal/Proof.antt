@@ -1,4 +1,4 @@
--- `end_refusal` meets its contract.
+-- `end_refusal` meets its contract (NextLaws: end-laws).
 use Rattle.lines.proofs.NextLaws.{end-laws}
 use Rattle.lines.proofs.end_refusal.Statement.{statement}
 use Rattle.lines.proofs.end_refusal.Tie as tie

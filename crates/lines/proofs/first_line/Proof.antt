@@ -1,4 +1,4 @@
--- `first_line`: by where the first newline stands.
+-- `first_line`: by where the first newline stands (NextLaws: line-laws).
 use Rattle.lines.proofs.NextLaws.{line-laws}
 use Rattle.lines.proofs.first_line.Statement.{statement}
 use Rattle.lines.proofs.first_line.Tie as tie

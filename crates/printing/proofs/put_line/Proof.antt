@@ -1,4 +1,4 @@
--- `put_line` meets its contract.
+-- `put_line` meets its contract (LineLaws: line-laws).
 use borrow.Author.Needs.{needs}
 use Rattle.printing.proofs.LineLaws.{line-laws}
 use Rattle.printing.proofs.put_line.Statement.{statement}

@@ -1,4 +1,4 @@
--- `input_split::split::is_split` meets its contract.
+-- `is_split` meets its contract (SplitLaws: dash-laws).
 use Rattle.program_input.proofs.SplitLaws.{dash-laws}
 use Rattle.program_input.proofs.is_split.Statement.{statement}
 use Rattle.program_input.proofs.is_split.Tie as tie

@@ -1,4 +1,4 @@
--- `input_split::split::rule_length` meets its contract.
+-- `rule_length` meets its contract (SplitLaws: search-laws, searched-none, searched-open, searched-found, searched-less, searched-next, searched-end).
 use Prim.Native.Nat.{_-_}
 use lib.ListN.{length}
 use Rattle.program_input.proofs.SplitLaws.{Searched, search-laws, searched-none, searched-open, searched-found, searched-less, searched-next, searched-end}

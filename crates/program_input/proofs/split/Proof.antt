@@ -1,4 +1,4 @@
--- `input_split::split::split` meets its contract.
+-- `split` meets its contract (SplitLaws: split-laws).
 use Rattle.program_input.proofs.SplitLaws.{split-laws}
 use Rattle.program_input.proofs.split.Statement.{statement}
 use Rattle.program_input.proofs.split.Tie as tie

@@ -1,4 +1,4 @@
--- `read_recording` meets its contract.
+-- `read_recording` meets its contract (ReadLaws: read-laws).
 use Rattle.recording_reader.proofs.ReadLaws.{read-laws}
 use borrow.Author.Needs.{needs}
 use Rattle.recording_reader.proofs.read_recording.Statement.{statement}

@@ -1,4 +1,4 @@
--- `in_tables` meets its contract.
+-- `in_tables` meets its contract (FindLaws: table-laws, accepted-nowhere, rule-line, recording-line).
 use Rattle.refused_line.proofs.FindLaws.{table-laws, accepted-nowhere, rule-line, recording-line}
 use Rattle.refused_line.proofs.in_tables.Statement.{statement}
 use Rattle.refused_line.proofs.in_tables.Tie as tie

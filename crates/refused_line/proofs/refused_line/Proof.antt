@@ -1,4 +1,4 @@
--- `refused_line` meets its contract.
+-- `refused_line` meets its contract (FindLaws: input-laws).
 use Rattle.refused_line.proofs.FindLaws.{input-laws}
 use Rattle.refused_line.proofs.refused_line.Statement.{statement}
 use Rattle.refused_line.proofs.refused_line.Tie as tie

@@ -1,4 +1,4 @@
--- `judge_rewriting` meets its contract.
+-- `judge_rewriting` meets its contract (RewrittenLaws: rewriting-laws).
 use borrow.Author.Needs.{needs}
 use Rattle.rewritten_judge.proofs.RewrittenLaws.{rewriting-laws}
 use Rattle.rewritten_judge.proofs.judge_rewriting.Statement.{statement}

@@ -1,4 +1,4 @@
--- `read_rule` meets its contract.
+-- `read_rule` meets its contract (ReadLaws: read-laws, read-short, read-accepted, read-refused).
 use Rattle.rule_reader.proofs.ReadLaws.{read-laws, read-short, read-accepted, read-refused}
 use borrow.Author.Needs.{needs}
 use Rattle.rule_reader.proofs.read_rule.Statement.{statement}

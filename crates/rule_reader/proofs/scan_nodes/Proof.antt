@@ -1,4 +1,4 @@
--- `scan_nodes` meets its contract.
+-- `scan_nodes` meets its contract (LoopLaws: loop-laws, nodes-start, nodes-next, nodes-refused, nodes-done).
 use borrow.Author.Needs.{needs}
 use Prim.Native.Nat.{_-_}
 use Rattle.rule_reader.proofs.LoopLaws.{loop-laws, NodesLeft, nodes-start, nodes-next, nodes-refused, nodes-done}

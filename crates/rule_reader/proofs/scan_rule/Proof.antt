@@ -1,4 +1,4 @@
--- `scan_rule` meets its contract.
+-- `scan_rule` meets its contract (ReadLaws: scan-laws).
 use Rattle.rule_reader.proofs.ReadLaws.{scan-laws}
 use borrow.Author.Needs.{needs}
 use Rattle.rule_reader.proofs.scan_rule.Statement.{statement}

@@ -1,4 +1,4 @@
--- `put_kind` meets its contract.
+-- `put_kind` meets its contract (PenLaws: kind-laws).
 use Rattle.rule_writer.proofs.PenLaws.{kind-laws}
 use borrow.Author.Needs.{needs}
 use Rattle.rule_writer.proofs.put_kind.Statement.{statement}

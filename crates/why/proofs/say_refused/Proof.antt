@@ -1,4 +1,4 @@
--- `say_refused` meets its contract.
+-- `say_refused` meets its contract (AskedLaws of program_input: reading-inside).
 use borrow.Author.Needs.{needs}
 use Rattle.program_input.proofs.AskedLaws.{reading-inside}
 use Rattle.why.proofs.say_refused.Statement.{statement}

@@ -1,4 +1,4 @@
--- `put_found` meets its contract.
+-- `put_found` meets its contract (WhyLaws: found-laws).
 use borrow.Author.Needs.{needs}
 use Rattle.why_program.proofs.WhyLaws.{found-laws}
 use Rattle.why_program.proofs.put_found.Statement.{statement}

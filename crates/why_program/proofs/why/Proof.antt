@@ -1,4 +1,4 @@
--- `why` meets its contract.
+-- `why` meets its contract (WhyLaws: why-laws).
 use borrow.Author.Needs.{needs}
 use Rattle.why_program.proofs.WhyLaws.{why-laws}
 use Rattle.why_program.proofs.why.Statement.{statement}

@@ -1,4 +1,4 @@
--- `why_asked` meets its contract.
+-- `why_asked` meets its contract (WhyLaws: split-laws).
 use borrow.Author.Needs.{needs}
 use Rattle.why_program.proofs.WhyLaws.{split-laws}
 use Rattle.why_program.proofs.why_asked.Statement.{statement}

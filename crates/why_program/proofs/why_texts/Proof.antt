@@ -1,4 +1,4 @@
--- `why_texts` meets its contract.
+-- `why_texts` meets its contract (WhyLaws: texts-laws).
 use borrow.Author.Needs.{needs}
 use Rattle.why_program.proofs.WhyLaws.{texts-laws}
 use Rattle.why_program.proofs.why_texts.Statement.{statement}

@@ -1,4 +1,4 @@
--- `evidence_accepted` meets its contract.
+-- `evidence_accepted` meets its contract (AcceptedLaws: accepted-laws).
 use borrow.Author.Needs.{needs}
 use Rattle.evidence.proofs.AcceptedLaws.{accepted-laws}
 use Rattle.evidence.proofs.accepted.evidence_accepted.Statement.{statement}

@@ -1,4 +1,4 @@
--- `wanted_places` meets its contract.
+-- `wanted_places` meets its contract (AcceptedLaws: rows-walkable, wanted-laws).
 use borrow.Author.Needs.{needs}
 use Rattle.evidence.proofs.AcceptedLaws.{rows-walkable, wanted-laws}
 use Rattle.evidence.proofs.accepted.wanted_places.Statement.{statement}

@@ -1,4 +1,4 @@
--- `line_of` meets its contract.
+-- `line_of` meets its contract (LineLaws: line-laws).
 use borrow.Author.Needs.{needs}
 use Rattle.evidence_text.proofs.LineLaws.{line-laws}
 use Rattle.evidence_text.proofs.line.line_of.Statement.{statement}

@@ -1,4 +1,4 @@
--- `put_pairs` meets its contract.
+-- `put_pairs` meets its contract (LineLaws: pairs-laws).
 use Prim.Native.Nat.{_-_}
 use Rattle.evidence_text.proofs.LineLaws.{Printing, pairs-laws}
 use Rattle.evidence_text.proofs.line.put_pairs.Statement.{statement}

@@ -1,4 +1,4 @@
--- `verdict_line` meets its contract.
+-- `verdict_line` meets its contract (VerdictLaws: verdict-laws).
 use Rattle.evidence_text.proofs.VerdictLaws.{verdict-laws}
 use Rattle.evidence_text.proofs.verdict.verdict_line.Statement.{statement}
 use Rattle.evidence_text.proofs.verdict.verdict_line.Tie as tie

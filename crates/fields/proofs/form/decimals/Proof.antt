@@ -1,4 +1,4 @@
--- `decimals` meets its contract.
+-- `decimals` meets its contract (FormLaws: decimals-laws).
 use Rattle.fields.proofs.FormLaws.{decimals-laws}
 use borrow.Author.Needs.{needs}
 use Rattle.fields.proofs.form.decimals.Statement.{statement}

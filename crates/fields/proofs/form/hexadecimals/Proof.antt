@@ -1,4 +1,4 @@
--- `hexadecimals` meets its contract.
+-- `hexadecimals` meets its contract (FormLaws: hexadecimals-laws).
 use Rattle.fields.proofs.FormLaws.{hexadecimals-laws}
 use borrow.Author.Needs.{needs}
 use Rattle.fields.proofs.form.hexadecimals.Statement.{statement}

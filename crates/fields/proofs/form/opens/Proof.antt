@@ -1,4 +1,4 @@
--- `opens` meets its contract.
+-- `opens` meets its contract (FormLaws: opens-laws).
 use Rattle.fields.proofs.FormLaws.{opens-laws}
 use borrow.Author.Needs.{needs}
 use Rattle.fields.proofs.form.opens.Statement.{statement}

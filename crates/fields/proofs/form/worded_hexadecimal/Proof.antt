@@ -1,4 +1,4 @@
--- `worded_hexadecimal` meets its contract.
+-- `worded_hexadecimal` meets its contract (FormLaws: worded-laws).
 use Rattle.fields.proofs.FormLaws.{worded-laws}
 use borrow.Author.Needs.{needs}
 use Rattle.fields.proofs.form.worded_hexadecimal.Statement.{statement}

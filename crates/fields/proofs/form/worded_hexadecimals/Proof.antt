@@ -1,4 +1,4 @@
--- `worded_hexadecimals` meets its contract.
+-- `worded_hexadecimals` meets its contract (FormLaws: worded-laws).
 use Rattle.fields.proofs.FormLaws.{worded-laws}
 use borrow.Author.Needs.{needs}
 use Rattle.fields.proofs.form.worded_hexadecimals.Statement.{statement}

@@ -1,4 +1,4 @@
--- `judge_accepted_locally` meets its contract.
+-- `judge_accepted_locally` meets its contract (LocalLaws: own-laws).
 use borrow.Author.Needs.{needs}
 use Rattle.judges.proofs.LocalLaws.{own-laws}
 use Rattle.judges.proofs.local.judge_accepted_locally.Statement.{statement}

@@ -1,4 +1,4 @@
--- `judge_local` meets its contract.
+-- `judge_local` meets its contract (LocalLaws: local-laws).
 use borrow.Author.Needs.{needs}
 use Rattle.judges.proofs.LocalLaws.{local-laws}
 use Rattle.judges.proofs.local.judge_local.Statement.{statement}

@@ -1,4 +1,4 @@
--- `local_judge::local::local_refusal` meets its contract.
+-- `local_refusal` meets its contract (LocalLaws: local-laws).
 use borrow.Author.Needs.{needs}
 use Rattle.judges.proofs.LocalLaws.{local-laws}
 use Rattle.judges.proofs.local.local_refusal.Statement.{statement}

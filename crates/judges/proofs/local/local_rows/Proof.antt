@@ -1,4 +1,4 @@
--- `local_rows` meets its contract.
+-- `local_rows` meets its contract (LocalLaws: rows-laws).
 use borrow.Author.Needs.{needs}
 use Rattle.judges.proofs.LocalLaws.{rows-laws}
 use Rattle.judges.proofs.local.local_rows.Statement.{statement}

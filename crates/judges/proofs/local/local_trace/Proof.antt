@@ -1,4 +1,4 @@
--- `local_trace` meets its contract.
+-- `local_trace` meets its contract (LocalLaws: trace-laws).
 use borrow.Author.Needs.{needs}
 use Rattle.judges.proofs.LocalLaws.{trace-laws}
 use Rattle.judges.proofs.local.local_trace.Statement.{statement}

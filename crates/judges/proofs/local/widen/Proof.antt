@@ -1,3 +1,4 @@
+-- `widen` meets its contract (LocalLaws: widen-laws).
 use Prim.Native.Nat.{_-_}
 use native.Mathlib.Omega.{arith}
 use Rattle.judges.proofs.LocalLaws.{Widening, widen-laws}

@@ -1,4 +1,4 @@
--- `judges::whole::judge_accepted_table` meets its contract.
+-- `judge_accepted_table` meets its contract (WholeLaws: accepted-laws, whole-verdicts).
 use borrow.Author.Needs.{needs}
 use Rattle.judges.proofs.WholeLaws.{accepted-laws, whole-verdicts}
 use Rattle.judges.proofs.whole.judge_accepted_table.Statement.{statement}

@@ -1,4 +1,4 @@
--- Carried by PrintLaws: count-malformed, count-printed.
+-- Carried by LongestLaws: count-malformed, count-printed.
 use Rattle.line_programs.proofs.LongestLaws.{count-laws}
 use Rattle.line_programs.proofs.longest.print_count.Statement.{statement}
 use Rattle.line_programs.proofs.longest.print_count.Tie as tie

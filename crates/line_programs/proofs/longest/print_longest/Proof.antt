@@ -1,4 +1,4 @@
--- Carried by PrintLaws: longest-refused, longest-printed.
+-- Carried by LongestLaws: longest-refused, longest-printed.
 use Rattle.line_programs.proofs.LongestLaws.{longest-laws}
 use Rattle.line_programs.proofs.longest.print_longest.Statement.{statement}
 use Rattle.line_programs.proofs.longest.print_longest.Tie as tie

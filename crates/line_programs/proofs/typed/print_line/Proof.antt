@@ -1,4 +1,4 @@
--- Carried by PrintLaws: line-refused, line-printed.
+-- Carried by TypedLaws: line-refused, line-printed.
 use Rattle.line_programs.proofs.TypedLaws.{line-laws}
 use Rattle.line_programs.proofs.typed.print_line.Statement.{statement}
 use Rattle.line_programs.proofs.typed.print_line.Tie as tie

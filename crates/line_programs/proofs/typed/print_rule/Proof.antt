@@ -1,4 +1,4 @@
--- Carried by PrintLaws: rule-refused, rule-printed.
+-- Carried by TypedLaws: rule-refused, rule-printed.
 use Rattle.line_programs.proofs.TypedLaws.{rule-laws}
 use Rattle.line_programs.proofs.typed.print_rule.Statement.{statement}
 use Rattle.line_programs.proofs.typed.print_rule.Tie as tie

@@ -1,4 +1,4 @@
--- Carried by PrintLaws: typed-missed, typed-malformed, typed-printed.
+-- Carried by TypedLaws: typed-missed, typed-malformed, typed-printed.
 use Rattle.line_programs.proofs.TypedLaws.{typed-laws}
 use Rattle.line_programs.proofs.typed.print_typed.Statement.{statement}
 use Rattle.line_programs.proofs.typed.print_typed.Tie as tie

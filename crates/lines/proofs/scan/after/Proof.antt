@@ -1,4 +1,4 @@
--- `after`: the part from a place to the end.
+-- `after`: the part from a place to the end (PartLaws: part-laws).
 use Rattle.lines.proofs.PartLaws.{part-laws}
 use Rattle.lines.proofs.scan.after.Statement.{statement}
 use Rattle.lines.proofs.scan.after.Tie as tie

@@ -1,4 +1,4 @@
--- `letters`: the bytes passed are letters.
+-- `letters`: the bytes passed are letters (ScanLaws: spelt-laws).
 use Rattle.lines.proofs.ScanLaws.{Spelt, spelt-laws}
 use Prim.Native.Nat.{_-_}
 use lib.ListN.{length}

@@ -1,4 +1,4 @@
--- `same`: the bytes passed are alike.
+-- `same`: the bytes passed are alike (ScanLaws: alike-laws).
 use Rattle.lines.proofs.ScanLaws.{Alike, alike-laws}
 use Prim.Native.Nat.{_-_}
 use lib.ListN.{length}

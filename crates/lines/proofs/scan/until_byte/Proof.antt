@@ -1,4 +1,4 @@
--- `until_byte`: none of the bytes passed is the one looked for.
+-- `until_byte`: none of the bytes passed is the one looked for (ScanLaws: passed-laws).
 use Rattle.lines.proofs.ScanLaws.{Passed, passed-laws}
 use Prim.Native.Nat.{_-_}
 use lib.ListN.{length}

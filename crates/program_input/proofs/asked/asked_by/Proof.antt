@@ -1,4 +1,4 @@
--- `asked_by` meets its contract.
+-- `asked_by` meets its contract (AskedLaws: asked-laws).
 use borrow.Author.Needs.{needs}
 use Rattle.program_input.proofs.AskedLaws.{asked-laws}
 use Rattle.program_input.proofs.asked.asked_by.Statement.{statement}

@@ -1,4 +1,4 @@
--- `state_of_place` meets its contract.
+-- `state_of_place` meets its contract (StateLaws: state-laws).
 use Prim.Native.Nat.{_-_}
 use Rattle.projection.proofs.StateLaws.{Counted, state-laws}
 use Rattle.projection.proofs.place_state.state_of_place.Statement.{statement}

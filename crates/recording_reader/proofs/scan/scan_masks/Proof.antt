@@ -1,4 +1,4 @@
--- `scan_masks` meets its contract.
+-- `scan_masks` meets its contract (LoopLaws: scan-mask-laws, masks-start, masks-next, masks-refused, masks-done).
 use borrow.Author.Needs.{needs}
 use Prim.Native.Nat.{_-_}
 use Rattle.recording_reader.proofs.LoopLaws.{scan-mask-laws, MasksLeft, masks-start, masks-next, masks-refused, masks-done}

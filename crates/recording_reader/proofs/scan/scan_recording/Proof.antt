@@ -1,4 +1,4 @@
--- `scan_recording` meets its contract.
+-- `scan_recording` meets its contract (RecordingLaws: scan-laws).
 use Rattle.recording_reader.proofs.RecordingLaws.{scan-laws}
 use borrow.Author.Needs.{needs}
 use Rattle.recording_reader.proofs.scan.scan_recording.Statement.{statement}

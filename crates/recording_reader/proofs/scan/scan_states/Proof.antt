@@ -1,4 +1,4 @@
--- `scan_states` meets its contract.
+-- `scan_states` meets its contract (LoopLaws: scan-state-laws, states-start, states-next, states-refused, states-done).
 use borrow.Author.Needs.{needs}
 use Prim.Native.Nat.{_-_}
 use Rattle.recording_reader.proofs.LoopLaws.{scan-state-laws, StatesLeft, states-start, states-next, states-refused, states-done}

@@ -1,4 +1,4 @@
--- `judge_tables` meets its contract.
+-- `judge_tables` meets its contract (TableLaws: table-laws).
 use borrow.Author.Needs.{needs}
 use Rattle.report.proofs.TableLaws.{table-laws}
 use Rattle.report.proofs.tables.judge_tables.Statement.{statement}

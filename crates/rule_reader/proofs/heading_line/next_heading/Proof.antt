@@ -1,4 +1,4 @@
--- `next_heading` meets its contract.
+-- `next_heading` meets its contract (HeadingLaws: heading-laws, heading-unread, heading-malformed, heading-refused, heading-read).
 use Rattle.rule_reader.proofs.HeadingLaws.{heading-laws, heading-unread, heading-malformed, heading-refused, heading-read}
 use borrow.Author.Needs.{needs}
 use Rattle.rule_reader.proofs.heading_line.next_heading.Statement.{statement}

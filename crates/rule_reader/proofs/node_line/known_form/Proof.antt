@@ -1,4 +1,4 @@
--- `known_form` meets its contract.
+-- `known_form` meets its contract (FormLaws: known-laws, known-malformed, known-read).
 use Rattle.rule_reader.proofs.FormLaws.{known-laws, known-malformed, known-read}
 use borrow.Author.Needs.{needs}
 use Rattle.rule_reader.proofs.node_line.known_form.Statement.{statement}

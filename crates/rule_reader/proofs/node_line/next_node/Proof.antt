@@ -1,4 +1,4 @@
--- `next_node` meets its contract.
+-- `next_node` meets its contract (NodeLaws: node-laws).
 use Rattle.rule_reader.proofs.NodeLaws.{node-laws}
 use borrow.Author.Needs.{needs}
 use Rattle.rule_reader.proofs.node_line.next_node.Statement.{statement}

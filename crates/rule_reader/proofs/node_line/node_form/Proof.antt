@@ -1,4 +1,4 @@
--- `node_form` meets its contract.
+-- `node_form` meets its contract (FormLaws: form-laws).
 use Rattle.rule_reader.proofs.FormLaws.{form-laws}
 use borrow.Author.Needs.{needs}
 use Rattle.rule_reader.proofs.node_line.node_form.Statement.{statement}

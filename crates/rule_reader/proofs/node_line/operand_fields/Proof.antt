@@ -1,4 +1,4 @@
--- `operand_fields` meets its contract.
+-- `operand_fields` meets its contract (FormLaws: operand-laws).
 use Rattle.rule_reader.proofs.FormLaws.{operand-laws}
 use borrow.Author.Needs.{needs}
 use Rattle.rule_reader.proofs.node_line.operand_fields.Statement.{statement}

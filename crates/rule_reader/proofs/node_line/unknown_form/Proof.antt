@@ -1,4 +1,4 @@
--- `unknown_form` meets its contract.
+-- `unknown_form` meets its contract (FormLaws: unknown-laws).
 use Rattle.rule_reader.proofs.FormLaws.{unknown-laws}
 use borrow.Author.Needs.{needs}
 use Rattle.rule_reader.proofs.node_line.unknown_form.Statement.{statement}
