@@ -49,6 +49,9 @@ pub fn first_line(t: &[u8]) -> Line
     }
 }
 
+// The number where nothing is refused.
+const ACCEPTED: u8 = 0;
+
 // The refusal of the next line, of `len` bytes, for how it ends; 0 where it is closed.
 pub fn end_refusal(t: &[u8], len: usize, missing: u8, unclosed: u8) -> u8
     requires { ⌜ len ≡ lineLength (now t) ⌝ }
@@ -58,7 +61,7 @@ pub fn end_refusal(t: &[u8], len: usize, missing: u8, unclosed: u8) -> u8
         return missing;
     }
     if len < t.len() {
-        return 0;
+        return ACCEPTED;
     }
     unclosed
 }

@@ -9,7 +9,7 @@ ghost use Rattle.rows.specs.Marks.{Whole};
 ghost use Rattle.projection.specs.Passes.{Holds, Ready, Passed, Closed, Counted};
 ghost use Rattle.projection.specs.Places.{Projectable};
 use recordings::state::atoms_of;
-use recordings::state::runs;
+use recordings::state::marked;
 use rows::Row;
 use rules::choice::pick_index;
 use rules::choice::pick_word;
@@ -42,7 +42,7 @@ impl Pass {
         requires { ⌜ Ready c self (now places) ⌝ }
         ensures { λ r. ⌜ ((S R : Recording) (entry : List ℕ) → OneMore S R state → maskOf R c ≡ mask → Holds S c entry self (now (places .entry)) → Holds R c entry r (now (places .exit))) ⌝ }
     {
-        let ran = runs(c, self.last);
+        let ran = marked(c, self.last);
         let at = self.placed;
         places[at] = atoms_of(self.last);
         let marks = self.run;

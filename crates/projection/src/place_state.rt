@@ -2,7 +2,7 @@
 ghost use mathlib.Core.Path.{_≡_};
 ghost use Rattle.definitions.specs.Why.{stateOfPlace};
 ghost use Rattle.projection.specs.Places.{statesOnly, Countable};
-use recordings::state::runs;
+use recordings::state::marked;
 use rules::choice::pick_index;
 
 // "place i < m is state r(i)"; "place m is state r(m-1)+1, or state 0 if m = 0". The last state's mark is not asked.
@@ -14,7 +14,7 @@ pub fn state_of_place(count: usize, c: usize, states: &[u64], k: usize) -> usize
     let mut here = 0;
     let mut after = 0;
     for s in 0..last {
-        let ran = runs(c, states[s]);
+        let ran = marked(c, states[s]);
         if ran & (here == k) {
             return s;
         }

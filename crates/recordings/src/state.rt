@@ -29,7 +29,7 @@ pub fn marks_of(state: u64) -> u64
 
 // Controller c is marked in this state; that a mark in the last state is no run (`runsAt`) is the caller's to know. One shift, since a pass over the states
 // asks nothing else of the marks.
-pub fn runs(c: usize, state: u64) -> bool
+pub fn marked(c: usize, state: u64) -> bool
     requires { ⌜ c < atomCount ⌝ }
     ensures { λ r. ⌜ r ≡ marked c state ⌝ }
 {

@@ -16,14 +16,14 @@ sub-last c = search state-laws
 loop-holds : tie.Need-loop-holds Inv-loop μ-loop
 loop-holds c = search state-laws
 
-mul-runs : tie.Need-mul-runs Inv-loop μ-loop
-mul-runs c = search state-laws
+mul-marked : tie.Need-mul-marked Inv-loop μ-loop
+mul-marked c = search state-laws
 
-shared-slice-read-runs : tie.Need-shared-slice-read-runs Inv-loop μ-loop
-shared-slice-read-runs c = search state-laws
+shared-slice-read-marked : tie.Need-shared-slice-read-marked Inv-loop μ-loop
+shared-slice-read-marked c = search state-laws
 
-runs-requires : tie.Need-runs-requires Inv-loop μ-loop
-runs-requires c κs = search state-laws
+marked-requires : tie.Need-marked-requires Inv-loop μ-loop
+marked-requires c κs = search state-laws
 
 returns : tie.Need-returns Inv-loop μ-loop
 returns c = search state-laws
@@ -60,9 +60,9 @@ state-of-place-spec =
     μ-loop
     sub-last
     loop-holds
-    mul-runs
-    shared-slice-read-runs
-    runs-requires
+    mul-marked
+    shared-slice-read-marked
+    marked-requires
     returns
     add-pick-index
     pick-index-requires

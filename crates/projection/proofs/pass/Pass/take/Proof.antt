@@ -4,8 +4,8 @@ use Rattle.projection.proofs.PassLaws.{held-more}
 use Rattle.projection.proofs.pass.Pass.take.Statement.{statement}
 use Rattle.projection.proofs.pass.Pass.take.Tie as tie
 
-runs-requires : tie.Need-runs-requires
-runs-requires c κs = search needs
+marked-requires : tie.Need-marked-requires
+marked-requires c κs = search needs
 
 atoms-of-requires : tie.Need-atoms-of-requires
 atoms-of-requires c κs = search needs
@@ -41,7 +41,7 @@ pub take-spec : {M : Type 1} → statement M
 take-spec =
     tie.close
     (tie.spec
-    runs-requires
+    marked-requires
     atoms-of-requires
     mul-places
     slice-write-places
