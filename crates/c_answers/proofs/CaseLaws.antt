@@ -38,28 +38,34 @@ use Rattle.c_answers.specs.Values.{heading, partValues}
 
 -- ---- the cases of each answer
 module _ (w : RuleRead) where
+  -- `of_rule_read`, accepted: 0, controller and count are `heading` of the answer
   pub rule-laid : (controller count : ℕ) → w ≡ rule.Rule controller count → 0 ∷ controller ∷ count ∷ [] ≡ heading 2 (ruleRead w)
   unfolding heading
   rule-laid controller count e = rw e
 
+  -- `of_rule_read`, refused: the number and zeros are `heading` of the answer
   pub rule-refused : (number : ℕ) → w ≡ rule.Refused number → number ∷ 0 ∷ 0 ∷ [] ≡ heading 2 (ruleRead w)
   unfolding heading
   rule-refused number e = rw e
 
 module _ (w : RuleWritten) where
+  -- `of_rule_written`, accepted: 0 and the length are `heading` of the answer
   pub written-laid : (n : ℕ) → w ≡ written.Length n → 0 ∷ n ∷ [] ≡ heading 1 (ruleWritten w)
   unfolding heading
   written-laid n e = rw e
 
+  -- `of_rule_written`, refused: the number and a zero are `heading` of the answer
   pub written-refused : (number : ℕ) → w ≡ written.Refused number → number ∷ 0 ∷ [] ≡ heading 1 (ruleWritten w)
   unfolding heading
   written-refused number e = rw e
 
 module _ (w : RecordingRead) where
+  -- `of_recording_read`, accepted: 0, C and N are `heading` of the answer
   pub recording-laid : (C N : ℕ) → w ≡ recording.Recording C N → 0 ∷ C ∷ N ∷ [] ≡ heading 2 (recordingRead w)
   unfolding heading
   recording-laid C N e = rw e
 
+  -- `of_recording_read`, refused: the number and zeros are `heading` of the answer
   pub recording-refused : (number : ℕ) → w ≡ recording.Refused number → number ∷ 0 ∷ 0 ∷ [] ≡ heading 2 (recordingRead w)
   unfolding heading
   recording-refused number e = rw e
@@ -70,10 +76,12 @@ unfolding answer pick
 refused-values number = by-test (eqb number 0) (λ e. rw e) (λ e. rw e)
 
 module _ (w : Projection) where
+  -- `of_projection`, accepted: 0 and the number of places are `heading` of the answer
   pub projection-laid : (n : ℕ) → w ≡ projection.Places n → 0 ∷ n ∷ [] ≡ heading 1 (projected w)
   unfolding heading projected answer pick
   projection-laid n e = rw e
 
+  -- `of_projection`, refused: the number and a zero are `heading` of the answer
   pub projection-refused : (number : ℕ) → w ≡ projection.Refused number → number ∷ 0 ∷ [] ≡ heading 1 (projected w)
   unfolding heading projected answer
   projection-refused number e = rw (e, refused-values number)
@@ -84,28 +92,34 @@ cast-bit true = refl
 cast-bit false = refl
 
 module _ (w : Judgement) where
+  -- `of_judgement`, judged: 0 and the two verdicts are `heading` of the answer
   pub judgement-laid : (v : Verdicts) → w ≡ judgement.Judged v → 0 ∷ boolByte (v .weak) ∷ boolByte (v .strong) ∷ [] ≡ heading 2 (judged w)
   unfolding heading judged answer pick
   judgement-laid v e = rw (e, cast-bit (v .weak), cast-bit (v .strong))
 
+  -- `of_judgement`, refused: the number and zeros are `heading` of the answer
   pub judgement-refused : (number : ℕ) → w ≡ judgement.Refused number → number ∷ 0 ∷ 0 ∷ [] ≡ heading 2 (judged w)
   unfolding heading judged answer
   judgement-refused number e = rw (e, refused-values number)
 
 module _ (w : Explanation) where
+  -- `of_explanation`, accepted: 0 and the number of pairs are `heading` of the answer
   pub explanation-laid : (n : ℕ) → w ≡ explanation.Pairs n → 0 ∷ n ∷ [] ≡ heading 1 (explained w)
   unfolding heading explained answer pick
   explanation-laid n e = rw e
 
+  -- `of_explanation`, refused: the number and a zero are `heading` of the answer
   pub explanation-refused : (number : ℕ) → w ≡ explanation.Refused number → number ∷ 0 ∷ [] ≡ heading 1 (explained w)
   unfolding heading explained answer
   explanation-refused number e = rw (e, refused-values number)
 
 module _ (w : Rewriting) where
+  -- `of_rewriting`, accepted: 0, the count and the two tops are `heading` of the answer
   pub rewriting-laid : (count weakTop strongTop : ℕ) → w ≡ rewriting.Rewritten count weakTop strongTop → 0 ∷ count ∷ weakTop ∷ strongTop ∷ [] ≡ heading 3 (rewritten w)
   unfolding heading
   rewriting-laid count weakTop strongTop e = rw e
 
+  -- `of_rewriting`, refused: the number and zeros are `heading` of the answer
   pub rewriting-refused : (number : ℕ) → w ≡ rewriting.Refused number → number ∷ 0 ∷ 0 ∷ 0 ∷ [] ≡ heading 3 (rewritten w)
   unfolding heading
   rewriting-refused number e = rw e
@@ -129,6 +143,7 @@ pub ruleset case-laws = (
 )
 
 -- ---- the joint reading
+-- `of_found`: its values are `headingOf` what was found and `partValues` of its part
 pub found-laid : (f : Found) (text : ℕ) → text ≡ pick (f .«of_rule») 0 1 →
     f .number ∷ f .controller ∷ f .count ∷ f .controllers ∷ f .states ∷ text ∷ f .from ∷ f .len ∷ [] ≡ headingOf f ++ partValues (partOf f)
 unfolding partValues

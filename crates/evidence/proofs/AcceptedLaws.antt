@@ -123,6 +123,7 @@ module _ (c count : ℕ) (nodes : List ℕ) (l : LocalTrace) where
     pub rows-walkable : Walkable nodes count (l .count) rows wanted
     rows-walkable = walkable c count nodes (l .mask) (l .count) (traces.placesOf l) (many A) (A .few) (A .rule) entry rows (own .rows) wanted (own .room) (given .room)
 
+    -- `wanted_places`: the verdicts at the last node are `verdictsOn`, the rows walked are `wantedRows`
     pub wanted-walked : (weak : Bool) (exit : List ℕ) → Walked nodes count (l .count) rows weak exit → length exit ≡ length wanted → (v : Verdicts) → v ≡ topsIn rows (count - 1) (count - 1) →
         WantedIs rule l weak v exit
     wanted-walked weak exit walked kept v e = record {
@@ -150,6 +151,7 @@ module _ (c count : ℕ) (nodes : List ℕ) (l : LocalTrace) where
       pairs-ready =
           layable c count nodes (l .mask) (l .count) (traces.placesOf l) (many (given .ready)) (given .ready .few) (given .ready .rule) weak wanted pairs (is .held) (is .room) (given .full)
 
+      -- `evidence_accepted`: the pairs that `lay_pairs` laid are `decidingPairs`
       pub pairs-laid : (end : ℕ) (exit : List ℕ) → PairsLaid (pairsOf nodes count (l .mask) (l .count) wanted) pairs end exit →
           ExplainedIs rule l weak pairs (record { verdicts = v; count = end }) exit
       pairs-laid end exit q =

@@ -40,6 +40,7 @@ module _ (c count : ℕ) (nodes : List ℕ) (C n : ℕ) (masks states : List ℕ
   unfolding evidenceNumber
   number-is = rw (← o) (sym (lent-number maxPairs entry short other number s e))
 
+  -- `evidence`, refused: `evidencePairs` is as lent for 13, and zero over its full size for another refusal
   pub evidence-refused : (number ≡ 0 → ⊥) → (zeroed : ℕ) → zeroed ≡ pick (eqb number lentShort) 0 maxPairs → (exit : List ℕ) → exit ≡ cleared entry 0 zeroed
       → EvidenceIs r R weak entry (Refused number) exit
   unfolding answerOf answer evidenceAnswer evidencePairs pick
@@ -65,6 +66,7 @@ module _ (c count : ℕ) (nodes : List ℕ) (C n : ℕ) (masks states : List ℕ
       same : decidingPairs r l weak ≡ evidenceOf r R weak
       same = trace-pairs r R l weak is
 
+      -- `evidence`, accepted: `evidenceAnswer` is the count, `evidencePairs` the pairs and then zeros
       pub evidence-laid : (x : Explained) (exit : List ℕ) → ExplainedIs r l weak entry x exit → EvidenceIs r R weak entry (Pairs (x .count)) exit
       unfolding answerOf evidenceAnswer evidencePairs
       evidence-laid x exit q =

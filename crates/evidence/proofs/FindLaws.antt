@@ -114,6 +114,7 @@ pub record Finding (nodes : List ℕ) (count own n : ℕ) (wanted entry : List �
   pub kept : length l ≡ length entry
   pub rows : (j : ℕ) → j < i → Made (rowAt l (j * 3)) n (tabulate n (placesOf nodes own n wanted j))
 
+-- `found_rows`, before the first turn: no row is laid
 pub finding-none : (nodes : List ℕ) (count own n : ℕ) (wanted entry : List ℕ) → Finding nodes count own n wanted entry 0 entry
 finding-none nodes count own n wanted entry = record { within = omega arith; kept = refl; rows = λ j h. absurd (omega arith) }
 
@@ -125,6 +126,7 @@ module _ (nodes : List ℕ) (count own n : ℕ) (wanted entry : List ℕ) (given
   pub finding-room : i < count → i * 3 + 3 ≤ length l
   finding-room h = omega (arith, so .kept, given .room)
 
+  -- `found_rows`, a turn: the row of one node more is that of `placesOf`
   pub finding-more : i < count → (row : Row) → Made row n (tabulate n (placesOf nodes own n wanted i)) → (l′ : List ℕ) → length l′ ≡ length l
       → l′ ≡ take (i * 3) l ++ (rowWords (marks row) ++ drop (i * 3 + 3) l) → Finding nodes count own n wanted entry (i + 1) l′
   finding-more h row m l′ kept e = record { within = omega arith; kept = kept ∙ so .kept; rows = λ j c. go j c (ℕ-discrete j i) }

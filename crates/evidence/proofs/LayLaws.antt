@@ -41,6 +41,7 @@ pub record PlaceLaying (count k : ℕ) (found : List ℕ) (from : ℕ) (entry : 
   pub kept : length l ≡ length entry
   pub past : drop maxPairs l ≡ drop maxPairs entry
 
+-- `lay_place`, before the first turn: all of `foundAt` is left
 pub place-none : (count k : ℕ) (found : List ℕ) (from : ℕ) (entry : List ℕ) → PlaceLaying count k found from entry 0 entry from
 place-none count k found from entry =
     let e : count - 0 ≡ count = omega arith in
@@ -66,6 +67,7 @@ module _ (count k : ℕ) (found : List ℕ) (from : ℕ) (entry : List ℕ) (giv
       rw (e, take-suc-set l end (k * maxRuleNodes + j) h) (sym (append-assoc (take end l) ((k * maxRuleNodes + j) ∷ []) (map pairWord rest)))
   next-laid false h rest = let e : end + 0 ≡ end = omega arith in rw (e, take-set-le end l end (k * maxRuleNodes + j) (omega arith))
 
+  -- `lay_place`, a turn: one node more of `foundAt` is laid, kept where it is found
   pub place-more : j < count → (b : ℕ) → b ≡ bit (foundIn found k j) → PlaceLaying count k found from entry (j + 1) (set l end (k * maxRuleNodes + j)) (end + b)
   place-more h b e =
       let s : count - j ≡ suc (count - (j + 1)) = omega arith in
@@ -97,6 +99,7 @@ pub record PlacesLaying (count n : ℕ) (found entry : List ℕ) (k : ℕ) (l : 
   pub kept : length l ≡ length entry
   pub past : drop maxPairs l ≡ drop maxPairs entry
 
+-- `lay_places`, before the first turn: all of `foundFrom` is left
 pub places-none : (count n : ℕ) (found entry : List ℕ) → PlacesLaying count n found entry 0 entry 0
 places-none count n found entry =
     let e : n - 0 ≡ n = omega arith in
@@ -113,6 +116,7 @@ module _ (count n : ℕ) (found entry : List ℕ) (given : PlacesReady count n f
     full = omega (arith, so .kept, given .full);
   }
 
+  -- `lay_places`, a turn: the pairs of one place more of `foundFrom` are laid
   pub places-more : k < n → (end′ : ℕ) (l′ : List ℕ) → length l′ ≡ length l → PlaceLaid count k found end l end′ l′ → PlacesLaying count n found entry (k + 1) l′ end′
   places-more h end′ l′ kept P =
       let s : n - k ≡ suc (n - (k + 1)) = omega arith in

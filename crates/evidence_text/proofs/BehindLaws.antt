@@ -37,6 +37,7 @@ module _ (text : List ℕ) (room : maxVerdictBytes ≤ length text) (weak : Bool
   pub verdict-room : 0 + length (take (l .count) (l .bytes)) ≤ length text
   verdict-room = rw (spelled .same) (omega (arith, verdict-length weak (chosen weak v)))
 
+  -- `put_verdict`: the bytes of the line are `verdictText`
   pub verdict-printed : (e : ℕ) (text′ : List ℕ) → Printed (take (l .count) (l .bytes)) text 0 e text′ → Printed (verdictText weak (chosen weak v)) text 0 e text′
   verdict-printed e text′ p = rw (spelled .same) at p
 
@@ -103,6 +104,7 @@ module _ (weak : Bool) (c count : ℕ) (nodes : List ℕ) (C N : ℕ) (masks sta
           room = omega (arith, one .next, verdict-length weak (chosen weak (x .verdicts)), ap length lines-are, evidence-short r R (ready .accepted) rest weak, ready .room);
         }
 
+        -- `put_behind`: the verdict and the lines of the pairs are `behindOf`
         pub behind-printed : (text₂ : List ℕ) (e : ℕ) →
             Printed (pairsIn (l .controller) nodes N states (l .words) (take (x .count) pairs′)) text₁ p e text₂ →
             Printed (behindOf weak r R) text 0 e text₂

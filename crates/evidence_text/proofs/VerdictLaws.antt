@@ -25,18 +25,22 @@ module _ (v : Verdicts) (bs : List ℕ) (n : ℕ) (there : n ≤ length bs) wher
   abbrev line : VerdictLine
   line = record { bytes = bs; count = n }
 
+  -- `verdict_line`, the weak verdict yes: the line is `verdictText`
   pub weak-yes : (weak : Bool) → weak ≡ true → v .weak ≡ true → take n bs ≡ bytes "weak\tyes\n" → Spelled (verdictText weak (chosen weak v)) line
   unfolding verdictText
   weak-yes weak w e t = record { there = there; same = rw (w, e) t }
 
+  -- `verdict_line`, the weak verdict no: the line is `verdictText`
   pub weak-no : (weak : Bool) → weak ≡ true → v .weak ≡ false → take n bs ≡ bytes "weak\tno\n" → Spelled (verdictText weak (chosen weak v)) line
   unfolding verdictText
   weak-no weak w e t = record { there = there; same = rw (w, e) t }
 
+  -- `verdict_line`, the strong verdict yes: the line is `verdictText`
   pub strong-yes : (weak : Bool) → weak ≡ false → v .strong ≡ true → take n bs ≡ bytes "strong\tyes\n" → Spelled (verdictText weak (chosen weak v)) line
   unfolding verdictText
   strong-yes weak w e t = record { there = there; same = rw (w, e) t }
 
+  -- `verdict_line`, the strong verdict no: the line is `verdictText`
   pub strong-no : (weak : Bool) → weak ≡ false → v .strong ≡ false → take n bs ≡ bytes "strong\tno\n" → Spelled (verdictText weak (chosen weak v)) line
   unfolding verdictText
   strong-no weak w e t = record { there = there; same = rw (w, e) t }

@@ -59,6 +59,7 @@ field-none p e = rw e
 
 -- ---- `decimals`
 module _ (s : List ℕ) (i : ℕ) (is : i ≡ before tab s) where
+  -- `decimals`, no tab: `twoFields` is malformed
   pub decimals-missed : length s ≤ i → pair.Malformed ≡ cappedPair (twoFields decimal decimal heading s)
   decimals-missed h = capped-none _ (no-fields decimal decimal heading s (has-no tab s i is h))
 
@@ -66,6 +67,7 @@ module _ (s : List ℕ) (i : ℕ) (is : i ≡ before tab s) where
     one-field : f ≡ capped (decimal (upTo tab s))
     one-field = rw (up-to-part tab s i is) at e
 
+    -- `decimals`, the first field is malformed: `twoFields` is too
     pub decimals-first : f ≡ field.Malformed → pair.Malformed ≡ cappedPair (twoFields decimal decimal heading s)
     decimals-first x = capped-none _ (first-malformed decimal decimal heading s (has-yes tab s i is h) (capped-malformed (decimal (upTo tab s)) f one-field x))
 
@@ -76,10 +78,12 @@ module _ (s : List ℕ) (i : ℕ) (is : i ≡ before tab s) where
       last : g ≡ capped (decimal (after tab s))
       last = rw (after-part tab s i is t ts) at d
 
+      -- `decimals`, the second field is malformed: `twoFields` is too
       pub decimals-second : g ≡ field.Malformed → pair.Malformed ≡ cappedPair (twoFields decimal decimal heading s)
       decimals-second y =
           capped-none _ (second-malformed decimal decimal heading s (one .number) (has-yes tab s i is h) (one .is) (capped-malformed (decimal (after tab s)) g last y))
 
+      -- `decimals`, both fields are read: their numbers are `twoFields`, up to the largest (`cappedPair`)
       pub decimals-read : (b : ℕ) → g ≡ field.Number b → pair.Numbers a b ≡ cappedPair (twoFields decimal decimal heading s)
       decimals-read b y =
           let q = capped-read (decimal (after tab s)) g b last y in
@@ -90,6 +94,7 @@ pub ruleset decimals-laws = (part-laws, decimals-missed, decimals-first, decimal
 
 -- ---- `hexadecimals`
 module _ (m n : ℕ) (s : List ℕ) (i : ℕ) (is : i ≡ before tab s) where
+  -- `hexadecimals`, no tab: `twoFields` is malformed
   pub hexadecimals-missed : length s ≤ i → pair.Malformed ≡ exactPair (twoFields (hexadecimal m) (hexadecimal n) heading s)
   hexadecimals-missed h = exact-none _ (no-fields (hexadecimal m) (hexadecimal n) heading s (has-no tab s i is h))
 
@@ -97,6 +102,7 @@ module _ (m n : ℕ) (s : List ℕ) (i : ℕ) (is : i ≡ before tab s) where
     one-hex : f ≡ exact (hexadecimal m (upTo tab s))
     one-hex = rw (up-to-part tab s i is) at e
 
+    -- `hexadecimals`, the first field is malformed: `twoFields` is too
     pub hexadecimals-first : f ≡ field.Malformed → pair.Malformed ≡ exactPair (twoFields (hexadecimal m) (hexadecimal n) heading s)
     hexadecimals-first x =
         exact-none _ (first-malformed (hexadecimal m) (hexadecimal n) heading s (has-yes tab s i is h) (exact-malformed (hexadecimal m (upTo tab s)) f one-hex x))
@@ -108,11 +114,13 @@ module _ (m n : ℕ) (s : List ℕ) (i : ℕ) (is : i ≡ before tab s) where
       two-hex : g ≡ exact (hexadecimal n (after tab s))
       two-hex = rw (after-part tab s i is t ts) at d
 
+      -- `hexadecimals`, the second field is malformed: `twoFields` is too
       pub hexadecimals-second : g ≡ field.Malformed → pair.Malformed ≡ exactPair (twoFields (hexadecimal m) (hexadecimal n) heading s)
       hexadecimals-second y =
           exact-none _
           (second-malformed (hexadecimal m) (hexadecimal n) heading s a (has-yes tab s i is h) one-is (exact-malformed (hexadecimal n (after tab s)) g two-hex y))
 
+      -- `hexadecimals`, both fields are read: their numbers are `twoFields` (`exactPair`)
       pub hexadecimals-read : (b : ℕ) → g ≡ field.Number b → pair.Numbers a b ≡ exactPair (twoFields (hexadecimal m) (hexadecimal n) heading s)
       hexadecimals-read b y =
           exact-some _ a b
@@ -130,9 +138,11 @@ and-true true = refl
 and-true false = refl
 
 module _ (s w : List ℕ) (i : ℕ) (is : i ≡ before tab s) where
+  -- `opens`, no tab: the line doesn't open with the word and a tab (`upTo`, `has`)
   pub opens-not : length s ≤ i → false ≡ (same (upTo tab s) w && has tab s)
   opens-not h = rw (has-no tab s i is h) (and-false (same (upTo tab s) w))
 
+  -- `opens`, a tab: whether the bytes before it are the word (`upTo`, `has`)
   pub opens-with : i < length s → (r : Bool) → r ≡ same (take i s) w → r ≡ (same (upTo tab s) w && has tab s)
   opens-with h r e = (rw (up-to-part tab s i is) at e) ∙ rw (has-yes tab s i is h) (and-true (same (upTo tab s) w))
 
@@ -151,24 +161,30 @@ module _ (s w : List ℕ) (r : Bool) (rs : r ≡ (same (upTo tab s) w && has tab
   unfolding worded pick
   right-word fields f = rw (← rs, f)
 
+  -- `worded_decimals`, the word doesn't open the line: `headingForm` is malformed
   pub decimals-other : r ≡ false → pair.Malformed ≡ cappedPair (headingForm w s)
   unfolding headingForm
   decimals-other f = capped-none _ (other-word (twoFields decimal decimal heading) f)
 
+  -- `worded_hexadecimal`, the word doesn't open the line: `worded` is malformed
   pub hexadecimal-other : (n : ℕ) → r ≡ false → field.Malformed ≡ exact (worded w (hexadecimal n) s)
   hexadecimal-other n f = field-none _ (other-word (hexadecimal n) f)
 
+  -- `worded_hexadecimals`, the word doesn't open the line: `worded` is malformed
   pub hexadecimals-other : (m n : ℕ) → r ≡ false → pair.Malformed ≡ exactPair (worded w (twoFields (hexadecimal m) (hexadecimal n) heading) s)
   hexadecimals-other m n f = exact-none _ (other-word (twoFields (hexadecimal m) (hexadecimal n) heading) f)
 
   module _ (f : r ≡ true) (i : ℕ) (is : i ≡ before tab s) (t : List ℕ) (ts : t ≡ drop (i + 1) s) where
+    -- `worded_decimals`, the word opens the line: the fields after it are `headingForm`
     pub decimals-right : (p : Pair) → p ≡ cappedPair (twoFields decimal decimal heading t) → p ≡ cappedPair (headingForm w s)
     unfolding headingForm
     decimals-right p e = rw (right-word (twoFields decimal decimal heading) f, ← after-part tab s i is t ts) e
 
+    -- `worded_hexadecimal`, the word opens the line: the field after it is `worded`
     pub hexadecimal-right : (n : ℕ) (p : Field) → p ≡ exact (hexadecimal n t) → p ≡ exact (worded w (hexadecimal n) s)
     hexadecimal-right n p e = rw (right-word (hexadecimal n) f, ← after-part tab s i is t ts) e
 
+    -- `worded_hexadecimals`, the word opens the line: the fields after it are `worded`
     pub hexadecimals-right : (m n : ℕ) (p : Pair) → p ≡ exactPair (twoFields (hexadecimal m) (hexadecimal n) heading t)
         → p ≡ exactPair (worded w (twoFields (hexadecimal m) (hexadecimal n) heading) s)
     hexadecimals-right m n p e = rw (right-word (twoFields (hexadecimal m) (hexadecimal n) heading) f, ← after-part tab s i is t ts) e

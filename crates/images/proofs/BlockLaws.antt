@@ -101,6 +101,7 @@ is-block l k e = record {
 }
 
 -- the block of form f, which is j
+-- `block_of`, each of its returns: the block has the lists of the form (`formOf`, `IsBlock`)
 pub form-block : (f j : ℕ) (k : Block) → f ≡ j → shown k ≡ wanted (formOf j) → IsBlock (formOf f) k
 form-block f j k e s = rw e (is-block (formOf j) k s)
 
@@ -110,6 +111,7 @@ six-up f n0 n1 n2 n3 n4 n5 = omega arith
 one-left : (f : ℕ) → 6 ≤ f → f < 12 → (f ≡ 6 → ⊥) → (f ≡ 7 → ⊥) → (f ≡ 8 → ⊥) → (f ≡ 9 → ⊥) → (f ≡ 10 → ⊥) → f ≡ 11
 one-left f g h n6 n7 n8 n9 n10 = omega arith
 
+-- `block_of`, the last return: the form is none of the others, so it is 11 (`formOf`)
 pub only-last : (f : ℕ) → f < 12 → (f ≡ 0 → ⊥) → (f ≡ 1 → ⊥) → (f ≡ 2 → ⊥) → (f ≡ 3 → ⊥) → (f ≡ 4 → ⊥) → (f ≡ 5 → ⊥) → (f ≡ 6 → ⊥) → (f ≡ 7 → ⊥) →
     (f ≡ 8 → ⊥) → (f ≡ 9 → ⊥) → (f ≡ 10 → ⊥) → f ≡ 11
 only-last f h n0 n1 n2 n3 n4 n5 n6 n7 n8 n9 n10 = one-left f (six-up f n0 n1 n2 n3 n4 n5) h n6 n7 n8 n9 n10
@@ -123,6 +125,7 @@ row-first w t o m = omega (arith, o .first, m .first)
 pub row-second : (w : ℕ) (t : Node) → OfWord w t → FineRow w → t .second < 18
 row-second w t o m = omega (arith, o .second, m .second)
 
+-- `made`: the row's node, its names looked up, is what the row becomes (`become`, `Made`)
 pub is-made : (w : ℕ) (f : List ℕ) (t r : Node) → OfWord w t → FineRow w → SmallNames f → Built (kindOf (t .kind)) (getD f (t .first) 0) (getD f (t .second) 0) r → Made w f r
 is-made w f t r o m s b =
     let k : t .kind ≡ kindNumber (kindOf (t .kind)) = number-of (t .kind) (row-kind w t o m) in
@@ -195,6 +198,7 @@ follows-more ns n o o′ at m w h e p =
           (append-assoc (take at o) (map nodeWord ns) (nodeWord n ∷ drop (m + 1) o) ∙ ap (λ (y : List ℕ). take at o ++ y) (sym (append-assoc (map nodeWord ns) (nodeWord n ∷ []) (drop (m + 1) o))));
     }
 
+-- `lay_block`, before row 0: nothing is `laid` (`Laying`)
 pub laying-start : (f : List ℕ) (at : ℕ) (ws : List ℕ) (count : ℕ) (o : List ℕ) → length f ≡ 18 → Room count at o → FineRows count ws → SmallNames f →
     Laying f at ws count 0 o o f
 laying-start f at ws count o l r t s =
@@ -207,6 +211,7 @@ module _ (f : List ℕ) (at : ℕ) (ws : List ℕ) (count i : ℕ) (o o′ F : L
   pub laying-fine : FineRow (getD ws i 0)
   laying-fine = p .rows .fine i h
 
+  -- `lay_block`, a turn: the node of row i is `laid`, and is "·" of the next (`Laying`)
   pub laying-next : (n : Node) (w : ℕ) → Made (getD ws i 0) F n → w ≡ nodeWord (meaning n) → Laying f at ws count (i + 1) o (set o′ (at + i) w) (set F dot (at + i))
   laying-next n w m e =
       let q : at + i + 1 ≡ at + suc i = omega arith in
@@ -224,6 +229,7 @@ module _ (f : List ℕ) (at : ℕ) (ws : List ℕ) (count i : ℕ) (o o′ F : L
         done = rw (add-one i, g, x) (rw q at s);
       }
 
+-- `lay_block`, no row is left: the nodes of all rows are `laid` from `at` on (`Follows`)
 pub laying-done : (f : List ℕ) (at : ℕ) (ws : List ℕ) (count i : ℕ) (o o′ F : List ℕ) → Laying f at ws count i o o′ F → count ≤ i →
     Follows (laid f at (rowsIn count ws)) o at (at + i) o′
 laying-done f at ws count i o o′ F p h =

@@ -24,6 +24,7 @@ use Rattle.joint_reading.specs.Joining.{IsPart, headingOf, Joined, ReadJ
 use Rattle.joint_reading.specs.declared.scan.Found.{Found}
 
 -- ---- `part`
+-- `part`: the bytes between the two places are `len` bytes from `from` on
 pub part-reads : (s : List ℕ) (from count : ℕ) → take (from + count - from) (drop from s) ≡ take count (drop from s)
 part-reads s from count = let e : from + count - from ≡ count = omega arith in rw e
 
@@ -68,6 +69,7 @@ module _ (rule recording nodes masks states : List ℕ) (room : Room nodes masks
     unfolding readJointPart pick
     part-is = rw (number-is, ne-eqb (f .number) lentShort (λ q. omega (arith, s .low))) (s .part)
 
+    -- `join_whole`: what `scan_joint` found, with lent space cleared behind it, is `Joined`
     pub join-done : (nodes″ masks″ states″ : List ℕ) → Cleared (f .count) (f .controllers) (f .states) nodes′ masks′ states′ nodes″ masks″ states″
         → Joined rule recording nodes masks states f nodes″ masks″ states″
     unfolding readJointNodes readJointMasks readJointStates
@@ -89,6 +91,7 @@ module _ (rule recording nodes masks states : List ℕ) (short : Bool) (is : sho
   unfolding readJointNumber isShort pick
   short-number = rw (sym is ∙ e)
 
+  -- `join`, 13: `readJointHeading` has no values, the part is empty, lent space is as it was
   pub join-short : (f : Found) → f ≡ refusedAt 13 true 0 (lineLength []) → Joined rule recording nodes masks states f nodes masks states
   unfolding readJointHeading readJointPart readJointNodes readJointMasks readJointStates lineLength pick
   join-short f w =
@@ -103,6 +106,7 @@ module _ (rule recording nodes masks states : List ℕ) (short : Bool) (is : sho
         statesLeft = left-untouched (readJointNumber rule recording nodes masks states) maxStates ((scanRecording recording) .states) states n;
       })
 
+-- `join`, full size: `isShort` false is the room that `join_whole` asks
 pub join-room : (nodes masks states : List ℕ) (short : Bool) → short ≡ isShort nodes masks states → short ≡ false → Room nodes masks states
 unfolding isShort
 join-room nodes masks states short is e =
@@ -133,6 +137,7 @@ module _ (x y : RefT (List ℕ)) (nodes masks states : List ℕ) (f : Found) (no
     unfolding pick
     rule-inside = rw z at (j .inside)
 
+    -- `read_joint`, a line of the rule: `readJointPart` is that part of the rule's text
     pub rule-handed : (r : RefT (List ℕ)) → IsPart x r (f .from) (f .len) → ReadJoint x y nodes masks states r nodes′ masks′ states′ (headingOf f)
     unfolding pick
     rule-handed r p = handed r (rw z p)
@@ -142,6 +147,7 @@ module _ (x y : RefT (List ℕ)) (nodes masks states : List ℕ) (f : Found) (no
     unfolding pick
     recording-inside = rw z at (j .inside)
 
+    -- `read_joint`, a line of the recording: `readJointPart` is that part of the recording's text
     pub recording-handed : (r : RefT (List ℕ)) → IsPart y r (f .from) (f .len) → ReadJoint x y nodes masks states r nodes′ masks′ states′ (headingOf f)
     unfolding pick
     recording-handed r p = handed r (rw z p)

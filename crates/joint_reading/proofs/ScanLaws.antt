@@ -30,6 +30,7 @@ use Rattle.joint_reading.specs.Scanning.{refusedAt, jointValues, Held, J
 use Rattle.joint_reading.specs.declared.scan.Found.{Found}
 
 -- ---- `refused_at`
+-- `refused_at`: the number, no values and the line that begins there are `refusedAt`
 pub refused-line : (number at : ℕ) (l : Line) (z : Bool) (s : List ℕ) → FirstLine (take (length s - at) (drop at s)) l
     → record { number = number; controller = 0; count = 0; controllers = 0; states = 0; «of_rule» = z; from = at; len = l .len } ≡ refusedAt number z at (lineLength (drop at s))
 refused-line number at l z s e = ap (refusedAt number z at) (e .length-is ∙ ap lineLength (part-to-end s at))
@@ -95,6 +96,7 @@ line-inside t at h = omega (arith, length-le (drop at t), length-drop at t)
 
 -- ---- `scan_joint`
 module _ (rule recording nodes masks states nodes′ : List ℕ) (u : ruled.Scanned) (s : RuleScanned rule nodes u nodes′) where
+  -- `scan_joint`, the rule is refused: `jointPart` is the rule's refused line
   pub rule-refused : (f : Found) → (u .number ≡ 0 → ⊥) → f ≡ refusedAt (u .number) true (u .«rest_at») (lineLength (drop (u .«rest_at») rule))
       → JointScanned rule recording nodes masks states f nodes′ masks states
   unfolding pick
@@ -117,6 +119,7 @@ module _ (rule recording nodes masks states nodes′ : List ℕ) (u : ruled.Scan
     ruled-number = sym (s .number) ∙ a
 
     module _ (masks′ states′ : List ℕ) (v : recorded.Scanned) (t : RecordingScanned recording masks states v masks′ states′) where
+      -- `scan_joint`, the recording is refused: `jointPart` is the recording's refused line
       pub recording-refused : (f : Found) → (v .number ≡ 0 → ⊥) → f ≡ refusedAt (v .number) false (v .«rest_at») (lineLength (drop (v .«rest_at») recording))
           → JointScanned rule recording nodes masks states f nodes′ masks′ states′
       unfolding pick
@@ -174,6 +177,7 @@ module _ (rule recording nodes masks states nodes′ : List ℕ) (u : ruled.Scan
           unfolding jointValues pick
           accepted-values = rw (s .controller, s .count, t .controllers, t .count)
 
+          -- `scan_joint`, accepted: `jointValues` are the two headings, `jointPart` is empty at the recording's end
           pub joint-accepted : JointScanned rule recording nodes masks states (record { number = 0; controller = u .controller; count = u .count; controllers = v .controllers; states = v .count; «of_rule» = false; from = length recording; len = 0 }) nodes′ masks′ states′
           unfolding pick
           joint-accepted =

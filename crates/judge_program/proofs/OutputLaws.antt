@@ -24,6 +24,7 @@ module _ (input output : List ℕ) (full : length output ≡ maxOutputBytes) whe
   pub long-room : length (refusedText 14 []) ≤ length output
   long-room = omega (arith, refused-length 14 [] (omega arith) (omega arith))
 
+  -- `judge`, 14: `programOutput` of an input too long is its refusal, with no line
   pub long-printed : maxInputBytes < length input → (r : ℕ) (output′ : List ℕ) → Printed (refusedText 14 []) output 0 r output′ → OutputIs (programOutput input) output r output′
   unfolding programOutput pick
   long-printed h r output′ p = rw (lt-ltb maxInputBytes (length input) h) (printed-all (refusedText 14 []) output r output′ p)
@@ -32,6 +33,7 @@ module _ (input output : List ℕ) (full : length output ≡ maxOutputBytes) whe
     pub texts-room : TextsRoom (take (s .«rule_end») input) (take (length input - s .«recording_at») (drop (s .«recording_at») input)) output
     texts-room = let fit = texts-fit input s is short in record { ruleFits = fit .ruleFits; recordingFits = fit .recordingFits; textRoom = omega arith }
 
+    -- `judge`, the input is split: `programOutput` is `textsOutput` of its two texts
     pub texts-printed : (r : ℕ) (output′ : List ℕ)
         → Printed (textsOutput (take (s .«rule_end») input) (take (length input - s .«recording_at») (drop (s .«recording_at») input))) output 0 r output′
         → OutputIs (programOutput input) output r output′

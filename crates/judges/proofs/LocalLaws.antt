@@ -50,6 +50,7 @@ pub record Widening (words : List ℕ) (n : ℕ) (entry : List ℕ) (i : ℕ) (l
   pub within : i ≤ n
   pub laid : l ≡ take i words ++ drop i entry
 
+-- `widen`, before the first turn: no place is laid
 pub widening-none : (words : List ℕ) (n : ℕ) (entry : List ℕ) → Widening words n entry 0 entry
 widening-none words n entry = record { within = omega arith; laid = refl }
 
@@ -63,6 +64,7 @@ module _ (words : List ℕ) (n : ℕ) (entry : List ℕ) (i : ℕ) (l : List ℕ
   pub widening-room : i < n → i < length l
   widening-room h = omega (arith, widening-length)
 
+  -- `widen`, a turn: one place more is laid
   pub widening-more : i < n → Widening words n entry (i + 1) (set l i (getD words i 0))
   widening-more h =
       let front : take i l ≡ take i words = ap (take i) (so .laid) ∙ take-at (take i words) (drop i entry) i front-length in
@@ -74,6 +76,7 @@ module _ (words : List ℕ) (n : ℕ) (entry : List ℕ) (i : ℕ) (l : List ℕ
         laid = set-split l i (getD words i 0) (omega (arith, widening-length)) ∙ rw (sum, front, past, take-suc words i 0 (omega arith), append-assoc);
       }
 
+  -- `widen`, all places are laid: the first n words, and what was lent behind them
   pub widening-done : n ≤ i → l ≡ take n words ++ drop n entry
   widening-done h = let e : i ≡ n = omega (arith, so .within) in rw e at (so .laid)
 
@@ -86,6 +89,7 @@ module _ (C n : ℕ) (masks states : List ℕ) (c : ℕ) (ready : TraceReady (re
   pub trace-projectable : (words : List ℕ) → maxStates ≤ length words → Projectable n c states words
   trace-projectable words room = projectable R c words (ready .recording) (ready .controller) room
 
+  -- `local_trace`: the controller's mask and the projected places are `localTrace`
   pub trace-is : (mask : ℕ) → mask ≡ getD masks c 0 → (words words′ : List ℕ) → maxStates ≤ length words → (count : ℕ) → count ≡ length (runsIn n c states) + 1 →
       words′ ≡ laid (placesIn n mask c states) words → TraceIs R c (record { controller = c; mask = mask; count = count; words = words′ })
   trace-is mask me words words′ room count e p =
@@ -145,6 +149,7 @@ module _ (c count : ℕ) (nodes : List ℕ) (l : LocalTrace) (rows : List ℕ) (
       room = omega (arith, rule-few r (ready .ready .rule), ready .room);
     }
 
+    -- `local_rows`: the rows evaluated over the widened places are `rowsOf` the local trace
     pub rows-laid : (rows′ : List ℕ) → rows′ ≡ pairsWords (rowsTo nodes count places′ (l .count) 0 (l .mask)) ++ drop (count * pairWords) rows → LocalRows r l rows rows′
     rows-laid rows′ evaluated =
         let L : ℕ = l .count in
@@ -199,6 +204,7 @@ module _ (c count : ℕ) (nodes : List ℕ) (l : LocalTrace) (given : LocalReady
     pub own-topped : Topped rows (count - 1) (count - 1)
     own-topped = topped t ns rows rest (count - 1) (count - 1) few (own .rows) below below
 
+    -- `judge_accepted_locally`: the marks at the last node are `verdictsOn`
     pub own-judged : (v : Verdicts) → v ≡ topsIn rows (count - 1) (count - 1) → meant v ≡ verdictsOn (ruleOf c count nodes) l
     own-judged v e =
         tops-verdicts t ns rows rest (count - 1) (count - 1) few (own .rows) below below v e
@@ -206,6 +212,7 @@ module _ (c count : ℕ) (nodes : List ℕ) (l : LocalTrace) (given : LocalReady
 
 -- ---- the check, and the answers
 
+-- `local_refusal`: `ruleRefusal`, or else `joinedRefusal`, is `judgeLocalNumber`
 pub local-number : (r : Rule) (R : Recording) (refusal trace number : ℕ) → refusal ≡ ruleRefusal r → trace ≡ joinedRefusal R (r .controller) → number ≡ orElse refusal trace
     → number ≡ judgeLocalNumber r R
 unfolding judgeLocalNumber
@@ -219,6 +226,7 @@ module _ (c count : ℕ) (nodes : List ℕ) (C n : ℕ) (masks states : List ℕ
   abbrev recording : Recording
   recording = recordingOf C n masks states
 
+  -- `judge_local`, refused: `judgeLocalAnswer` is that number
   pub local-refused : (number ≡ 0 → ⊥) → answerOf (Refused number) ≡ judgeLocalAnswer rule recording
   unfolding judgeLocalAnswer
   local-refused some = rw (← e) (answer-refused number (verdictValues (localVerdicts (nodesIn count nodes) (maskOf recording c) (localTrace recording c))) some)
@@ -238,6 +246,7 @@ module _ (c count : ℕ) (nodes : List ℕ) (C n : ℕ) (masks states : List ℕ
       pub local-ready : LocalReady rule l
       local-ready = record { rule = local-accepted .rule; few = is .few; there = is .there }
 
+      -- `judge_local`, accepted: `judgeLocalAnswer` is the two verdicts
       pub local-judged : (v : Verdicts) → meant v ≡ verdictsOn rule l → answerOf (Judged v) ≡ judgeLocalAnswer rule recording
       unfolding answerOf judgeLocalAnswer
       local-judged v a = let own : meant v ≡ ownVerdicts rule recording = a ∙ trace-verdicts rule recording l is in rw (← e, none, own)

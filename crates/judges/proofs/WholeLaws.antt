@@ -168,6 +168,7 @@ module _ (count : ℕ) (nodes : List ℕ) (weakTop strongTop C n : ℕ) (masks s
         let q = or-else-none (recordingRefusal R) (controllerRefusal C c) (sym b ∙ p .1) in
         whole-ready table R c entry (sym a ∙ p .0) (q .0) (accepted-controller C c (q .1)) (lent-full maxRowWords entry short both number s e (λ w. omega arith))
 
+    -- `judge_recording`, judged: `judgeRecordingAnswer` is the verdicts, `judgeRecordingRows` the rows and then zeros
     pub whole-judged : (v : Verdicts) (exit : List ℕ) → WholeVerdicts table n states c entry v exit → WholeJudged table R c entry (Judged v) exit
     unfolding answerOf judgeRecordingAnswer judgeRecordingRows
     whole-judged v exit d = record { answered = rw (number-is, none, d .verdicts); rows = d .rows ∙ rw (number-is, none) }

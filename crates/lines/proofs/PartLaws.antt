@@ -12,6 +12,7 @@ use Rattle.definitions.specs.Lines.{before, isEmpty, has, upTo, after}
 use Rattle.lines.proofs.ScanLaws.{before-le}
 
 -- `&s[k..]` reads this
+-- `after`: the part from byte k to the end is `drop` (`IsRest`)
 pub part-to-end : (s : List ℕ) (k : ℕ) → take (length s - k) (drop k s) ≡ drop k s
 part-to-end s k = take-all (length s - k) (drop k s) (rw length-drop (omega arith))
 

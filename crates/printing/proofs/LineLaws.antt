@@ -45,6 +45,7 @@ module _ (word : List ℕ) (n : ℕ) (end o : List ℕ) (at : ℕ) (room : at + 
       pub end-room : length o″ ≡ length o′ → q + length end ≤ length o″
       end-room held = rest-room (tab ∷ digits n) end o′ p line-left o″ q number held
 
+      -- `put_line`: the word, the field and the end are `countedLine`
       pub line-written : (o‴ : List ℕ) (e : ℕ) → Printed end o″ q e o‴ → Printed (countedLine word n end) o at e o‴
       unfolding countedLine
       line-written o‴ e last = both word ((tab ∷ digits n) ++ end) o at line-parts o′ p first o‴ e (both (tab ∷ digits n) end o′ p line-left o″ q number o‴ e last)

@@ -44,15 +44,18 @@ module _ (input : List ℕ) (l : Line) (is : FirstLine input l) where
     asks-is weak b e = rw (closed, ← is .length-is) (sym e)
 
     module _ (weakly : Bool) (w : weakly ≡ same (take (l .len) input) (readingWord true)) where
+      -- `asked_by`, the line `weak`: `askedIn` is the weak reading of the rest
       pub asked-weak : weakly ≡ true → AskedIs input (Reading true (l .next))
       unfolding askedIn pick
       asked-weak e = record { is = rw (asks-is true weakly w, e, next-is); inside = is .inside }
 
       module _ (strongly : Bool) (s : strongly ≡ same (take (l .len) input) (readingWord false)) (n : weakly ≡ false) where
+        -- `asked_by`, the line `strong`: `askedIn` is the strong reading of the rest
         pub asked-strong : strongly ≡ true → AskedIs input (Reading false (l .next))
         unfolding askedIn pick
         asked-strong e = record { is = rw (asks-is true weakly w, n, asks-is false strongly s, e, next-is); inside = is .inside }
 
+        -- `asked_by`, another line: `askedIn` is nothing, with its length
         pub asked-nothing : strongly ≡ false → AskedIs input (Nothing (l .len))
         unfolding askedIn pick
         asked-nothing e = record { is = rw (asks-is true weakly w, n, asks-is false strongly s, e, is .length-is); inside = is .within }

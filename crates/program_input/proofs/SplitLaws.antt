@@ -23,6 +23,7 @@ use Rattle.lines.proofs.LoopLaws.{after-line, line-inside}
 use Rattle.program_input.specs.Splitting.{SplitAt, Texts}
 
 -- ---- `is_split`
+-- `is_split`: the line is compared with `splitLine`
 pub is-dash : (t : List ℕ) (len : ℕ) (r : Bool) → len ≡ lineLength t → r ≡ same (take len t) splitLine → r ≡ same (lineOf t) splitLine
 is-dash t len r is e = rw (line-part t len is) at e
 
@@ -34,10 +35,12 @@ pub record Searched (s : List ℕ) (at : ℕ) : Type 0 where
   pub within : at ≤ length s
   pub left : ruleLength (length s) s ≡ at + ruleLength (length s) (drop at s)
 
+-- `rule_length`, before the first turn: all of `ruleLength` is left
 pub searched-none : (s : List ℕ) → Searched s 0
 searched-none s = record { within = omega arith; left = omega arith }
 
 module _ (s : List ℕ) (at : ℕ) (inv : Searched s at) where
+  -- `rule_length`, no byte is left: `ruleLength` is the whole input
   pub searched-end : length s ≤ at → at ≡ ruleLength (length s) s
   searched-end h =
       let z : length (drop at s) ≡ 0 = omega (arith, length-drop at s) in
@@ -50,6 +53,7 @@ module _ (s : List ℕ) (at : ℕ) (inv : Searched s at) where
     whole : length (take (length s - at) (drop at s)) ≡ length (drop at s)
     whole = ap length (part-to-end s at)
 
+    -- `rule_length`, a line that is not closed: `ruleLength` is the whole input
     pub searched-open : l .len ≡ length (take (length s - at) (drop at s)) → length s ≡ ruleLength (length s) s
     searched-open e =
         let c = whole-open (drop at s) (omega (arith, first .length-is, whole)) in
@@ -80,11 +84,13 @@ module _ (s : List ℕ) (at : ℕ) (inv : Searched s at) where
         line-is : r ≡ same (lineOf (drop at s)) splitLine
         line-is = rw (part-to-end s at) at same-is
 
+        -- `rule_length`, the line `-`: `ruleLength` ends where it begins
         pub searched-found : r ≡ true → at ≡ ruleLength (length s) s
         searched-found t =
             let f = split-here (length s - 1) (drop at s) closed (sym line-is ∙ t) in
             omega (arith, inv .left, rw fuel at f)
 
+        -- `rule_length`, a turn: `ruleLength` goes on at the next line
         pub searched-next : r ≡ false → Searched s (at + l .next)
         searched-next t =
             let f = split-later (length s - 1) (drop at s) closed (sym line-is ∙ t) in
@@ -110,6 +116,7 @@ module _ (s : List ℕ) (r : ℕ) (is : r ≡ ruleLength (length s) s) where
     pub split-fits : length s < 2 ^ 64 → Fits w64 (r + l .next)
     split-fits h = record { fits = omega (arith, recording-inside) }
 
+    -- `split`: the bytes before the line and behind it are `ruleTextIn` and `recordingTextIn`
     pub split-some : SplitAt s (record { «rule_end» = r; «recording_at» = r + l .next })
     split-some = record {
       ruleInside = split-start;

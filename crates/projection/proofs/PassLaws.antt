@@ -42,13 +42,16 @@ module _ (S : Recording) (c : ℕ) (entry : List ℕ) (p : Pass) (places : List 
       set-split places (p .placed) (p .own) h
       ∙ rw (held-length, ← H .trace, ← add-one (p .placed), H .rest) (sym (append-assoc (take (p .placed) places) (p .own ∷ []) (drop (p .placed + 1) entry)))
 
+-- `Pass::length`: the yes marks of the row, and one, are the local length (`Counted`)
 pub counted : (p : Pass) (r : ℕ) → r ≡ yesMarks (marks (p .run)) → Counted p (r + 1)
 counted p r e = record { long = λ S c entry places H. omega (arith, held-length S c entry p places H, H .placed) }
 
+-- `Pass::close`: with the last place written, the whole local trace is laid (`Closed`)
 pub closed : (p : Pass) (places : List ℕ) → p .placed < length places → Closed p places (set places (p .placed) (p .own))
 closed p places h = record { places = λ S c entry H. laid-held S c entry p places H h }
 
 -- ---- one state
+-- `Pass::begin`: of a single state, the pass `Holds` its local trace
 pub held-first : (S : Recording) (c mask s w : ℕ) (places : List ℕ) (row : Row) → S .count ≡ 1 → stateAt S 0 ≡ s → maskOf S c ≡ mask → w ≡ atomsOf s →
     Made row 0 (tabulate 0 (λ k. false)) → Holds S c places (record { run = row; placed = 0; own = bitAnd w mask; last = s }) places
 unfolding pick
@@ -119,6 +122,7 @@ module _ (S R : Recording) (s : ℕ) (O : OneMore S R s) (c mask : ℕ) (entry :
             ∙ (sym (drop-drop 1 (p .placed + 1) before) ∙ (ap (λ (l : List ℕ). drop 1 l) (H .rest) ∙ drop-drop 1 (p .placed + 1) entry));
       }
 
+  -- `Pass::take`: after one state more, the pass `Holds` the longer local trace
   pub held-more : (n own v : ℕ) → n ≡ pick ran (p .placed + 1) (p .placed) → v ≡ atomsOf s → own ≡ pick ran (bitAnd v mask) (p .own)
       → Holds R c entry (record { run = row; placed = n; own = own; last = s }) (set before (p .placed) w)
   held-more n own v ns vs os =
@@ -151,6 +155,7 @@ pub sole-mask : (mask c : ℕ) (states : List ℕ) → maskOf (sole mask c state
 sole-mask mask c states = getD-take (suc c) (replicate (suc c) mask) c 0 (omega arith) ∙ getD-replicate (suc c) c mask 0 (omega arith)
 
 module _ (N mask c : ℕ) (states entry : List ℕ) (P : Projectable N c states entry) where
+  -- `pass_over`, before state 1: the local trace of the first state is held (`Passing`)
   pub passing-start : (held : Pass) → First mask (getD states 0 0) held → Passing N mask c states entry entry held 1
   passing-start held f = record {
     low = omega arith;
@@ -175,6 +180,7 @@ module _ (N mask c : ℕ) (states entry : List ℕ) (P : Projectable N c states 
       room = omega (arith, G .kept, P .room);
     }
 
+    -- `pass_over`, a turn: with state k taken, the local trace of k + 1 states is held (`Passing`)
     pub passing-next : k < N → (next : Pass) (places′ : List ℕ) → length places′ ≡ length places → Taken c mask (getD states k 0) held places next places′
         → Passing N mask c states entry places′ next (k + 1)
     passing-next h next places′ l t = record {
@@ -186,6 +192,7 @@ module _ (N mask c : ℕ) (states entry : List ℕ) (P : Projectable N c states 
           t (firstStates k R) (firstStates (k + 1) R) entry o m (G .holds R e m);
     }
 
+    -- `pass_over`, no state is left: the local trace of all N states is held (`Passed`)
     pub passing-end : N ≤ k → Passed N mask c states entry held places
     passing-end h =
         let n : N ≡ k = omega (arith, G .high) in

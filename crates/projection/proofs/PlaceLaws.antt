@@ -32,12 +32,14 @@ module _ (N mask c : ℕ) (states entry : List ℕ) (held : Pass) (places : List
   runs-are : length (localTrace R c) ≡ length (runsIn N c states) + 1
   runs-are = ap length content ∙ length-of N c mask states
 
+  -- `project_counted`, its answer: one more than the runs (`runsIn`)
   pub into-counted : (r : ℕ) → Counted held r → r ≡ length (runsIn N c states) + 1
   into-counted r f = f .long R c entry places whole ∙ runs-are
 
   pub into-placed : held .placed ≡ length (runsIn N c states)
   into-placed = omega (arith, held-length R c entry held places whole, runs-are)
 
+  -- `project_counted`, the lent places: the local trace (`placesIn`) is laid over their start
   pub into-laid : (exit : List ℕ) → Closed held places exit → exit ≡ laid (placesIn N mask c states) entry
   into-laid exit f = f .places R c entry whole ∙ ap (λ (l : List ℕ). laid l entry) content
 

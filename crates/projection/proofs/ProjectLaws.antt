@@ -32,6 +32,7 @@ module _ (C N : ℕ) (masks states : List ℕ) (c : ℕ) (entry : List ℕ) (sho
   unfolding projectNumber
   number-is = rw (← o) (sym (lent-number maxStates entry short other r s e))
 
+  -- `project`, a refusal: `projectAnswer` is its number; `projectPlaces` is zero, or for 13 what was lent
   pub project-refused : (r ≡ 0 → ⊥) → (zeroed : ℕ) → zeroed ≡ pick (eqb r lentShort) 0 maxStates → (exit : List ℕ) → exit ≡ cleared entry 0 zeroed →
       ProjectIs R c entry (Refused r) exit
   unfolding answerOf answer projectAnswer projectPlaces pick
@@ -68,6 +69,7 @@ module _ (C N : ℕ) (masks states : List ℕ) (c : ℕ) (entry : List ℕ) (sho
       places : L ≡ length (localTrace R c)
       places = length-local R c L le
 
+      -- `project`, accepted: `projectAnswer` is the local length, `projectPlaces` the local trace and zeros
       pub project-accepted : (exit : List ℕ) → exit ≡ cleared o′ L maxStates → ProjectIs R c entry (Places L) exit
       unfolding answerOf answer projectAnswer projectPlaces pick
       project-accepted exit x =

@@ -75,6 +75,7 @@ pub record Counted (N c k : ℕ) (states : List ℕ) (here after s : ℕ) : Type
   pub count : here ≡ length (runStates (runIn N c states) s)
   pub next : after ≡ afterLast (runStates (runIn N c states) s)
 
+-- `state_of_place`, before state 0: no run is counted (`Counted`)
 pub counted-none : (N c k : ℕ) (states : List ℕ) → Countable N c states → Counted N c k states 0 0 0
 counted-none N c k states C = record { within = C .someState; few = omega arith; count = refl; next = refl }
 
@@ -99,6 +100,7 @@ module _ (N c k : ℕ) (states : List ℕ) (C : Countable N c states) (here afte
       next = rw (one-more z) (add-one s ∙ sym (after-snoc (runStates (runIn N c states) s) s));
     }
 
+    -- `state_of_place`, a turn: the runs up to state s are counted, and none is place k (`Counted`)
     pub counted-next : (ran && eqb here k) ≡ false → (here′ : ℕ) → here′ ≡ pick ran (here + 1) here → (after′ : ℕ) → after′ ≡ pick ran (s + 1) after →
         Counted N c k states here′ after′ (s + 1)
     unfolding pick
@@ -108,6 +110,7 @@ module _ (N c k : ℕ) (states : List ℕ) (C : Countable N c states) (here afte
         (λ z. let p₁ : here′ ≡ here = rw z at p in let q₁ : after′ ≡ after = rw z at q in rw (p₁, q₁) (counted-idle z))
 
     -- place k is this run
+    -- `state_of_place`, state s is the run of place k: s is `stateOfPlace`
     pub place-run : (ran && eqb here k) ≡ true → s ≡ stateOfPlace (statesOnly N states) c k
     unfolding stateOfPlace
     place-run this =
@@ -123,6 +126,7 @@ module _ (N c k : ℕ) (states : List ℕ) (C : Countable N c states) (here afte
     counted-fits = record { fits = omega (arith, so .count, few-runs (runIn N c states) s, C .fewStates) }
 
   -- place k is the one after all runs
+  -- `state_of_place`, no run is place k: the state after the last run is `stateOfPlace`
   pub place-last : N - 1 ≤ s → after ≡ stateOfPlace (statesOnly N states) c k
   unfolding stateOfPlace
   place-last h =

@@ -56,6 +56,7 @@ is-read n h rest e = rw e
 
 -- ---- `next_heading`
 module _ (t : List ℕ) (n : ℕ) (ns : n ≡ endRefusal recordingLines recordingForm t) where
+  -- `next_heading`, no line, or one that is not closed: `recordingHeadingLine` has that refusal
   pub heading-unread : (n ≡ 0 → ⊥) → first.Refused n ≡ headingAnswer (recordingHeadingLine t)
   heading-unread z = is-refused (recordingHeadingLine t) n (next-unread recordingLines recordingForm t n ns _ _ z)
 
@@ -66,13 +67,16 @@ module _ (t : List ℕ) (n : ℕ) (ns : n ≡ endRefusal recordingLines recordin
     line : r ≡ cappedPair (headingForm recordingWord (lineOf t))
     line = rw (line-part t len is) at rs
 
+    -- `next_heading`, another form: `recordingHeadingLine` is refused by its form
     pub heading-malformed : r ≡ pair.Malformed → first.Refused recordingForm ≡ headingAnswer (recordingHeadingLine t)
     heading-malformed x = is-refused (recordingHeadingLine t) recordingForm (first-malformed recordingLines recordingForm recordingWord recordingHeadingRefusal caps t closed r line x)
 
     module _ (c m : ℕ) (x : r ≡ pair.Numbers c m) (k : ℕ) (ks : k ≡ recordingHeadingRefusal c m) where
+      -- `next_heading`, a C or N that is refused: `recordingHeadingLine` has that refusal
       pub heading-refused : (k ≡ 0 → ⊥) → first.Refused k ≡ headingAnswer (recordingHeadingLine t)
       heading-refused y = is-refused (recordingHeadingLine t) k (first-denied recordingLines recordingForm recordingWord recordingHeadingRefusal caps t closed r line c m x k (sym ks) y)
 
+      -- `next_heading`, accepted: `recordingHeadingLine` is C and N
       pub heading-read : k ≡ 0 → first.Heading c m ≡ headingAnswer (recordingHeadingLine t)
       heading-read y =
           is-read (recordingHeadingLine t) (heading c m) (restOf t) (first-read recordingLines recordingForm recordingWord recordingHeadingRefusal caps t closed r line c m x (sym ks ∙ y))

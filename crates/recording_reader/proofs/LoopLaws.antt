@@ -34,6 +34,7 @@ pub record MasksLeft (C start : ℕ) (text o o′ : List ℕ) (at seen c : ℕ) 
   pub within : c ≤ C
   pub lines : Lines (scanMasks C [] (drop start text)) text o o′ at c (seenMasks (C - c) seen (drop at text))
 
+-- `scan_masks`, before the first turn: all of `scanMasks` is left
 pub masks-start : (C start : ℕ) (text o : List ℕ) → start ≤ length text → MasksLeft C start text o o start 0 0
 unfolding unionOf
 masks-start C start text o h =
@@ -42,6 +43,7 @@ masks-start C start text o h =
     record { within = omega arith; lines = lines-none _ _ text o start h e }
 
 module _ (C start : ℕ) (text o o′ : List ℕ) (at seen c : ℕ) (inv : MasksLeft C start text o o′ at seen c) (few : C ≤ maxControllers) (room : maxControllers ≤ length o) where
+  -- `scan_masks`, all masks are read: `scanMasks` is accepted
   pub masks-done : C ≤ c → LinesScanned (scanMasks C [] (drop start text)) text o (record { number = 0; at = at }) o′
   masks-done h =
       let z : C - c ≡ 0 = omega arith in
@@ -57,6 +59,7 @@ module _ (C start : ℕ) (text o o′ : List ℕ) (at seen c : ℕ) (inv : Masks
     answer : r ≡ maskAnswer (seenLine seen (drop at text))
     answer = rw (part-to-end text at) at rs
 
+    -- `scan_masks`, a refused line: `scanMasks` stops at that line with its refusal
     pub masks-refused : (k : ℕ) → r ≡ mask.Refused k → LinesScanned (scanMasks C [] (drop start text)) text o (record { number = k; at = at }) o′
     masks-refused k e =
         lines-stop _ text o o′ at c _ (inv .lines) k
@@ -75,6 +78,7 @@ module _ (C start : ℕ) (text o o′ : List ℕ) (at seen c : ℕ) (inv : Masks
       mask-turn : seenMasks (C - c) seen (drop at text) ≡ more m (seenMasks (C - (c + 1)) (bitOr seen m) (drop (at + l .next) text))
       mask-turn = rw (one-less, ← after-line text at l ends) (mask-step (C - (c + 1)) seen (drop at text) m (restOf (drop at text)) (given .is))
 
+      -- `scan_masks`, a turn: `scanMasks` has one mask more, and the union has it too
       pub masks-next : MasksLeft C start text o (set o′ c m) (at + l .next) (bitOr seen m) (c + 1)
       masks-next = record { within = omega arith; lines = lines-next _ text o o′ at c _ (inv .lines) m (at + l .next) _ mask-turn (omega arith) mask-inside }
 
@@ -85,6 +89,7 @@ pub record StatesLeft (C N : ℕ) (masks : List ℕ) (start : ℕ) (text o o′ 
   pub within : k ≤ N
   pub lines : Lines (scanStates C masks N 0 0 (drop start text)) text o o′ at k (scanStates C masks (N - k) k prior (drop at text))
 
+-- `scan_states`, before the first turn: all of `scanStates` is left
 pub states-start : (C N : ℕ) (masks : List ℕ) (start : ℕ) (text o : List ℕ) → start ≤ length text → StatesLeft C N masks start text o o start 0 0
 states-start C N masks start text o h =
     let z : N - 0 ≡ N = omega arith in
@@ -97,6 +102,7 @@ module _ (C N : ℕ) (masks : List ℕ) (start : ℕ) (text o o′ : List ℕ) (
       (λ y. e ∙ (pick-true _ _ _ y ∙ sym (pick-false _ _ _ (empty-no (drop at text) (λ q. omega (arith, length-drop at text, ltb-true at (length text) y))))))
       (λ y. e ∙ (pick-false _ _ _ y ∙ sym (pick-true _ _ _ (empty-yes (drop at text) (omega (arith, length-drop at text, ltb-false at (length text) y))))))
 
+  -- `scan_states`, all states are read: `scanStates` is accepted, or refused where bytes are left
   pub states-done : (n : ℕ) → n ≡ pick (ltb at (length text)) recordingLines accepted → N ≤ k → LinesScanned (scanStates C masks N 0 0 (drop start text)) text o (record { number = n; at = at }) o′
   states-done n e h =
       let z : N - k ≡ 0 = omega arith in
@@ -112,6 +118,7 @@ module _ (C N : ℕ) (masks : List ℕ) (start : ℕ) (text o o′ : List ℕ) (
     answered : r ≡ stateAnswer (stateLine C masks k prior (drop at text))
     answered = rw (part-to-end text at) at rs
 
+    -- `scan_states`, a refused line: `scanStates` stops at that line with its refusal
     pub states-refused : (n : ℕ) → r ≡ state.Refused n → LinesScanned (scanStates C masks N 0 0 (drop start text)) text o (record { number = n; at = at }) o′
     states-refused n e =
         lines-stop _ text o o′ at k _ (inv .lines) n
@@ -130,6 +137,7 @@ module _ (C N : ℕ) (masks : List ℕ) (start : ℕ) (text o o′ : List ℕ) (
       state-turn : scanStates C masks (N - k) k prior (drop at text) ≡ more s (scanStates C masks (N - (k + 1)) (k + 1) s (drop (at + l .next) text))
       state-turn = rw (one-fewer, ← after-line text at l line-ends) (state-step C masks (N - (k + 1)) k prior (drop at text) s (restOf (drop at text)) (got .is))
 
+      -- `scan_states`, a turn: `scanStates` has one state more, and it is the prior one
       pub states-next : StatesLeft C N masks start text o (set o′ k s) (at + l .next) s (k + 1)
       states-next = record { within = omega arith; lines = lines-next _ text o o′ at k _ (inv .lines) s (at + l .next) _ state-turn (omega arith) state-inside }
 

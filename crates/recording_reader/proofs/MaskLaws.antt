@@ -30,6 +30,7 @@ is-read n m rest e = rw e
 
 -- ---- `next_mask`
 module _ (seen : ℕ) (t : List ℕ) (n : ℕ) (ns : n ≡ endRefusal recordingLines recordingForm t) where
+  -- `next_mask`, no line, or one that is not closed: `seenLine` has that refusal
   pub mask-unread : (n ≡ 0 → ⊥) → mask.Refused n ≡ maskAnswer (seenLine seen t)
   mask-unread z = is-refused (seenLine seen t) n (next-unread recordingLines recordingForm t n ns _ _ z)
 
@@ -41,6 +42,7 @@ module _ (seen : ℕ) (t : List ℕ) (n : ℕ) (ns : n ≡ endRefusal recordingL
     unfolding maskForm
     line = rw (line-part t len is) at rs
 
+    -- `next_mask`, another form: `seenLine` is refused by its form
     pub mask-malformed : r ≡ field.Malformed → mask.Refused recordingForm ≡ maskAnswer (seenLine seen t)
     mask-malformed x =
         is-refused (seenLine seen t) recordingForm
@@ -50,9 +52,11 @@ module _ (seen : ℕ) (t : List ℕ) (n : ℕ) (ns : n ≡ endRefusal recordingL
       form : maskForm (lineOf t) ≡ formed m
       form = exact-number (maskForm (lineOf t)) r m line x
 
+      -- `next_mask`, a mask that overlaps those seen: `seenLine` has the refusal of `unionRefusal`
       pub mask-refused : (k ≡ 0 → ⊥) → mask.Refused k ≡ maskAnswer (seenLine seen t)
       mask-refused y = is-refused (seenLine seen t) k (next-denied recordingLines recordingForm maskForm (unionRefusal seen) t closed m form k (sym ks) y)
 
+      -- `next_mask`, accepted: `seenLine` is the mask
       pub mask-read : k ≡ 0 → mask.Mask m ≡ maskAnswer (seenLine seen t)
       mask-read y = is-read (seenLine seen t) m (restOf t) (next-read recordingLines recordingForm maskForm (unionRefusal seen) t closed m form (sym ks ∙ y))
 

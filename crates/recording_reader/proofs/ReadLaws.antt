@@ -46,9 +46,11 @@ module _ (text masks states : List ℕ) where
     statesLeft = left-untouched (readRecordingNumber text masks states) maxStates ((scanRecording text) .states) states e;
   }
 
+  -- `read_recording`, 13 by the masks: `readRecordingMasks` and `readRecordingStates` are what was lent
   pub masks-short : length masks < maxControllers → ReadRecording text masks states (Refused 13) masks states
   masks-short h = read-short (short-number (rw (lt-ltb (length masks) maxControllers h)))
 
+  -- `read_recording`, 13 by the states: `readRecordingMasks` and `readRecordingStates` are what was lent
   pub states-short : maxControllers ≤ length masks → length states < maxStates → ReadRecording text masks states (Refused 13) masks states
   states-short k h = read-short (short-number (rw (le-ltb (length masks) maxControllers k, lt-ltb (length states) maxStates h)))
 
@@ -71,6 +73,7 @@ module _ (text masks states : List ℕ) where
 
     module _ (i j : ℕ) (is : i ≡ pick (eqb (v .number) 0) (v .controllers) 0) (js : j ≡ pick (eqb (v .number) 0) (v .count) 0)
         (m n : List ℕ) (p : m ≡ cleared masks′ i maxControllers) (q : n ≡ cleared states′ j maxStates) where
+      -- `read_recording`, another refusal: `readRecordingMasks` and `readRecordingStates` are zero over their full size
       pub read-refused : eqb (v .number) 0 ≡ false → ReadRecording text masks states (Refused (v .number)) m n
       unfolding readRecordingMasks readRecordingStates
       read-refused z =
@@ -83,6 +86,7 @@ module _ (text masks states : List ℕ) where
             statesLeft = rw read-number (left-zeroed (v .number) maxStates ((scanRecording text) .states) states states′ n (s .statesPast) (s .low) y (rw b at q));
           }
 
+      -- `read_recording`, accepted: `readRecordingAnswer` is C and N, masks and states are laid and then zeros
       pub read-accepted : eqb (v .number) 0 ≡ true → ReadRecording text masks states (Recording (v .controllers) (v .count)) m n
       unfolding readRecordingMasks readRecordingStates
       read-accepted x =

@@ -78,6 +78,7 @@ module _ (t : List ℕ) where
   recording-step h rest e = rw e
 
 module _ (text masks states : List ℕ) (l : Line) (is : FirstLine text l) (r : HeadingRead) (rs : r ≡ headingAnswer (recordingHeadingLine text)) where
+  -- `scan_recording`, the first line is refused: `scanRecording` stops there with its refusal
   pub heading-refused : (k : ℕ) (v : Scanned) → r ≡ first.Refused k → v ≡ record { number = k; controllers = 0; count = 0; «rest_at» = 0 } → RecordingScanned text masks states v masks states
   heading-refused k v e w =
       let u = unheaded text r rs k e in
@@ -102,6 +103,7 @@ module _ (text masks states : List ℕ) (l : Line) (is : FirstLine text l) (r : 
       masks-past =
           laid-past maxControllers (scanMasks C [] (drop (l .next) text) .words) masks masks′ (omega (arith, masks-few .most, limits .few)) (m .words)
 
+      -- `scan_recording`, a mask line is refused: `scanRecording` stops at that line
       pub masks-refused : (v : Scanned) → (owned .number ≡ 0 → ⊥) → v ≡ record { number = owned .number; controllers = 0; count = 0; «rest_at» = owned .at } → RecordingScanned text masks states v masks′ states
       masks-refused v z w =
           let d : scanRecording text ≡ recordingStop (scanMasks C [] (drop (l .next) text) .number) (scanMasks C [] (drop (l .next) text) .rest)
@@ -137,6 +139,7 @@ module _ (text masks states : List ℕ) (l : Line) (is : FirstLine text l) (r : 
           states-are : (scanRecording text) .states ≡ scanStates C masks′ N 0 0 (drop (owned .at) text) .words
           states-are = ap (λ (q : RecordingScan). q .states) whole
 
+          -- `scan_recording`, the masks are read: `scanRecording` ends as the state lines end
           pub recording-scanned : RecordingScanned text masks states (record { number = stopped .number; controllers = C; count = N; «rest_at» = stopped .at }) masks′ states′
           recording-scanned = record {
             number = number-is;

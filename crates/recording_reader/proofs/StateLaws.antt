@@ -32,6 +32,7 @@ unfolding stateAnswer
 is-read n s rest e = rw e
 
 -- ---- the form
+-- `mark_digits`: three digits or two are `markDigits`
 pub digits-is : (C r : ℕ) → r ≡ pick (ltb twoDigitControllers C) 3 2 → r ≡ markDigits C
 unfolding markDigits
 digits-is C r e = e
@@ -53,6 +54,7 @@ state-formed C s a b e = worded-made stateOf (hexadecimal (markDigits C)) (hexad
 
 -- ---- `next_state`
 module _ (C : ℕ) (masks : List ℕ) (k prior : ℕ) (t : List ℕ) (n : ℕ) (ns : n ≡ endRefusal recordingLines recordingForm t) where
+  -- `next_state`, no line, or one that is not closed: `stateLine` has that refusal
   pub state-unread : (n ≡ 0 → ⊥) → state.Refused n ≡ stateAnswer (stateLine C masks k prior t)
   state-unread z = is-refused (stateLine C masks k prior t) n (next-unread recordingLines recordingForm t n ns _ _ z)
 
@@ -64,6 +66,7 @@ module _ (C : ℕ) (masks : List ℕ) (k prior : ℕ) (t : List ℕ) (n : ℕ) (
     line : r ≡ exactPair (worded atWord (twoFields (hexadecimal (markDigits C)) (hexadecimal wordDigits) heading) (lineOf t))
     line = rw (line-part t len is, ws) at rs
 
+    -- `next_state`, another form: `stateLine` is refused by its form
     pub state-malformed : r ≡ pair.Malformed → state.Refused recordingForm ≡ stateAnswer (stateLine C masks k prior t)
     state-malformed x =
         is-refused (stateLine C masks k prior t) recordingForm
@@ -73,10 +76,12 @@ module _ (C : ℕ) (masks : List ℕ) (k prior : ℕ) (t : List ℕ) (n : ℕ) (
       form : stateForm C (lineOf t) ≡ formed s
       form = state-formed C (lineOf t) a b (exact-pair _ r a b line x) ∙ ap formed (sym ss)
 
+      -- `next_state`, a state that is refused: `stateLine` has the refusal of `stateRefusal`
       pub state-refused : (j ≡ 0 → ⊥) → state.Refused j ≡ stateAnswer (stateLine C masks k prior t)
       state-refused y =
           is-refused (stateLine C masks k prior t) j (next-denied recordingLines recordingForm (stateForm C) (stateRefusal C masks k prior) t closed s form j (sym js) y)
 
+      -- `next_state`, accepted: `stateLine` is the state of its marks and its word
       pub state-read : j ≡ 0 → state.State s ≡ stateAnswer (stateLine C masks k prior t)
       state-read y =
           is-read (stateLine C masks k prior t) s (restOf t)

@@ -40,6 +40,7 @@ heading-tests : (C N : ℕ) →
 unfolding recordingHeadingRefusal
 heading-tests C N = simp pick-and
 
+-- `heading_refusal`: the picks, one for each test, are `recordingHeadingRefusal`
 pub heading-is : (C N a b d r : ℕ) → a ≡ pick (leb N maxStates) accepted recordingLimits → b ≡ pick (leb 1 N) a recordingLimits →
     d ≡ pick (leb C maxControllers) b recordingLimits → r ≡ pick (leb 1 C) d recordingLimits → r ≡ recordingHeadingRefusal C N
 heading-is C N a b d r p q s t = cc (heading-tests C N)
@@ -52,9 +53,11 @@ heading-few C N r e z =
 
 -- ---- one state
 -- the code's shift loses nothing
+-- `state_limit`: the shifted word is `stateOf` the marks 2 ^ C and no atoms
 pub limit-is : (C : ℕ) → C ≤ maxControllers → 2 ^ 32 * 2 ^ C % 2 ^ 64 ≡ stateOf (2 ^ C) 0
 limit-is C h = let e : 2 ^ C ≤ 2 ^ maxControllers = pow-mono {i = C} {j = maxControllers} h in omega arith
 
+-- `step_refusal`: the pick by the limit, then by the output rule, is `stepRefusal`
 pub step-is : (limit s output r : ℕ) (broken : Bool) → output ≡ pick broken outputRule accepted → r ≡ pick (leb limit s) recordingLimits output → r ≡ stepRefusal limit s broken
 unfolding stepRefusal
 step-is limit s output r broken p q = cc
@@ -72,6 +75,7 @@ state-step : (C : ℕ) (masks : List ℕ) (k prior s : ℕ) →
 unfolding stateRefusal stepRefusal
 state-step C masks k prior s = rw (limit-marks (2 ^ C) s)
 
+-- `state_refusal`: the step of state k, by its limit and the output rule, is `stateRefusal`
 pub state-is : (C : ℕ) (masks : List ℕ) (k prior s limit r : ℕ) (broken : Bool) → limit ≡ stateOf (2 ^ C) 0 → broken ≡ outputBroken C masks prior s →
     r ≡ stepRefusal limit s (ltb 0 k && broken) → r ≡ stateRefusal C masks k prior s
 state-is C masks k prior s limit r broken l b e = e ∙ (rw (b, l) (sym (state-step C masks k prior s)))
@@ -83,6 +87,7 @@ pub record StatesLeft (C N : ℕ) (masks states : List ℕ) (prior held k : ℕ)
   pub left : statesRefusal C masks 0 0 (take N states) ≡ statesRefusal C masks k prior (take (N - k) (drop k states))
   pub rule : (s : ℕ) → heldChanged held prior s ≡ (ltb 0 k && outputBroken C masks prior s)
 
+-- `states_refusal`, before state 0: all of `statesRefusal` is left, and nothing is held
 pub states-start : (C N : ℕ) (masks states : List ℕ) → StatesLeft C N masks states 0 0 0
 unfolding heldChanged
 states-start C N masks states = let z : N - 0 ≡ N = omega arith in record { within = omega arith; left = rw z; rule = λ s. refl }
@@ -96,6 +101,7 @@ module _ (C N : ℕ) (masks states : List ℕ) (prior held k there : ℕ) (inv :
       go (yes l) = from-missing N states k (omega arith)
       go (no l) = from-end N states k (omega arith)
 
+  -- `states_refusal`, no state is left: `statesRefusal` is 0
   pub states-end : there ≤ k → 0 ≡ statesRefusal C masks 0 0 (take N states)
   unfolding statesRefusal
   states-end h = sym (inv .left ∙ rw (none-left h))
@@ -110,9 +116,11 @@ module _ (C N : ℕ) (masks states : List ℕ) (prior held k there : ℕ) (inv :
     unfolding statesRefusal
     one-left = inv .left ∙ rw (from-next N states k (omega arith) (omega arith), state-step C masks k prior (getD states k 0), ← here)
 
+    -- `states_refusal`, state k is refused: its number is `statesRefusal`
     pub states-refused : (r ≡ 0 → ⊥) → (number : ℕ) → number ≡ stateRefusal C masks k prior (getD states k 0) → number ≡ statesRefusal C masks 0 0 (take N states)
     states-refused z number n = n ∙ (state-step C masks k prior (getD states k 0) ∙ (sym here ∙ sym (one-left ∙ rw (or-else-stop r _ z))))
 
+    -- `states_refusal`, state k is accepted: `statesRefusal` is left from the next on, with what state k holds
     pub states-next : r ≡ 0 → C ≤ maxControllers → (low high top : List ℕ) →
         low ≡ heldGroup (take C masks) 0 → high ≡ heldGroup (take C masks) 4 → top ≡ heldGroup (take C masks) 8 →
         (marks held′ : ℕ) → marks ≡ marksOf (getD states k 0) → held′ ≡ heldAt C low high top marks → StatesLeft C N masks states (getD states k 0) held′ (k + 1)
@@ -144,14 +152,17 @@ module _ (C N : ℕ) (masks states : List ℕ) where
   abbrev recorded : Recording
   recorded = recordingOf C N masks states
 
+  -- `lines_refusal`: the pick by the masks, then by the states, is `recordingLinesRefusal`
   pub lines-is : (short r : ℕ) → short ≡ pick (ltb (length states) N) recordingLines accepted → r ≡ pick (ltb (length masks) C) recordingLines short → r ≡ recordingLinesRefusal recorded
   unfolding recordingLinesRefusal
   lines-is short r p q = cc (pick-or (ltb (length masks) C) (ltb (length states) N) recordingLines accepted)
 
+  -- `recording_refusal`, the heading is refused: its number is `recordingRefusal`
   pub recording-heading : (heading : ℕ) → heading ≡ recordingHeadingRefusal C N → (heading ≡ 0 → ⊥) → heading ≡ recordingRefusal recorded
   unfolding recordingRefusal
   recording-heading heading e z = rw (← e) (sym (or-else-stop heading _ z))
 
+  -- `recording_refusal`, the heading is accepted: the first number of the rest is `recordingRefusal`
   pub recording-is : (heading meeting refusal lines other r : ℕ) → heading ≡ recordingHeadingRefusal C N → heading ≡ 0 →
       meeting ≡ masksRefusal [] (take C masks) → refusal ≡ statesRefusal C masks 0 0 (take N states) →
       lines ≡ recordingLinesRefusal recorded → other ≡ orElse refusal lines → r ≡ orElse meeting other → r ≡ recordingRefusal recorded
@@ -161,6 +172,7 @@ module _ (C N : ℕ) (masks states : List ℕ) where
       sym (rw (← e, or-else-go heading _ z, ← m, ← t, ← l, ← o, ← f))
 
 -- ---- a controller of the recording
+-- `joined_refusal`: the recording's number, else the controller's, is `joinedRefusal`
 pub joining-is : (R : Recording) (c recording joining r : ℕ) → recording ≡ recordingRefusal R → joining ≡ pick (ltb c (R .controllers)) accepted noController →
     r ≡ orElse recording joining → r ≡ joinedRefusal R c
 unfolding controllerRefusal

@@ -121,10 +121,12 @@ broken-touched C masks prior s =
     C 0 (λ j a b. ap (λ (z : Bool). not (marked j prior) && z) (own-touched (atomsOf prior) (atomsOf s) (getD masks j 0))))
 
 -- ---- the tables
+-- `held_changed`: the test of the held atoms that differ is `heldChanged`
 pub changed-is : (held prior s a b : ℕ) → a ≡ atomsOf prior → b ≡ atomsOf s → not (eqb (bitAnd held (bitXor a b)) 0) ≡ heldChanged held prior s
 unfolding heldChanged
 changed-is held prior s a b p q = rw (p, q)
 
+-- `held_table`: the sixteen unions of four masks are `heldTable`
 pub table-is : (a b c d : ℕ) →
     (bitOr (bitOr (bitOr a b) c) d ∷ bitOr (bitOr b c) d ∷ bitOr (bitOr a c) d ∷ bitOr c d ∷ bitOr (bitOr a b) d ∷ bitOr b d ∷ bitOr a d ∷ d
     ∷ bitOr (bitOr a b) c ∷ bitOr b c ∷ bitOr a c ∷ c ∷ bitOr a b ∷ b ∷ a ∷ 0 ∷ []) ≡ heldTable a b c d
@@ -147,6 +149,7 @@ module _ (C : ℕ) (masks : List ℕ) (n : ℕ) (there : n ≡ min C (length mas
   pub part-length : n ≡ length (take n masks)
   part-length = omega (arith, length-take n masks)
 
+  -- `held_group`: the table of the four masks from `first` on is `heldGroup`
   pub group-is : (first a b c d : ℕ) (r : List ℕ) → a ≡ getD (take n masks) first 0 → b ≡ getD (take n masks) (first + 1) 0 →
       c ≡ getD (take n masks) (first + 2) 0 → d ≡ getD (take n masks) (first + 3) 0 → r ≡ heldTable a b c d → r ≡ heldGroup (take C masks) first
   unfolding heldGroup
@@ -155,6 +158,7 @@ module _ (C : ℕ) (masks : List ℕ) (n : ℕ) (there : n ≡ min C (length mas
       e ∙ rw (p, q, s, t, o)
 
 -- no controller from `first` on
+-- `held_top`, at most eight controllers: sixteen zeros are `heldGroup`
 pub group-none : (C : ℕ) (masks : List ℕ) (first : ℕ) → C ≤ first → replicate 16 0 ≡ heldGroup (take C masks) first
 unfolding heldGroup
 group-none C masks first h =
@@ -267,25 +271,30 @@ pub held-broken : (C : ℕ) (masks : List ℕ) (prior s : ℕ) → C ≤ maxCont
     (marks held : ℕ) → marks ≡ marksOf prior → held ≡ heldAt C low high top marks → heldChanged held prior s ≡ outputBroken C masks prior s
 held-broken C masks prior s few low high top l h t marks held m e = rw (e, l, h, t, m) (tables-broken C masks prior s few)
 
+-- `output_broken`: that an atom held by the prior state differs is `outputBroken`
 pub broken-is : (C : ℕ) (masks : List ℕ) (prior s marks held : ℕ) → marks ≡ marksOf prior → held ≡ heldBy C masks marks →
     (r : Bool) → r ≡ heldChanged held prior s → r ≡ outputBroken C masks prior s
 broken-is C masks prior s marks held m e r d = d ∙ rw (e, m) (masks-broken C masks prior s)
 
 -- ---- `held_at`
+-- `held_at`, at most eight controllers: two tables give `heldAt`
 pub at-few : (C : ℕ) (low high top : List ℕ) (marks : ℕ) → C ≤ 8 → bitOr (getD low (marks % 16) 0) (getD high (marks / 16 % 16) 0) ≡ heldAt C low high top marks
 unfolding heldAt pick
 at-few C low high top marks h = rw (le-leb C 8 h)
 
+-- `held_at`, more than eight controllers: three tables give `heldAt`
 pub at-many : (C : ℕ) (low high top : List ℕ) (marks : ℕ) → 8 < C →
     bitOr (bitOr (getD low (marks % 16) 0) (getD high (marks / 16 % 16) 0)) (getD top (marks / 256 % 16) 0) ≡ heldAt C low high top marks
 unfolding heldAt pick
 at-many C low high top marks h = rw (lt-leb C 8 h)
 
 -- ---- `held_by`
+-- `held_with`, the controller ran: `heldWith` is what was held
 pub with-ran : (held mask : ℕ) (ran : Bool) → ran ≡ true → held ≡ heldWith held mask ran
 unfolding heldWith pick
 with-ran held mask ran e = rw e
 
+-- `held_with`, the controller didn't run: `heldWith` has its mask too
 pub with-held : (held mask : ℕ) (ran : Bool) → ran ≡ false → bitOr held mask ≡ heldWith held mask ran
 unfolding heldWith pick
 with-held held mask ran e = rw e
@@ -295,6 +304,7 @@ pub record HeldLeft (C : ℕ) (masks : List ℕ) (marks held c : ℕ) : Type 0 w
   pub within : c ≤ C
   pub left : heldBy C masks marks ≡ heldFrom (C - c) c held masks marks
 
+-- `held_by`, before controller 0: all of `heldBy` is left
 pub by-start : (C : ℕ) (masks : List ℕ) (marks : ℕ) → HeldLeft C masks marks 0 0
 unfolding heldBy
 by-start C masks marks = let z : C - 0 ≡ C = omega arith in record { within = omega arith; left = rw z }
@@ -316,12 +326,14 @@ none-held (suc n) c held masks marks h =
     rw (List·getD-eq-default masks 0 h, or-zero-r held, pick-same (bitOf marks c) held) (none-held n (c + 1) held masks marks (omega arith))
 
 module _ (C : ℕ) (masks : List ℕ) (marks held c n : ℕ) (inv : HeldLeft C masks marks held c) (there : n ≡ min C (length masks)) where
+  -- `held_by`, a turn: with controller c, `heldBy` is left from the next one on
   pub by-next : c < n → (held′ : ℕ) → held′ ≡ heldWith held (getD masks c 0) (eqb (marks / 2 ^ c % 2) 1) → HeldLeft C masks marks held′ (c + 1)
   unfolding heldFrom bitOf
   by-next h held′ e =
       let one : C - c ≡ suc (C - (c + 1)) = omega arith in
       record { within = omega arith; left = inv .left ∙ rw (one, e) }
 
+  -- `held_by`, no mask is left: what is held is `heldBy`
   pub by-end : n ≤ c → held ≡ heldBy C masks marks
   by-end h = go (decLt c C)
     where

@@ -83,6 +83,7 @@ pick-not true x y = refl
 pick-not false x y = refl
 
 -- ---- each mask in its turn
+-- `mask_refusal`: the pick by the atoms in common is `unionRefusal`
 pub mask-is : (seen m r : ℕ) → r ≡ pick (eqb (bitAnd seen m) 0) accepted masksMeet → r ≡ unionRefusal seen m
 unfolding unionRefusal
 mask-is seen m r e = e ∙ sym (pick-not (eqb (bitAnd seen m) 0) masksMeet accepted)
@@ -92,24 +93,29 @@ pub record MasksLeft (C : ℕ) (masks : List ℕ) (seen c : ℕ) : Type 0 where
   pub within : c ≤ C
   pub left : masksRefusal [] (take C masks) ≡ unionsRefusal seen (take (C - c) (drop c masks))
 
+-- `masks_refusal`, before mask 0: all of `masksRefusal` is left
 pub masks-start : (C : ℕ) (masks : List ℕ) → MasksLeft C masks 0 0
 unfolding unionOf
 masks-start C masks = let z : C - 0 ≡ C = omega arith in record { within = omega arith; left = rw z (masks-union [] (take C masks)) }
 
 module _ (C : ℕ) (masks : List ℕ) (seen c : ℕ) (inv : MasksLeft C masks seen c) where
+  -- `masks_refusal`, mask c is missing: `masksRefusal` is 0
   pub masks-missing : length masks ≤ c → 0 ≡ masksRefusal [] (take C masks)
   unfolding unionsRefusal
   masks-missing h = sym (inv .left ∙ rw (from-missing C masks c h))
 
+  -- `masks_refusal`, no mask is left: `masksRefusal` is 0
   pub masks-end : C ≤ c → 0 ≡ masksRefusal [] (take C masks)
   unfolding unionsRefusal
   masks-end h = sym (inv .left ∙ rw (from-end C masks c h))
 
   module _ (h : c < C) (l : c < length masks) (r : ℕ) (e : r ≡ unionRefusal seen (getD masks c 0)) where
+    -- `masks_refusal`, mask c meets an earlier one: its number is `masksRefusal`
     pub masks-refused : (r ≡ 0 → ⊥) → r ≡ masksRefusal [] (take C masks)
     unfolding unionsRefusal
     masks-refused z = sym (inv .left ∙ rw (from-next C masks c h l, ← e, or-else-stop r _ z))
 
+    -- `masks_refusal`, mask c meets none: `masksRefusal` is left from the next mask on
     pub masks-next : r ≡ 0 → MasksLeft C masks (bitOr seen (getD masks c 0)) (c + 1)
     unfolding unionsRefusal
     masks-next z = record { within = omega arith; left = inv .left ∙ rw (from-next C masks c h l, ← e, or-else-go r _ z) }

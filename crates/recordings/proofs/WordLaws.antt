@@ -10,6 +10,7 @@ use Rattle.definitions.specs.Bounded.{bitOf}
 use Rattle.definitions.specs.Recordings.{Recording, marked, maskOf}
 use Rattle.mark_words.proofs.WordLaws.{bit-shr}
 
+-- `mask_at`, mask c is missing: 0 is its entry (`getD`)
 pub mask-none : (masks : List ℕ) (c : ℕ) → length masks ≤ c → 0 ≡ getD masks c 0
 mask-none masks c h = sym (List·getD-eq-default masks 0 h)
 
@@ -17,6 +18,7 @@ pub own-mask : (R : Recording) (c : ℕ) → c < R .controllers → getD (R .mas
 own-mask R c h = sym (getD-take (R .controllers) (R .masks) c 0 h)
 
 -- the run mark as a bit of the state's word
+-- `marked`: the lowest bit after the shift is `marked` of the definitions
 pub marked-shifted : (c s : ℕ) → eqb (s / 2 ^ (atomCount + c) % 2) 1 ≡ marked c s
 unfolding bitOf
 marked-shifted c s = sym (bit-shr c atomCount s)

@@ -40,6 +40,7 @@ module _ (rule recording nodes masks states nodes′ masks′ states′ : List �
   unfolding readJointPart pick
   found-part = j .part ∙ rw (number-is, ne-eqb (jointNumber rule recording) lentShort (λ q. omega (arith, joint-low rule recording)))
 
+  -- `in_tables`, accepted: `textsLine` is nowhere
   pub accepted-nowhere : f .number ≡ 0 → Nowhere ≡ textsLine rule recording
   unfolding textsLine pick
   accepted-nowhere z = rw (eq-eqb (jointNumber rule recording) 0 (sym found-number ∙ z))
@@ -54,6 +55,7 @@ module _ (rule recording nodes masks states nodes′ masks′ states′ : List �
       unfolding pick
       rule-start = record { inside = omega (arith, rw o at (j .inside)); small = can .texts .ruleFits }
 
+      -- `in_tables`, the rule's text: `textsLine` is the number of its refused line
       pub rule-line : (n : ℕ) → n ≡ lineNumber (f .from) rule → OfRule n ≡ textsLine rule recording
       unfolding partLine pick
       rule-line n e = rw e (rw o at refused-part)
@@ -63,6 +65,7 @@ module _ (rule recording nodes masks states nodes′ masks′ states′ : List �
       unfolding pick
       recording-start = record { inside = omega (arith, rw o at (j .inside)); small = can .texts .recordingFits }
 
+      -- `in_tables`, the recording's text: `textsLine` is the number of its refused line
       pub recording-line : (n : ℕ) → n ≡ lineNumber (f .from) recording → OfRecording n ≡ textsLine rule recording
       unfolding partLine pick
       recording-line n e = rw e (rw o at refused-part)
@@ -71,11 +74,13 @@ pub ruleset table-laws = (needs, accepted-nowhere, rule-start, rule-line, record
 
 -- ---- `refused_line`
 module _ (input : List ℕ) where
+  -- `refused_line`, an input too long: `inputLine` is nowhere
   pub long-nowhere : maxInputBytes < length input → Nowhere ≡ inputLine input
   unfolding inputLine pick
   long-nowhere h = rw (lt-ltb maxInputBytes (length input) h)
 
   module _ (short : length input ≤ maxInputBytes) (s : Parts) (is : SplitAt input s) where
+    -- `refused_line`, the input is split: `inputLine` is `textsLine` of its two texts
     pub texts-line : (r : Line) → r ≡ textsLine (take (s .«rule_end») input) (take (length input - s .«recording_at») (drop (s .«recording_at») input)) → r ≡ inputLine input
     unfolding inputLine pick
     texts-line r e = e ∙ rw (le-ltb maxInputBytes (length input) short, part-to-end input (s .«recording_at»), is .rule, is .recording)

@@ -95,6 +95,7 @@ module _ (x y r : RefT (List ℕ)) (nodes masks states nodes′ masks′ states�
     refusal-room =
         omega (arith, room .textRoom, refused-length (getD heading 0 0) (r .now) (omega (arith, first-is, joint-low (x .now) (y .now))) line-fits)
 
+    -- `judge_texts`, refused: the number and the line printed are `textsOutput`
     pub refusal-printed : (e : ℕ) (text′ : List ℕ) → Printed (refusedText (getD heading 0 0) (r .now)) text 0 e text′
         → Printed (textsOutput (x .now) (y .now)) text 0 e text′
     unfolding textsOutput pick
@@ -176,6 +177,7 @@ module _ (x y r : RefT (List ℕ)) (nodes masks states nodes′ masks′ states�
       as-texts e text′ p = rw (← text-is) p
 
 -- the premises in the order in which each shows what the next is of
+-- `judge_texts`, accepted: the report printed is `textsOutput`
 pub judged-printed : (x y r : RefT (List ℕ)) (nodes masks states nodes′ masks′ states′ heading text : List ℕ) (v : Report) (e : ℕ) (text′ : List ℕ) →
     Printed (reportText v) text 0 e text′ → ReportIs (foundRule heading nodes′) (foundRecording heading masks′ states′) v →
     ReadJoint x y nodes masks states r nodes′ masks′ states′ heading → TextsRoom (x .now) (y .now) text →
@@ -188,6 +190,7 @@ pub ruleset read-laws = (needs, refusal-room, refusal-printed, tables-found, rep
 
 -- ---- `judge_found`
 module _ (heading nodes masks states : List ℕ) (f : Found heading nodes masks states) where
+  -- `judge_found`, these three: a part that is taken is as long as the heading says
   pub nodes-counted : getD heading 2 0 ≡ length (take (getD heading 2 0) nodes)
   nodes-counted = sym (length-take-le (getD heading 2 0) nodes (f .nodesThere))
 

@@ -27,17 +27,21 @@ module _ (v : Verdicts) (bs : List ℕ) (n : ℕ) (there : n ≤ length bs) wher
   unfolding verdictsEnd
   ends w s p q t = record { there = there; same = rw (p, q) t }
 
+  -- `end_of`, both yes: the ending is `verdictsEnd`
   pub yes-yes : (v .weak && v .strong) ≡ true → take n bs ≡ bytes "\tyes\tyes\n" → Ends (verdictsEnd v) (record { bytes = bs; count = n })
   yes-yes e t = by-test (v .weak)
       (λ p. ends true true p (rw p at e) t)
       (λ p. absurd (true≢false (sym (rw p at e))))
 
+  -- `end_of`, weak yes and strong no: the ending is `verdictsEnd`
   pub yes-no : v .weak ≡ true → (v .weak && v .strong) ≡ false → take n bs ≡ bytes "\tyes\tno\n" → Ends (verdictsEnd v) (record { bytes = bs; count = n })
   yes-no p e t = ends true false p (rw p at e) t
 
+  -- `end_of`, weak no and strong yes: the ending is `verdictsEnd`
   pub no-yes : v .weak ≡ false → v .strong ≡ true → take n bs ≡ bytes "\tno\tyes\n" → Ends (verdictsEnd v) (record { bytes = bs; count = n })
   no-yes p q t = ends false true p q t
 
+  -- `end_of`, both no: the ending is `verdictsEnd`
   pub no-no : v .weak ≡ false → v .strong ≡ false → take n bs ≡ bytes "\tno\tno\n" → Ends (verdictsEnd v) (record { bytes = bs; count = n })
   no-no p q t = ends false false p q t
 
@@ -60,6 +64,7 @@ module _ (v : Verdicts) (o : List ℕ) (at : ℕ) (room : at + length (ownLine v
     pub own-end : length o′ ≡ length o → p + length (take (e .count) (e .bytes)) ≤ length o′
     own-end kept = rw (ended .same) (rest-room ownWord (verdictsEnd v) o at own-parts o′ p word kept)
 
+    -- `put_own`: the word and the ending are `ownLine`
     pub own-written : (o″ : List ℕ) (q : ℕ) → Printed (take (e .count) (e .bytes)) o′ p q o″ → Printed (ownLine v) o at q o″
     unfolding ownLine
     own-written o″ q last = both ownWord (verdictsEnd v) o at own-parts o′ p word o″ q (rw (ended .same) at last)
@@ -72,6 +77,7 @@ module _ (word : List ℕ) (r : Rewritten) (e : Ending) (ended : Ends (verdictsE
   unfolding rewrittenLine
   rewritten-room room = rw (ended .same) room
 
+  -- `put_rewritten`: the word, the count and the ending are `rewrittenLine`
   pub rewritten-written : (o′ : List ℕ) (q : ℕ) → Printed (countedLine word (r .count) (take (e .count) (e .bytes))) o at q o′ → Printed (rewrittenLine word r) o at q o′
   unfolding rewrittenLine
   rewritten-written o′ q p = rw (ended .same) at p
@@ -112,6 +118,7 @@ module _ (v : Report) (o : List ℕ) (room : length (reportText v) ≤ length o)
         pub report-short : length o₃ ≡ length o₂ → r + length (rewrittenLine shortWord (v .short)) ≤ length o₃
         report-short kept₃ = rest-room (rewrittenLine plainWord (v .plain)) (rewrittenLine shortWord (v .short)) o₂ q report-last o₃ r three kept₃
 
+        -- `put_report`: the four lines are `reportText`
         pub report-written : (o₄ : List ℕ) (e : ℕ) → Printed (rewrittenLine shortWord (v .short)) o₃ r e o₄ → Printed (reportText v) o 0 e o₄
         unfolding reportText
         report-written o₄ e four =
@@ -144,6 +151,7 @@ module _ (n : ℕ) (line o : List ℕ) (room : length (refusedText n line) ≤ l
       pub refused-end : length o₂ ≡ length o₁ → q < length o₂
       refused-end kept₂ = omega (arith, rest-room line (newline ∷ []) o₁ p refused-left o₂ q two kept₂)
 
+      -- `put_refused`: the number, the line and the end of line are `refusedText`
       pub refused-written : (o₃ : List ℕ) (e : ℕ) → Printed (newline ∷ []) o₂ q e o₃ → Printed (refusedText n line) o 0 e o₃
       refused-written o₃ e three =
           rw refused-is (both (countedLine refusedWord n (tab ∷ [])) (line ++ (newline ∷ [])) o 0 refused-parts o₁ p one o₃ e

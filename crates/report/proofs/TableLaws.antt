@@ -113,6 +113,7 @@ module _ (r : Rule) (R : Recording) (A : Accepted r R) (v : Report) where
           rewritten-length shortWord (v .short) (omega (arith, short .count, few true)),
         )
 
+-- `judge_tables`: the report of these values is `judgedText`, and it fits
 pub reported : (c k : ℕ) (nodes : List ℕ) (C N : ℕ) (masks states : List ℕ) → Accepted (ruleOf c k nodes) (recordingOf C N masks states) →
     (l : LocalTrace) → TraceIs (recordingOf C N masks states) c l → (own : Verdicts) → meant own ≡ verdictsOn (ruleOf c k nodes) l →
     (plain short : Rewritten) → RewrittenIs false (ruleOf c k nodes) (recordingOf C N masks states) plain → RewrittenIs true (ruleOf c k nodes) (recordingOf C N masks states) short →

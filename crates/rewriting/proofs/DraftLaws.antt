@@ -122,6 +122,7 @@ getD-none zero a d = refl
 getD-none (suc n) zero d = refl
 getD-none (suc n) (suc a) d = getD-none n a d
 
+-- `draw_images`, before node 0: the table holds the opening, and no image is drawn (`Drafting`)
 pub drafting-start : (short : Bool) (mask count : ℕ) (ws o o′ : List ℕ) (at : ℕ) → Ruled count ws → maxTableNodes ≤ length o → Holds opening o at o′ →
     Drafting short mask count ws o′ 0 at (replicate 64 nothing) nothing o′
 drafting-start short mask count ws o o′ at r room h = record {
@@ -268,6 +269,7 @@ module _ (short : Bool) (mask count : ℕ) (ws o : List ℕ) (i at : ℕ) (I : L
     below true = omega (arith, s .grown)
     below false = omega arith
 
+    -- `draw_images`, a turn: the images of node i are drawn and kept (`steps`, `Drafting`)
     pub drafting-next : Drafting short mask count ws o (i + 1) (r .strong + 1) (set I i r) r o″
     drafting-next =
         let k : i < maxRuleNodes = omega (arith, d .few) in
@@ -289,6 +291,7 @@ module _ (short : Bool) (mask count : ℕ) (ws o : List ℕ) (i at : ℕ) (I : L
           last = sym (rw z (getD-at is (meant r) [] noImage i (d .sizes)));
         }
 
+-- `draw_images`, no node is left: the table holds the rule's draft (`draftOf`, `Drawn`)
 pub drafting-done : (short : Bool) (mask count : ℕ) (ws o o₀ : List ℕ) (m i at : ℕ) (I : List Image) (L : Image) (o′ : List ℕ) →
     Holds opening o m o₀ → Drafting short mask count ws o₀ i at I L o′ → count ≤ i → Drawn short mask count ws o (record { at = at; last = L }) o′
 drafting-done short mask count ws o o₀ m i at I L o′ b d h =

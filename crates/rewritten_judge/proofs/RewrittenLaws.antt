@@ -72,6 +72,7 @@ module _ (r : Rule) (R : Recording) (A : Accepted r R) where
     nodes-are : nodesIn (t .count) table′ ≡ W .nodes
     nodes-are = rw (held .count, words) (rewritten-nodes short r (maskOf R (r .controller)) more (A .rule))
 
+    -- `judge_rewriting`: the count of `rewrittenFor`, and the rule's `ownVerdicts` (`RewrittenIs`)
     pub rewriting-judged : (v : Verdicts) (rows′ : List ℕ) →
         WholeVerdicts (tableOf (t .count) table′ (t .weak) (t .strong)) (R .count) (R .states) (r .controller) rows v rows′ →
         RewrittenIs short r R (record { count = t .count; verdicts = v })

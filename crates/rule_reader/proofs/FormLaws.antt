@@ -37,14 +37,17 @@ zero-capped = sym (cap-within 0 (omega arith))
 
 -- ---- `operand_fields`
 module _ (s : List ℕ) (uses i : ℕ) (is : i ≡ before tab s) where
+  -- `operand_fields`, no operand and a tab: `operandFields` is malformed
   pub none-tab : uses ≡ 0 → i < length s → pair.Malformed ≡ cappedPair (operandFields uses s)
   unfolding operandFields cappedPair pick
   none-tab z h = rw (z, has-yes tab s i is h)
 
+  -- `operand_fields`, no operand and no tab: `operandFields` is two zeros
   pub none-read : uses ≡ 0 → length s ≤ i → pair.Numbers 0 0 ≡ cappedPair (operandFields uses s)
   unfolding operandFields cappedPair pick
   none-read z h = rw (z, has-no tab s i is h, zero-capped)
 
+  -- `operand_fields`, an operand and no tab: `operandFields` is malformed
   pub some-missed : (uses ≡ 0 → ⊥) → length s ≤ i → pair.Malformed ≡ cappedPair (operandFields uses s)
   unfolding operandFields cappedPair pick
   some-missed z h = rw (ne-eqb uses 0 z, has-no tab s i is h)
@@ -54,6 +57,7 @@ module _ (s : List ℕ) (uses i : ℕ) (is : i ≡ before tab s) where
       field-is : f ≡ capped (decimal (after tab s))
       field-is = rw (after-part tab s i is t ts) at e
 
+      -- `operand_fields`, one operand that is no number: `operandFields` is malformed
       pub one-malformed : f ≡ field.Malformed → pair.Malformed ≡ cappedPair (operandFields uses s)
       unfolding operandFields cappedPair pick onParsed
       one-malformed x = rw (u, has-yes tab s i is h, capped-malformed (decimal (after tab s)) f field-is x)
@@ -62,9 +66,11 @@ module _ (s : List ℕ) (uses i : ℕ) (is : i ≡ before tab s) where
       unfolding operandFields cappedPair pick onParsed
       one-is a m d q = rw (u, has-yes tab s i is h, d, q, zero-capped)
 
+      -- `operand_fields`, one operand: `operandFields` is that number, capped, and zero
       pub one-read : (a : ℕ) → f ≡ field.Number a → pair.Numbers a 0 ≡ cappedPair (operandFields uses s)
       one-read a x = let q = capped-read (decimal (after tab s)) f a field-is x in one-is a (q .number) (q .is) (q .answered)
 
+    -- `operand_fields`, two operands: `operandFields` is the two numbers behind the tab
     pub two-read : (uses ≡ 0 → ⊥) → (uses ≡ 1 → ⊥) → (p : Pair) → p ≡ cappedPair (twoFields decimal decimal heading t) → p ≡ cappedPair (operandFields uses s)
     unfolding operandFields pick
     two-read z y p e = e ∙ rw (after-part tab s i is t ts, ne-eqb uses 0 z, ne-eqb uses 1 y, has-yes tab s i is h)
@@ -107,9 +113,11 @@ module _ (k : ℕ) (s : List ℕ) (uses : ℕ) (us : uses ≡ operands (kindOf k
   fields : r ≡ cappedPair (operandFields (operands (kindOf k)) s)
   fields = rw us at rs
 
+  -- `known_form`, the operands are malformed: `operandsForm` is malformed
   pub known-malformed : r ≡ pair.Malformed → malformed ≡ cappedForm (operandsForm (kindOf k) s)
   known-malformed x = known-not (kindOf k) s (pair-malformed (operandFields (operands (kindOf k)) s) r fields x)
 
+  -- `known_form`, the operands are read: `operandsForm` is the node of the kind, capped
   pub known-read : (a b : ℕ) (n : Node) → r ≡ pair.Numbers a b → Built (kindOf k) a b n → formed (meaning n) ≡ cappedForm (operandsForm (kindOf k) s)
   known-read a b n x m =
       let q = pair-read (operandFields (operands (kindOf k)) s) r a b fields x in
@@ -124,6 +132,7 @@ module _ (s : List ℕ) (i : ℕ) (is : i ≡ before tab s) where
   word-length : length (upTo tab s) ≡ i
   word-length = rw (← up-to-part tab s i is) (sym (part-counts tab s i is))
 
+  -- `unknown_form`, no word: `unknownForm` is malformed
   pub unknown-empty : i ≡ 0 → malformed ≡ cappedForm (unknownForm s)
   unfolding unknownForm cappedForm pick
   unknown-empty z = rw (empty-yes (upTo tab s) (word-length ∙ z))
@@ -135,11 +144,13 @@ module _ (s : List ℕ) (i : ℕ) (is : i ≡ before tab s) where
     word : letters (upTo tab s) ≡ r
     word = sym (rw (up-to-part tab s i is) at rs)
 
+    -- `unknown_form`, a word that is not of letters: `unknownForm` is malformed
     pub unknown-word : r ≡ false → malformed ≡ cappedForm (unknownForm s)
     unfolding unknownForm cappedForm pick
     unknown-word f = rw (some, word, f)
 
     module _ (t : r ≡ true) (j : ℕ) (js : j ≡ before carriageReturn s) where
+      -- `unknown_form`, a carriage return in the line: `unknownForm` is malformed
       pub unknown-return : j < length s → malformed ≡ cappedForm (unknownForm s)
       unfolding unknownForm cappedForm pick
       unknown-return h = rw (some, word, t, ← js, lt-ltb j (length s) h)
@@ -148,6 +159,7 @@ module _ (s : List ℕ) (i : ℕ) (is : i ≡ before tab s) where
       unfolding unknownForm cappedForm pick
       unknown-is h = rw (some, word, t, ← js, le-ltb j (length s) h, zero-capped)
 
+      -- `unknown_form`, letters and no carriage return: `unknownForm` is a node of unknown kind
       pub unknown-read : (n : Node) → OfWord 10 n → length s ≤ j → formed (meaning n) ≡ cappedForm (unknownForm s)
       unfolding kindOf pick
       unknown-read n m h = ap formed (m .meant) ∙ unknown-is h
@@ -159,10 +171,12 @@ module _ (s : List ℕ) (i k : ℕ) (is : i ≡ before tab s) (ks : k ≡ kindNu
   kind-is : wordKind (upTo tab s) ≡ kindOf k
   kind-is = sym (rw (ks, kind-of-number (wordKind (take i s)), up-to-part tab s i is))
 
+  -- `node_form`, an unknown word: `nodeForm` is `unknownForm`
   pub line-unknown : u ≡ true → meant r ≡ cappedForm (unknownForm s) → meant r ≡ cappedForm (nodeForm s)
   unfolding nodeForm pick
   line-unknown t e = e ∙ rw (kind-is, ← us, t)
 
+  -- `node_form`, the word of a kind: `nodeForm` is `operandsForm` of that kind
   pub line-known : u ≡ false → meant r ≡ cappedForm (operandsForm (kindOf k) s) → meant r ≡ cappedForm (nodeForm s)
   unfolding nodeForm pick
   line-known t e = e ∙ rw (kind-is, ← us, t)

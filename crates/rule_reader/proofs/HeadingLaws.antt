@@ -44,6 +44,7 @@ is-read n h rest e = rw e
 
 -- ---- `next_heading`
 module _ (t : List ℕ) (n : ℕ) (ns : n ≡ endRefusal ruleLines ruleForm t) where
+  -- `next_heading`, no line, or one that is not closed: `ruleHeadingLine` has that refusal
   pub heading-unread : (n ≡ 0 → ⊥) → first.Refused n ≡ headingAnswer (ruleHeadingLine t)
   heading-unread z = is-refused (ruleHeadingLine t) n (next-unread ruleLines ruleForm t n ns _ _ z)
 
@@ -54,13 +55,16 @@ module _ (t : List ℕ) (n : ℕ) (ns : n ≡ endRefusal ruleLines ruleForm t) w
     line : r ≡ cappedPair (headingForm ruleWord (lineOf t))
     line = rw (line-part t len is) at rs
 
+    -- `next_heading`, another form: `ruleHeadingLine` is refused by its form
     pub heading-malformed : r ≡ pair.Malformed → first.Refused ruleForm ≡ headingAnswer (ruleHeadingLine t)
     heading-malformed x = is-refused (ruleHeadingLine t) ruleForm (first-malformed ruleLines ruleForm ruleWord ruleHeadingRefusal caps t closed r line x)
 
     module _ (c m : ℕ) (x : r ≡ pair.Numbers c m) (k : ℕ) (ks : k ≡ ruleHeadingRefusal c m) where
+      -- `next_heading`, a controller or count that is refused: `ruleHeadingLine` has that refusal
       pub heading-refused : (k ≡ 0 → ⊥) → first.Refused k ≡ headingAnswer (ruleHeadingLine t)
       heading-refused y = is-refused (ruleHeadingLine t) k (first-denied ruleLines ruleForm ruleWord ruleHeadingRefusal caps t closed r line c m x k (sym ks) y)
 
+      -- `next_heading`, accepted: `ruleHeadingLine` is the controller and the count
       pub heading-read : k ≡ 0 → first.Heading c m ≡ headingAnswer (ruleHeadingLine t)
       heading-read y =
           is-read (ruleHeadingLine t) (heading c m) (restOf t) (first-read ruleLines ruleForm ruleWord ruleHeadingRefusal caps t closed r line c m x (sym ks ∙ y))

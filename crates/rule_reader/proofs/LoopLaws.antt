@@ -56,6 +56,7 @@ pub record NodesLeft (count start : ℕ) (text o o′ : List ℕ) (at i : ℕ) :
   pub within : i ≤ count
   pub lines : Lines (scanNodes count 0 (drop start text)) text o o′ at i (scanNodes (count - i) i (drop at text))
 
+-- `scan_nodes`, before the first turn: all of `scanNodes` is left
 pub nodes-start : (count start : ℕ) (text o : List ℕ) → start ≤ length text → NodesLeft count start text o o start 0
 nodes-start count start text o h =
     let z : count - 0 ≡ count = omega arith in
@@ -68,6 +69,7 @@ module _ (count start : ℕ) (text o o′ : List ℕ) (at i : ℕ) (inv : NodesL
       (λ y. e ∙ (pick-true _ _ _ y ∙ sym (pick-false _ _ _ (empty-no (drop at text) (λ q. omega (arith, length-drop at text, ltb-true at (length text) y))))))
       (λ y. e ∙ (pick-false _ _ _ y ∙ sym (pick-true _ _ _ (empty-yes (drop at text) (omega (arith, length-drop at text, ltb-false at (length text) y))))))
 
+  -- `scan_nodes`, all nodes are read: `scanNodes` is accepted, or refused where bytes are left
   pub nodes-done : (n : ℕ) → n ≡ pick (ltb at (length text)) ruleLines accepted → count ≤ i
       → LinesScanned (scanNodes count 0 (drop start text)) text o (record { number = n; at = at }) o′
   nodes-done n e h =
@@ -84,6 +86,7 @@ module _ (count start : ℕ) (text o o′ : List ℕ) (at i : ℕ) (inv : NodesL
     answer : r ≡ nodeAnswer (nodeLine i (drop at text))
     answer = rw (part-to-end text at) at rs
 
+    -- `scan_nodes`, a refused line: `scanNodes` stops at that line with its refusal
     pub nodes-refused : (k : ℕ) → r ≡ Refused k → LinesScanned (scanNodes count 0 (drop start text)) text o (record { number = k; at = at }) o′
     nodes-refused k e =
         lines-stop _ text o o′ at i _ (inv .lines) k
@@ -102,6 +105,7 @@ module _ (count start : ℕ) (text o o′ : List ℕ) (at i : ℕ) (inv : NodesL
       step : scanNodes (count - i) i (drop at text) ≡ more w (scanNodes (count - (i + 1)) (i + 1) (drop (at + l .next) text))
       step = rw (one-fewer, ← after-line text at l ends, ← given .word) (nodes-step (count - (i + 1)) i (drop at text) (given .item) (restOf (drop at text)) (given .is))
 
+      -- `scan_nodes`, a turn: `scanNodes` has one word more, and goes on at the next line
       pub nodes-next : NodesLeft count start text o (set o′ i w) (at + l .next) (i + 1)
       nodes-next = record { within = omega arith; lines = lines-next _ text o o′ at i _ (inv .lines) w (at + l .next) _ step (omega arith) node-inside }
 

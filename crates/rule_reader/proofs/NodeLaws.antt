@@ -83,6 +83,7 @@ is-read n m rest e = rw e
 
 -- ---- `next_node`
 module _ (i : ℕ) (t : List ℕ) (n : ℕ) (ns : n ≡ endRefusal ruleLines ruleForm t) where
+  -- `next_node`, no line, or one that is not closed: `nodeLine` has that refusal
   pub node-unread : (n ≡ 0 → ⊥) → Refused n ≡ nodeAnswer (nodeLine i t)
   node-unread z = is-refused (nodeLine i t) n (next-unread ruleLines ruleForm t n ns _ _ z)
 
@@ -93,6 +94,7 @@ module _ (i : ℕ) (t : List ℕ) (n : ℕ) (ns : n ≡ endRefusal ruleLines rul
     line : meant l ≡ cappedForm (nodeForm (lineOf t))
     line = rw (line-part t len is) at e
 
+    -- `next_node`, another form: `nodeLine` is refused by its form
     pub node-malformed : l ≡ Malformed → Refused ruleForm ≡ nodeAnswer (nodeLine i t)
     node-malformed h =
         is-refused (nodeLine i t) ruleForm (next-malformed ruleLines ruleForm nodeForm (nodeRefusal false i) t closed (form-not (nodeForm (lineOf t)) (rw h at line)))
@@ -104,6 +106,7 @@ module _ (i : ℕ) (t : List ℕ) (n : ℕ) (ns : n ≡ endRefusal ruleLines rul
       the-refusal : nodeRefusal false i (form .value) ≡ k
       the-refusal = sym (cap-refusal i (form .value) few) ∙ (ap (nodeRefusal false i) (sym (form .same)) ∙ sym ks)
 
+      -- `next_node`, a node that is refused: `nodeLine` has the refusal of `nodeRefusal`
       pub node-refused : (k ≡ 0 → ⊥) → Refused k ≡ nodeAnswer (nodeLine i t)
       node-refused z =
           is-refused (nodeLine i t) k (next-denied ruleLines ruleForm nodeForm (nodeRefusal false i) t closed (form .value) (form .read) k the-refusal z)
@@ -134,6 +137,7 @@ module _ (i : ℕ) (t : List ℕ) (n : ℕ) (ns : n ≡ endRefusal ruleLines rul
             let b : cap (v .second) ≡ v .second = sym (cap-within (v .second) (omega (arith, second-below i v value-fine few))) in
             form .same ∙ rw (a, b)
 
+        -- `next_node`, accepted: `nodeLine` is the node of that word
         pub node-read : (w : ℕ) → w ≡ nodeWord (meaning m) → Word w ≡ nodeAnswer (nodeLine i t)
         node-read w ws =
             ap Word (ws ∙ ap nodeWord exactly)

@@ -54,6 +54,7 @@ rule-low t =
     on-next (λ (s : RuleScan). s .number < noController) (ruleHeadingLine t) _ _ (λ k e. first-low t k e) (λ h rest e. nodes-counted (h .second) 0 rest .low)
 
 module _ (t o : List ℕ) (l : Line) (is : FirstLine t l) (r : HeadingRead) (rs : r ≡ headingAnswer (ruleHeadingLine t)) where
+  -- `scan_rule`, the first line is refused: `scanRule` stops there with its refusal
   pub rule-unheaded : (k : ℕ) (v : Scanned) → r ≡ first.Refused k → v ≡ record { number = k; controller = 0; count = 0; «rest_at» = 0 } → RuleScanned t o v o
   rule-unheaded k v e w =
       let u = unheaded t r rs k e in
@@ -90,6 +91,7 @@ module _ (t o : List ℕ) (l : Line) (is : FirstLine t l) (r : HeadingRead) (rs 
       rest-is : drop (v .at) t ≡ (scanRule t) .rest
       rest-is = m .rest ∙ sym (ap (λ (q : RuleScan). q .rest) whole)
 
+      -- `scan_rule`, the first line is read: `scanRule` ends as the node lines end
       pub rule-scanned : RuleScanned t o (record { number = v .number; controller = c; count = n; «rest_at» = v .at }) o′
       rule-scanned = record {
         number = m .number ∙ sym (ap (λ (q : RuleScan). q .number) whole);
@@ -117,6 +119,7 @@ module _ (t o : List ℕ) where
   unfolding readRuleNumber pick
   number-scanned h = rw (le-ltb (length o) maxRuleNodes h)
 
+  -- `read_rule`, 13: `readRuleNodes` is what was lent
   pub read-short : length o < maxRuleNodes → ReadRule t o (Refused lentShort) o
   unfolding readRuleAnswer readRuleNodes
   read-short h =
@@ -140,6 +143,7 @@ module _ (t o : List ℕ) where
     read-fits = by-test (eqb (r .number) 0) (λ z. omega (arith, all-kept z, s .few)) (λ z. omega (arith, none-kept z))
 
     module _ (o″ : List ℕ) (c : o″ ≡ cleared o′ k maxRuleNodes) where
+      -- `read_rule`, another refusal: `readRuleNodes` is zero over its full size
       pub read-refused : eqb (r .number) 0 ≡ false → ReadRule t o (Refused (r .number)) o″
       unfolding readRuleAnswer readRuleNodes
       read-refused z =
@@ -149,6 +153,7 @@ module _ (t o : List ℕ) where
             nodes = rw is (left-zeroed (r .number) maxRuleNodes ((scanRule t) .words) o o′ o″ (s .nodesPast) (s .low) y (rw (none-kept z) at c));
           }
 
+      -- `read_rule`, accepted: `readRuleAnswer` is controller and count, `readRuleNodes` the words and then zeros
       pub read-accepted : eqb (r .number) 0 ≡ true → ReadRule t o (Rule (r .controller) (r .count)) o″
       unfolding readRuleAnswer readRuleNodes
       read-accepted z =

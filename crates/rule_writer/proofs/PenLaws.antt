@@ -35,6 +35,7 @@ module _ (k : Kind) (r : Word) (w : WordIs k r) where
   pub word-room : (at n : ℕ) → at + length (kindWord k) ≤ n → at + length (take (r .1) (r .0)) ≤ n
   word-room at n h = omega (arith, w .size, word-counts)
 
+  -- `put_kind`: the letters of the word that was taken are `kindWord`
   pub word-written : (o o′ : List ℕ) (at e : ℕ) → Printed (take (r .1) (r .0)) o at e o′ → Printed (kindWord k) o at e o′
   word-written o o′ at e p = rw (w .same) at p
 
@@ -68,6 +69,7 @@ module _ (k a b uses : ℕ) (us : uses ≡ operands (kindOf k)) where
         (λ z. omega (arith, room-first (eqb-false uses 0 z), length-append (kindWord (kindOf k)) (tab ∷ digits a)))
 
     module _ (p : ℕ) (o′ : List ℕ) (word : Printed (kindWord (kindOf k)) o at p o′) where
+      -- `put_node`, no operand: `nodeText` is the kind's word
       pub node-none : uses ≡ 0 → Printed (nodeText (node (kindOf k) a b)) o at p o′
       node-none e = rw (none e) word
 
@@ -79,6 +81,7 @@ module _ (k a b uses : ℕ) (us : uses ≡ operands (kindOf k)) where
           both : Printed (kindWord (kindOf k) ++ (tab ∷ digits a)) o at q o″
           both = printed-seq (kindWord (kindOf k)) (tab ∷ digits a) o o′ o″ at p q node-room word first
 
+          -- `put_node`, one operand: `nodeText` is the word and its field
           pub node-one : uses ≡ 1 → Printed (nodeText (node (kindOf k) a b)) o at q o″
           node-one e = rw (one z e) both
 
@@ -86,6 +89,7 @@ module _ (k a b uses : ℕ) (us : uses ≡ operands (kindOf k)) where
             pub node-second-room : length o′ ≡ length o → length o″ ≡ length o′ → q + length (tab ∷ digits b) ≤ length o″
             node-second-room h j = omega (arith, ap length (two z m), length-append (kindWord (kindOf k) ++ (tab ∷ digits a)) (tab ∷ digits b), both .next)
 
+            -- `put_node`, two operands: `nodeText` is the word and both fields
             pub node-two : (r : ℕ) (o‴ : List ℕ) → Printed (tab ∷ digits b) o″ q r o‴ → Printed (nodeText (node (kindOf k) a b)) o at r o‴
             node-two r o‴ second = rw (two z m) (printed-seq (kindWord (kindOf k) ++ (tab ∷ digits a)) (tab ∷ digits b) o o″ o‴ at q r (room-first z) both second)
 
@@ -107,11 +111,13 @@ pub record Lined (ws o : List ℕ) (start : ℕ) (o′ : List ℕ) (at i : ℕ) 
   pub kept : length o′ ≡ length o
   pub lies : Printed (nodesText (take i ws)) o start at o′
 
+-- `put_nodes`, before the first turn: no line of `nodesText` is written
 pub lined-none : (ws o : List ℕ) (start : ℕ) → Lined ws o start o start 0
 unfolding nodesText
 lined-none ws o start = record { within = omega arith; kept = refl; lies = printed-none o start }
 
 module _ (ws o : List ℕ) (start : ℕ) (o′ : List ℕ) (at i : ℕ) (inv : Lined ws o start o′ at i) (room : start + length (nodesText ws) ≤ length o) where
+  -- `put_nodes`, all words are written: the lines are `nodesText`
   pub lined-done : length ws ≤ i → Printed (nodesText ws) o start at o′
   lined-done h = rw (take-all i ws h) at (inv .lies)
 
@@ -134,6 +140,7 @@ module _ (ws o : List ℕ) (start : ℕ) (o′ : List ℕ) (at i : ℕ) (inv : L
       pub end-room : q < length o″
       end-room = omega (arith, fits, inv .kept, inv .lies .next, line .next)
 
+      -- `put_nodes`, a turn: `nodesText` of one word more is written
       pub lined-next : (r : ℕ) (o‴ : List ℕ) → Printed (newline ∷ []) o″ q r o‴ → length o‴ ≡ length o″ → Lined ws o start o‴ r (i + 1)
       lined-next r o‴ end held = record {
         within = omega arith;
@@ -145,6 +152,7 @@ module _ (ws o : List ℕ) (start : ℕ) (o′ : List ℕ) (at i : ℕ) (inv : L
 pub ruleset lined-laws = (needs, lined-none, lined-done, line-room, end-room, lined-next)
 
 -- ---- `put_heading`
+-- `put_heading`: the word, the two fields and the end of line are `headingLine`
 pub heading-written : (c n p q r e : ℕ) (o o₁ o₂ o₃ o₄ : List ℕ) → headingSize c n ≤ length o
     → Printed ruleWord o 0 p o₁ → length o₁ ≡ length o → Printed (tab ∷ digits c) o₁ p q o₂ → length o₂ ≡ length o₁ → Printed (tab ∷ digits n) o₂ q r o₃
     → Printed (newline ∷ []) o₃ r e o₄ → Printed (headingLine c n) o 0 e o₄

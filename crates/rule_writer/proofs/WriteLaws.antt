@@ -122,6 +122,7 @@ module _ (c n : ℕ) (ws o : List ℕ) where
           unfolding laidAt
           over = let m : 0 + length (textOf rule) ≡ length (textOf rule) = omega arith in whole .lies ∙ rw m
 
+          -- `write_rule`, accepted: `writeRuleAnswer` is the length, `writeRuleText` the text and then zeros
           pub write-accepted : (o‴ : List ℕ) → o‴ ≡ cleared o″ e maxRuleBytes → WroteRule (ruleOf c n ws) o (Length e) o‴
           unfolding writeRuleAnswer writeRuleText
           write-accepted o‴ x =

@@ -15,6 +15,7 @@ use Rattle.rules.proofs.KindLaws.{kind-cases}
 use Rattle.rules.specs.Fits.{isHeld, takesNodes, unusedClear, nodeFits}
 
 -- the kind, told by its number
+-- `takes_nodes`: the two tests of the number are `takesNodes` of its kind
 pub nodes-of : (k : ℕ) → (ltb 1 k && ltb k 8) ≡ takesNodes (kindOf k)
 nodes-of = kind-cases (λ k K. (ltb 1 k && ltb k 8) ≡ takesNodes K) refl refl refl refl refl refl refl refl refl refl
     (λ k h. rw (lt-ltb 1 k (omega arith), le-ltb k 8 (omega arith)))
@@ -27,9 +28,11 @@ unfolding pick
 held-of true = kind-cases (λ k K. leb k 9 ≡ isHeld true K) refl refl refl refl refl refl refl refl refl refl (λ k h. lt-leb k 9 h)
 held-of false = kind-cases (λ k K. leb k 7 ≡ isHeld false K) refl refl refl refl refl refl refl refl refl refl (λ k h. lt-leb k 7 (omega arith))
 
+-- `unused_clear`: two operands, or a second one of 0, is `unusedClear`
 pub clear-of : (k a b : ℕ) (two z : Bool) → two ≡ eqb (operands (kindOf k)) 2 → z ≡ (two || eqb b 0) → z ≡ unusedClear (node (kindOf k) a b)
 clear-of k a b two z t e = rw (e, t)
 
+-- `node_fits`: the tests of the kind and of the operands are `nodeFits`
 pub node-fits : (rewritten : Bool) (i k a b kinds limit : ℕ) (nodes clear z : Bool) → kinds ≡ pick rewritten 9 7 → nodes ≡ takesNodes (kindOf k) → limit ≡ pick (eqb k 1) atomCount 1 → clear ≡ unusedClear (node (kindOf k) a b)
     → z ≡ ((leb k kinds && clear) && ((nodes && (ltb a i && ltb b i)) || (not nodes && ltb a limit))) → z ≡ nodeFits rewritten i (node (kindOf k) a b)
 unfolding nodeFits
@@ -112,16 +115,19 @@ module _ (i a b : ℕ) where
   refusal-is rewritten Unknown = refl
 
 -- a node that fits is refused by nothing
+-- `node_refusal`, the node fits: `nodeRefusal` is 0
 pub fits-none : (rewritten : Bool) (i k a b : ℕ) (z : Bool) → z ≡ nodeFits rewritten i (node (kindOf k) a b) → z ≡ true → accepted ≡ nodeRefusal rewritten i (node (kindOf k) a b)
 unfolding pick
 fits-none rewritten i k a b z e t = rw (refusal-is i a b rewritten (kindOf k), ← e, t)
 
 -- a node that doesn't fit is refused
+-- `misfit_refusal`: of every node that doesn't fit, the number is `nodeRefusal`
 pub misfit-refused : (k a b r : ℕ) (nodes clear : Bool) → nodes ≡ takesNodes (kindOf k) → clear ≡ unusedClear (node (kindOf k) a b) → r ≡ pick (nodes && clear) ruleOperand ruleLimits →
     (rewritten : Bool) (i : ℕ) → nodeFits rewritten i (node (kindOf k) a b) ≡ false → r ≡ nodeRefusal rewritten i (node (kindOf k) a b)
 unfolding pick
 misfit-refused k a b r nodes clear n c e rewritten i f = rw (refusal-is i a b rewritten (kindOf k), f, e, n, c)
 
+-- `node_refusal`, the node doesn't fit: the number of `misfit_refusal` is `nodeRefusal`
 pub misfit-asked : (rewritten : Bool) (i k a b r : ℕ) (z : Bool) → z ≡ nodeFits rewritten i (node (kindOf k) a b) → z ≡ false →
     ((rewritten : Bool) (i : ℕ) → nodeFits rewritten i (node (kindOf k) a b) ≡ false → r ≡ nodeRefusal rewritten i (node (kindOf k) a b)) → r ≡ nodeRefusal rewritten i (node (kindOf k) a b)
 misfit-asked rewritten i k a b r z e f h = h rewritten i (rw (← e) f)

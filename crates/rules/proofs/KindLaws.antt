@@ -48,9 +48,11 @@ kind-cases P p0 p1 p2 p3 p4 p5 p6 p7 p8 p9 p k =
     split Q 5 k l p5 (λ l. split Q 6 k l p6 (λ l. split Q 7 k l p7 (λ l. split Q 8 k l p8 (λ l. split Q 9 k l p9 (λ l.
     rw (unknown-kind k l) (p k l)))))))))))
 
+-- `is_unknown`: a number above 9 is one whose kind `isUnknown`
 pub unknown-of : (k : ℕ) → ltb 9 k ≡ isUnknown (kindOf k)
 unknown-of = kind-cases (λ k K. ltb 9 k ≡ isUnknown K) refl refl refl refl refl refl refl refl refl refl (λ k h. lt-ltb 9 k h)
 
+-- `takes_two`: the numbers 3, 5 and 7 are those whose kinds have two `operands`
 pub two-of : (k : ℕ) → ((eqb k 3 || eqb k 5) || eqb k 7) ≡ eqb (operands (kindOf k)) 2
 two-of = kind-cases (λ k K. ((eqb k 3 || eqb k 5) || eqb k 7) ≡ eqb (operands K) 2) refl refl refl refl refl refl refl refl refl refl
     (λ k h. rw (ne-eqb k 3 (λ e. omega arith), ne-eqb k 5 (λ e. omega arith), ne-eqb k 7 (λ e. omega arith)))
@@ -61,16 +63,19 @@ unfolding pick
 operands-of = kind-cases (λ k K. pick (eqb k 0 || ltb 7 k) 0 (pick (eqb (operands K) 2) 2 1) ≡ operands K) refl refl refl refl refl refl refl refl refl refl
     (λ k h. rw (ne-eqb k 0 (λ e. omega arith), lt-ltb 7 k (omega arith)))
 
+-- `operand_count`: the picks by the number are the `operands` of its kind
 pub operands-tested : (k some r : ℕ) (two : Bool) → two ≡ eqb (operands (kindOf k)) 2 → some ≡ pick two 2 1 → r ≡ pick (eqb k 0 || ltb 7 k) 0 some → r ≡ operands (kindOf k)
 operands-tested k some r two t e h = rw (h, e, t) (operands-of k)
 
 -- a known kind has its number back
+-- `Node::of_kind`: a number up to 9 is the `kindNumber` of its kind, as `Built` says
 pub number-of : (k : ℕ) → k ≤ 9 → k ≡ kindNumber (kindOf k)
 number-of = kind-cases (λ k K. k ≤ 9 → k ≡ kindNumber K)
     (λ h. refl) (λ h. refl) (λ h. refl) (λ h. refl) (λ h. refl) (λ h. refl) (λ h. refl) (λ h. refl) (λ h. refl) (λ h. refl) (λ k h l. absurd (omega arith))
 
 -- a node whose kind has the number of a known kind
 module _ (k a b : ℕ) where
+  -- `Node::truth`, `atom`, `not` and so on to `end`, each by its law of these ten: the node of its kind is meant (`Built`)
   pub meant-true : k ≡ 0 → node (kindOf k) a b ≡ node True a b
   unfolding kindOf pick
   meant-true e = rw e
@@ -113,6 +118,7 @@ module _ (k a b : ℕ) where
 
 pub ruleset meant = (needs, meant-true, meant-atom, meant-not, meant-or, meant-next, meant-until, meant-prev, meant-since, meant-run, meant-end)
 
+-- `Node::word`: the kind and both operands in their places are `nodeWord`
 pub word-of : (k a b : ℕ) → k ≤ 9 → k + a * kindSpan + b * (kindSpan * operandSpan) ≡ nodeWord (node (kindOf k) a b)
 word-of k a b h = rw (← number-of k h)
 
@@ -187,5 +193,6 @@ pub leaf-test : (k : ℕ) → (ltb k 2 || ltb 7 k) ≡ isLeaf (kindOf k)
 leaf-test = kind-cases (λ k K. (ltb k 2 || ltb 7 k) ≡ isLeaf K) refl refl refl refl refl refl refl refl refl refl
     (λ k h. rw (le-ltb k 2 (omega arith), lt-ltb 7 k (omega arith)))
 
+-- `is_leaf`: a number below 2 or above 7 is one whose kind `isLeaf`
 pub leaf-is : (k : ℕ) (r : Bool) → r ≡ (ltb k 2 || ltb 7 k) → r ≡ isLeaf (kindOf k)
 leaf-is k r e = e ∙ leaf-test k

@@ -42,6 +42,7 @@ module _ (heading nodes masks states text : List ℕ) (f : FoundRoom heading nod
   pub found-states : getD heading 4 0 ≡ length (take (getD heading 4 0) states)
   found-states = states-counted heading nodes masks states (f .found)
 
+  -- `put_found`: the tables found and the space for the text are what `put_behind` asks
   pub found-ready : BehindReady (foundRule heading nodes) (foundRecording heading masks states) text
   found-ready = record { accepted = f .found .both; room = f .room }
 
@@ -62,6 +63,7 @@ module _ (weak : Bool) (x y r : RefT (List ℕ)) (nodes masks states nodes′ ma
     pub refused-room : length (refusedText (getD heading 0 0) (r .now)) ≤ length text
     refused-room = refusal-room x y r nodes masks states nodes′ masks′ states′ heading text j (room .texts) nodesRoom masksRoom statesRoom z
 
+    -- `why_texts`, refused: the number and the line printed are `whyTexts`
     pub refused-printed : (e : ℕ) (text′ : List ℕ) → Printed (refusedText (getD heading 0 0) (r .now)) text 0 e text′ →
         Printed (whyTexts weak (x .now) (y .now)) text 0 e text′
     unfolding whyTexts pick
@@ -80,6 +82,7 @@ module _ (weak : Bool) (x y r : RefT (List ℕ)) (nodes masks states nodes′ ma
       room = room .room;
     }
 
+    -- `why_texts`, accepted: what is behind the verdict, `behindOf`, is `whyTexts`
     pub found-printed : (e : ℕ) (text′ : List ℕ) → Printed (behindOf weak (foundRule heading nodes′) (foundRecording heading masks′ states′)) text 0 e text′ →
         Printed (whyTexts weak (x .now) (y .now)) text 0 e text′
     unfolding whyTexts pick
@@ -101,6 +104,7 @@ module _ (input text : List ℕ) (room : InputRoom input text) (s : Parts) (is :
     room = room .room;
   }
 
+  -- `why_asked`: `whyTexts` of the two parts is that of `ruleTextIn` and `recordingTextIn`
   pub asked-printed : (weak : Bool) (e : ℕ) (text′ : List ℕ)
       → Printed (whyTexts weak (take (s .«rule_end») input) (take (length input - s .«recording_at») (drop (s .«recording_at») input))) text 0 e text′
       → Printed (whyTexts weak (ruleTextIn input) (recordingTextIn input)) text 0 e text′
@@ -133,6 +137,7 @@ module _ (input output : List ℕ) (full : length output ≡ maxWhyBytes) where
   pub long-room : length (refusedText inputLong []) ≤ length output
   long-room = omega (arith, refused-length inputLong [] (omega arith) (omega arith))
 
+  -- `why`, 14: `whyOutput` of an input too long is its refusal, with no line
   pub long-printed : maxInputBytes < length input → (r : ℕ) (output′ : List ℕ) → Printed (refusedText inputLong []) output 0 r output′ →
       OutputIs (whyOutput input) output r output′
   unfolding whyOutput pick
@@ -143,6 +148,7 @@ module _ (input output : List ℕ) (full : length output ≡ maxWhyBytes) where
       pub reading-room : InputRoom (take (length input - at) (drop at input)) output
       reading-room = record { fits = rw (part-to-end input at, length-drop) (omega arith); room = omega arith }
 
+      -- `why`, a reading is asked for: `whyOutput` is `whyTexts` of the input behind the first line
       pub reading-printed : (r : ℕ) (output′ : List ℕ)
           → Printed (whyTexts weak (ruleTextIn (take (length input - at) (drop at input))) (recordingTextIn (take (length input - at) (drop at input)))) output 0 r output′
           → OutputIs (whyOutput input) output r output′
@@ -153,6 +159,7 @@ module _ (input output : List ℕ) (full : length output ≡ maxWhyBytes) where
       pub nothing-room : length (refusedText ruleForm (take len input)) ≤ length output
       nothing-room = omega (arith, refused-length ruleForm (take len input) (omega arith) (rw length-take (omega arith)))
 
+      -- `why`, nothing is asked for: `whyOutput` is the refusal of the first line by its form
       pub nothing-printed : (r : ℕ) (output′ : List ℕ) → Printed (refusedText ruleForm (take len input)) output 0 r output′ → OutputIs (whyOutput input) output r output′
       nothing-printed r output′ p = rw (output-nothing input short a is len e) (printed-all _ output r output′ p)
 
