@@ -4,9 +4,9 @@
 
 pub mod endings;
 pub mod exhaustive;
-pub mod formulas;
 pub mod lent;
 pub mod lines;
 pub mod random;
+pub mod recordings;
+pub mod rules;
 pub mod texts;
-pub mod traces;

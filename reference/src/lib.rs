@@ -8,9 +8,9 @@
 //!
 //! | document 01        | here                     |
 //! |--------------------|--------------------------|
-//! | rule               | formula (a DAG in a table) |
-//! | controller         | component                |
-//! | recording          | trace                    |
+//! | rule               | rule (a DAG in a table) |
+//! | controller         | controller                |
+//! | recording          | recording                    |
 //! | run mark           | scheduled                |
 //! | own, foreign atom  | output, input atom       |
 //! | place              | position                 |

@@ -8,21 +8,21 @@
 
 pub mod early;
 pub mod evidence;
-pub mod formula;
 pub mod limits;
 pub mod one_line;
+pub mod recording;
 pub mod refusal;
 pub mod rewriting;
+pub mod rule;
 pub mod semantics;
 pub mod text;
-pub mod trace;
 pub mod why;
 
 use evidence::{walk, AsWorded, Pair};
-use formula::{check_count, check_formula, check_nodes, Formula, Language, Node, ATOM, UNTIL};
-use semantics::{local_readings, trace_readings, Reading, Readings};
+use recording::{check_recording, Recording};
+use rule::{check_count, check_nodes, check_rule, Language, Node, Rule, ATOM, UNTIL};
+use semantics::{local_readings, whole_readings, Reading, Readings};
 use text::RefusedLine;
-use trace::{check_trace, Trace};
 
 /// What reading a rule answers.
 #[derive(Clone, Copy, PartialEq, Eq, Debug)]
@@ -99,21 +99,21 @@ fn node_words(nodes: &[Node]) -> Vec<u32> {
 }
 
 /// The words of states in lent space.
-fn state_words(trace: &Trace) -> Vec<u64> {
-    trace.states.iter().map(|state| state.word()).collect()
+fn state_words(recording: &Recording) -> Vec<u64> {
+    recording.states.iter().map(|state| state.word()).collect()
 }
 
 /// Leaves a rule that was read, or zeros.
-fn leave_rule(nodes: &mut [u32], formula: Option<&Formula>) {
-    let content = formula.map_or(Vec::new(), |formula| node_words(&formula.nodes));
+fn leave_rule(nodes: &mut [u32], rule: Option<&Rule>) {
+    let content = rule.map_or(Vec::new(), |rule| node_words(&rule.nodes));
     leave(nodes, limits::RULE_NODES, &content);
 }
 
 /// Leaves a recording that was read, or zeros.
-fn leave_recording(masks: &mut [u32], states: &mut [u64], trace: Option<&Trace>) {
-    let content = trace.map_or(&[][..], |trace| &trace.masks);
+fn leave_recording(masks: &mut [u32], states: &mut [u64], recording: Option<&Recording>) {
+    let content = recording.map_or(&[][..], |recording| &recording.masks);
     leave(masks, limits::CONTROLLERS, content);
-    leave(states, limits::STATES, &trace.map_or(Vec::new(), state_words));
+    leave(states, limits::STATES, &recording.map_or(Vec::new(), state_words));
 }
 
 /// "read a rule (controller, count, nodes)".
@@ -123,8 +123,8 @@ pub fn read_rule(text: &[u8], nodes: &mut [u32]) -> Result<RuleHeading, u8> {
     }
     let answer = text::read_rule(text);
     leave_rule(nodes, answer.as_ref().ok());
-    let formula = answer.map_err(|refused| refused.number)?;
-    Ok(RuleHeading { controller: formula.component, count: formula.nodes.len() })
+    let rule = answer.map_err(|refused| refused.number)?;
+    Ok(RuleHeading { controller: rule.controller, count: rule.nodes.len() })
 }
 
 /// "Rules in one line": "the controller is given beside the line".
@@ -148,7 +148,7 @@ pub fn write_rule(
     if too_short(text, limits::RULE_TEXT) {
         return Err(refusal::LENT_SPACE);
     }
-    let answer = check_formula(controller, count, nodes).map(|formula| text::write_rule(&formula));
+    let answer = check_rule(controller, count, nodes).map(|rule| text::write_rule(&rule));
     let content = answer.as_ref().map_or(&[][..], |written| written);
     leave(text, limits::RULE_TEXT, content);
     answer.map(|written| written.len())
@@ -165,8 +165,8 @@ pub fn read_recording(
     }
     let answer = text::read_recording(text);
     leave_recording(masks, states, answer.as_ref().ok());
-    let trace = answer.map_err(|refused| refused.number)?;
-    Ok(RecordingHeading { controllers: trace.masks.len(), states: trace.states.len() })
+    let recording = answer.map_err(|refused| refused.number)?;
+    Ok(RecordingHeading { controllers: recording.masks.len(), states: recording.states.len() })
 }
 
 /// The refused line of a text, as a number and a part.
@@ -185,23 +185,22 @@ fn part_of<'a>(part: Part, rule_text: &'a [u8], recording_text: &'a [u8]) -> &'a
 }
 
 /// Both texts: the whole rule text, the whole recording text, then 11.
-fn joint(rule_text: &[u8], recording_text: &[u8]) -> Result<(Formula, Trace), (u8, Part)> {
-    let formula =
-        text::read_rule(rule_text).map_err(|refused| refused_part(Source::Rule, refused))?;
-    let trace = text::read_recording(recording_text)
+fn joint(rule_text: &[u8], recording_text: &[u8]) -> Result<(Rule, Recording), (u8, Part)> {
+    let rule = text::read_rule(rule_text).map_err(|refused| refused_part(Source::Rule, refused))?;
+    let recording = text::read_recording(recording_text)
         .map_err(|refused| refused_part(Source::Recording, refused))?;
-    trace.check_component(formula.component).map_err(|number| {
+    recording.check_controller(rule.controller).map_err(|number| {
         refused_part(Source::Rule, RefusedLine { number, line: text::first_line(rule_text) })
     })?;
-    Ok((formula, trace))
+    Ok((rule, recording))
 }
 
 /// The heading of an accepted joint reading: number 0, controller, node count,
 /// C and N.
-fn joint_heading(formula: &Formula, trace: &Trace) -> [u32; 5] {
-    let sizes = [formula.nodes.len(), trace.masks.len(), trace.states.len()];
+fn joint_heading(rule: &Rule, recording: &Recording) -> [u32; 5] {
+    let sizes = [rule.nodes.len(), recording.masks.len(), recording.states.len()];
     let [count, controllers, length] = sizes.map(|size| size as u32);
-    [0, formula.component as u32, count, controllers, length]
+    [0, rule.controller as u32, count, controllers, length]
 }
 
 /// "The joint reading takes the rule text, then the recording text, and hands
@@ -222,15 +221,15 @@ pub fn read_joint(
         return Part { source: Source::Rule, start: 0, length: 0 };
     }
     let answer = joint(rule_text, recording_text);
-    leave_rule(nodes, answer.as_ref().ok().map(|(formula, _)| formula));
-    leave_recording(masks, states, answer.as_ref().ok().map(|(_, trace)| trace));
+    leave_rule(nodes, answer.as_ref().ok().map(|(rule, _)| rule));
+    leave_recording(masks, states, answer.as_ref().ok().map(|(_, recording)| recording));
     match answer {
         Err((number, part)) => {
             *heading = [u32::from(number), 0, 0, 0, 0];
             part
         }
-        Ok((formula, trace)) => {
-            *heading = joint_heading(&formula, &trace);
+        Ok((rule, recording)) => {
+            *heading = joint_heading(&rule, &recording);
             Part { source: Source::Recording, start: recording_text.len(), length: 0 }
         }
     }
@@ -248,9 +247,9 @@ pub fn project(
     if too_short(places, limits::PLACES) {
         return Err(refusal::LENT_SPACE);
     }
-    let answer = check_trace(controllers, length, masks, states).and_then(|trace| {
-        trace.check_component(controller)?;
-        Ok(trace::project(&trace, controller).positions)
+    let answer = check_recording(controllers, length, masks, states).and_then(|recording| {
+        recording.check_controller(controller)?;
+        Ok(recording::project(&recording, controller).positions)
     });
     let content = answer.as_ref().map_or(&[][..], |positions| positions);
     leave(places, limits::PLACES, content);
@@ -276,13 +275,13 @@ pub fn judge_local(
     masks: &[u32],
     states: &[u64],
 ) -> Result<Verdict, u8> {
-    let formula = check_formula(controller, count, nodes)?;
-    let trace = check_trace(controllers, length, masks, states)?;
-    trace.check_component(controller)?;
-    let local = trace::project(&trace, controller);
-    let readings = local_readings(&formula.nodes, &local);
-    let rule = formula.nodes.len() - 1;
-    Ok(verdict(&readings, rule, rule))
+    let rule = check_rule(controller, count, nodes)?;
+    let recording = check_recording(controllers, length, masks, states)?;
+    recording.check_controller(controller)?;
+    let local = recording::project(&recording, controller);
+    let readings = local_readings(&rule.nodes, &local);
+    let last = rule.nodes.len() - 1;
+    Ok(verdict(&readings, last, last))
 }
 
 /// "The readings behind a verdict", the weak one or the strong one: "For a rule
@@ -303,11 +302,11 @@ pub fn evidence(
     if too_short(pairs, limits::PAIRS) {
         return Err(refusal::LENT_SPACE);
     }
-    let answer = check_formula(controller, count, nodes).and_then(|formula| {
-        let trace = check_trace(controllers, length, masks, states)?;
-        trace.check_component(controller)?;
-        let local = trace::project(&trace, controller);
-        let found = walk(&AsWorded, &formula.nodes, &local, Reading::chosen(weak));
+    let answer = check_rule(controller, count, nodes).and_then(|rule| {
+        let recording = check_recording(controllers, length, masks, states)?;
+        recording.check_controller(controller)?;
+        let local = recording::project(&recording, controller);
+        let found = walk(&AsWorded, &rule.nodes, &local, Reading::chosen(weak));
         Ok(found.into_iter().map(Pair::number).collect::<Vec<u32>>())
     });
     let content = answer.as_ref().map_or(&[][..], |numbers| numbers);
@@ -327,8 +326,8 @@ pub fn rewrite(
     if too_short(table, limits::TABLE_NODES) {
         return Err(refusal::LENT_SPACE);
     }
-    let answer = check_formula(controller, count, nodes)
-        .map(|formula| rewriting::rewrite(short, &formula, mask));
+    let answer =
+        check_rule(controller, count, nodes).map(|rule| rewriting::rewrite(short, &rule, mask));
     let content = answer.as_ref().map_or(Vec::new(), |rewritten| node_words(&rewritten.nodes));
     leave(table, limits::TABLE_NODES, &content);
     answer.map(|rewritten| Rewriting {
@@ -387,9 +386,9 @@ pub fn judge_recording(
         return Err(refusal::LENT_SPACE);
     }
     let answer = check_table(count, nodes, [weak_top, strong_top]).and_then(|table| {
-        let trace = check_trace(controllers, length, masks, states)?;
-        trace.check_component(controller)?;
-        Ok(trace_readings(&table, &trace, controller))
+        let recording = check_recording(controllers, length, masks, states)?;
+        recording.check_controller(controller)?;
+        Ok(whole_readings(&table, &recording, controller))
     });
     let content = answer.as_ref().map_or(Vec::new(), |readings| row_pairs(readings, count, length));
     leave(rows, limits::ROW_WORDS, &content);
@@ -412,7 +411,7 @@ fn yes_or_no(verdict: bool) -> &'static [u8] {
 
 /// The program's input as a rule and a recording, or the refusal number and the
 /// refused line.
-fn program_texts(input: &[u8]) -> Result<(Formula, Trace), (u8, &[u8])> {
+fn program_texts(input: &[u8]) -> Result<(Rule, Recording), (u8, &[u8])> {
     if input.len() > limits::PROGRAM_INPUT {
         return Err((refusal::PROGRAM_INPUT, &[]));
     }
@@ -422,10 +421,10 @@ fn program_texts(input: &[u8]) -> Result<(Formula, Trace), (u8, &[u8])> {
 }
 
 /// The lines `local`, places, and `own`, weak, strong on the local trace.
-fn local_lines(formula: &Formula, trace: &Trace) -> Vec<u8> {
-    let local = trace::project(trace, formula.component);
-    let rule = formula.nodes.len() - 1;
-    let own = verdict(&local_readings(&formula.nodes, &local), rule, rule);
+fn local_lines(rule: &Rule, recording: &Recording) -> Vec<u8> {
+    let local = recording::project(recording, rule.controller);
+    let last = rule.nodes.len() - 1;
+    let own = verdict(&local_readings(&rule.nodes, &local), last, last);
     let places = local.positions.len().to_string();
     let lines = [
         text::printed(&[b"local", places.as_bytes()]),
@@ -435,10 +434,10 @@ fn local_lines(formula: &Formula, trace: &Trace) -> Vec<u8> {
 }
 
 /// The line `plain` or `short`, nodes, weak, strong.
-fn rewritten_line(formula: &Formula, trace: &Trace, short: bool) -> Vec<u8> {
-    let c = formula.component;
-    let rewritten = rewriting::rewrite(short, formula, trace.masks[c]);
-    let readings = trace_readings(&rewritten.nodes, trace, c);
+fn rewritten_line(rule: &Rule, recording: &Recording, short: bool) -> Vec<u8> {
+    let c = rule.controller;
+    let rewritten = rewriting::rewrite(short, rule, recording.masks[c]);
+    let readings = whole_readings(&rewritten.nodes, recording, c);
     let verdict = verdict(&readings, rewritten.weak_top, rewritten.strong_top);
     let word: &[u8] = if short { b"short" } else { b"plain" };
     let count = rewritten.nodes.len().to_string();
@@ -450,9 +449,9 @@ fn rewritten_line(formula: &Formula, trace: &Trace, short: bool) -> Vec<u8> {
 pub fn program(input: &[u8]) -> Vec<u8> {
     match program_texts(input) {
         Err((number, line)) => refused_output(number, line),
-        Ok((formula, trace)) => {
-            let rewritten = |short| rewritten_line(&formula, &trace, short);
-            [local_lines(&formula, &trace), rewritten(false), rewritten(true)].concat()
+        Ok((rule, recording)) => {
+            let rewritten = |short| rewritten_line(&rule, &recording, short);
+            [local_lines(&rule, &recording), rewritten(false), rewritten(true)].concat()
         }
     }
 }
@@ -477,14 +476,14 @@ pub fn program_says(input: &[u8]) -> Vec<u8> {
 
 /// A program of one line: from its input to its output. Refused, it prints
 /// `refused` and the number, without a line field.
-fn line_program(input: &[u8], answer: impl FnOnce(&[u8]) -> Result<Formula, u8>) -> Vec<u8> {
+fn line_program(input: &[u8], answer: impl FnOnce(&[u8]) -> Result<Rule, u8>) -> Vec<u8> {
     let answer = if input.len() > limits::PROGRAM_INPUT {
         Err(refusal::PROGRAM_INPUT)
     } else {
         text::only_line(input).ok_or(refusal::RULE_FORM).and_then(answer)
     };
     match answer {
-        Ok(formula) => text::write_rule(&formula),
+        Ok(rule) => text::write_rule(&rule),
         Err(number) => text::printed(&[b"refused", number.to_string().as_bytes()]),
     }
 }
@@ -499,16 +498,16 @@ fn typed(line: &[u8]) -> Option<(usize, &[u8])> {
 /// The program `rule`: from its input to its output.
 pub fn rule_program(input: &[u8]) -> Vec<u8> {
     line_program(input, |line| {
-        let (component, line) = typed(line).ok_or(refusal::RULE_FORM)?;
-        Ok(Formula { component, nodes: one_line::read(component, line)? })
+        let (controller, line) = typed(line).ok_or(refusal::RULE_FORM)?;
+        Ok(Rule { controller, nodes: one_line::read(controller, line)? })
     })
 }
 
 /// "The rule that grows most": the nodes `atom 0` and n-1 times `until 0 0`.
-pub fn longest_rule(n: usize) -> Formula {
+pub fn longest_rule(n: usize) -> Rule {
     let mut nodes = vec![Node { kind: ATOM, first: 0, second: 0 }];
     nodes.resize(n, Node { kind: UNTIL, first: 0, second: 0 });
-    Formula { component: 0, nodes }
+    Rule { controller: 0, nodes }
 }
 
 /// The program `longest`, from n: 1 for "other input that isn't one decimal

@@ -3,7 +3,7 @@
 
 use reference::generate::exhaustive;
 use reference::generate::random::Random;
-use reference::generate::traces::{self, RecordingTable};
+use reference::generate::recordings::{self, RecordingTable};
 use reference::model::limits;
 
 mod common;
@@ -49,7 +49,7 @@ fn check_carried(recording: &RecordingTable, controller: usize) {
 fn one_state_more() {
     let mut random = Random::new(53);
     for _ in 0..100 {
-        let recording = traces::recording(&mut random, limits::CONTROLLERS, limits::STATES);
+        let recording = recordings::recording(&mut random, limits::CONTROLLERS, limits::STATES);
         check_carried(&recording, random.below(recording.controllers));
     }
     exhaustive::each_recording(2, 3, &mut |recording| {

@@ -3,27 +3,27 @@
 //! needed.
 
 use reference::generate::exhaustive;
-use reference::generate::formulas::{self, RuleTable};
 use reference::generate::random::Random;
+use reference::generate::recordings::{self, RecordingTable};
+use reference::generate::rules::{self, RuleTable};
 use reference::generate::texts::{program_input, recording_text, rule_text};
-use reference::generate::traces::{self, RecordingTable};
 use reference::model::early::{announced, begins, missing, Asked};
-use reference::model::formula::{Node, ATOM, NEXT, TRUE};
+use reference::model::recording::{check_recording, project, Recording, State};
+use reference::model::rule::{Node, ATOM, NEXT, TRUE};
 use reference::model::semantics::{local_readings, Reading};
-use reference::model::trace::{check_trace, project, State, Trace};
 use reference::model::{limits, program, Verdict};
 
 /// The verdicts of a rule on the local trace of controller c, whether or not the
 /// recording is accepted.
-fn verdict(nodes: &[Node], trace: &Trace, component: usize) -> Verdict {
-    let readings = local_readings(nodes, &project(trace, component));
+fn verdict(nodes: &[Node], recording: &Recording, controller: usize) -> Verdict {
+    let readings = local_readings(nodes, &project(recording, controller));
     let at = |reading| readings.at(nodes.len() - 1, reading, 0);
     Verdict { weak: at(Reading::Weak), strong: at(Reading::Strong) }
 }
 
-fn checked(recording: &RecordingTable) -> Result<Trace, u8> {
+fn checked(recording: &RecordingTable) -> Result<Recording, u8> {
     let RecordingTable { controllers, length, masks, states } = recording;
-    check_trace(*controllers, *length, masks, states)
+    check_recording(*controllers, *length, masks, states)
 }
 
 fn nodes(rule: &RuleTable) -> Vec<Node> {
@@ -31,14 +31,14 @@ fn nodes(rule: &RuleTable) -> Vec<Node> {
 }
 
 /// A recording of controller 0 alone, with these marks and words.
-fn alone(own: u32, states: &[(u32, u32)]) -> Trace {
+fn alone(own: u32, states: &[(u32, u32)]) -> Recording {
     let state = |&(scheduled, atoms): &(u32, u32)| State { atoms, scheduled };
-    Trace { masks: vec![own], states: states.iter().map(state).collect() }
+    Recording { masks: vec![own], states: states.iter().map(state).collect() }
 }
 
-fn is_accepted(trace: &Trace) -> Result<(), u8> {
-    let states = trace.states.iter().map(|state| state.word()).collect();
-    let Trace { masks, states: all } = trace;
+fn is_accepted(recording: &Recording) -> Result<(), u8> {
+    let states = recording.states.iter().map(|state| state.word()).collect();
+    let Recording { masks, states: all } = recording;
     let table = RecordingTable {
         controllers: masks.len(),
         length: all.len(),
@@ -102,16 +102,41 @@ fn the_output_rule_is_needed() {
     assert_eq!((verdict(&nodes, &a, 0), verdict(&nodes, &b, 0)), (KEPT, BROKEN));
 }
 
+/// The plain and the short table announce the same verdicts, and they stay: two
+/// steps, the same with a third in mid step, and in a rack of two.
+#[test]
+fn tables_announce_the_same() {
+    let always = "rule\t0\t5\natom\t0\nnot\t0\ntrue\nuntil\t2\t1\nnot\t3\n";
+    let once = "rule\t0\t3\natom\t0\ntrue\nuntil\t1\t0\n";
+    let state = |&(marks, word): &(u64, u64)| (marks << 32) + word;
+    let two_steps = vec![(1, 1), (1, 0), (0, 1)];
+    let with_third = vec![(1, 1), (1, 0), (1, 1), (1, 0)];
+    let with_other = vec![(1, 1), (3, 0), (2, 3), (1, 1), (0, 0)];
+    for (masks, states) in [(vec![1], two_steps), (vec![1], with_third), (vec![1, 2], with_other)] {
+        let states: Vec<u64> = states.iter().map(state).collect();
+        let (controllers, length) = (masks.len(), states.len());
+        let recording = recording_text(&RecordingTable { controllers, length, masks, states });
+        let printed = |rule: &str| {
+            let output = program(&program_input(rule.as_bytes(), &recording));
+            String::from_utf8(output).unwrap()
+        };
+        assert!(printed(always).ends_with("own\tno\tno\nplain\t36\tno\tno\nshort\t23\tno\tno\n"));
+        assert!(
+            printed(once).ends_with("own\tyes\tyes\nplain\t32\tyes\tyes\nshort\t19\tyes\tyes\n")
+        );
+    }
+}
+
 /// What the request asks, and what a controller needs of it.
 #[test]
 fn begins_asks_for_each_controller() {
     let mut random = Random::new(91);
     for _ in 0..300 {
-        let whole = traces::recording(&mut random, limits::CONTROLLERS, 20);
+        let whole = recordings::recording(&mut random, limits::CONTROLLERS, 20);
         let length = random.between(1, whole.length);
-        let cut = traces::cut(&mut random, &whole, length);
+        let cut = recordings::cut(&mut random, &whole, length);
         let controller = random.below(whole.controllers);
-        let alike = traces::begun_alike(&mut random, &whole, controller, length);
+        let alike = recordings::begun_alike(&mut random, &whole, controller, length);
         let [whole, cut, alike] = [&whole, &cut, &alike].map(|one| checked(one).unwrap());
         assert!(begins(&cut, &whole));
         assert!((0..whole.masks.len()).all(|c| missing(&cut, &whole, c).is_empty()));
@@ -122,19 +147,20 @@ fn begins_asks_for_each_controller() {
 /// Every small rule on every two small recordings that begin alike.
 #[test]
 fn small_verdicts_stay() {
-    let mut traces: Vec<Trace> = Vec::new();
-    exhaustive::each_recording(1, 3, &mut |recording| traces.push(checked(recording).unwrap()));
-    let alike = |a: &Trace| -> Vec<usize> {
-        (0..traces.len()).filter(|b| missing(a, &traces[*b], 0).is_empty()).collect()
+    let mut recordings: Vec<Recording> = Vec::new();
+    exhaustive::each_recording(1, 3, &mut |recording| recordings.push(checked(recording).unwrap()));
+    let alike = |a: &Recording| -> Vec<usize> {
+        (0..recordings.len()).filter(|b| missing(a, &recordings[*b], 0).is_empty()).collect()
     };
-    let alike: Vec<Vec<usize>> = traces.iter().map(alike).collect();
+    let alike: Vec<Vec<usize>> = recordings.iter().map(alike).collect();
     exhaustive::each_rule(2, &mut |words| {
         let nodes: Vec<Node> = words.iter().map(|word| Node::of_word(*word)).collect();
-        let verdicts: Vec<Verdict> = traces.iter().map(|trace| verdict(&nodes, trace, 0)).collect();
+        let verdicts: Vec<Verdict> =
+            recordings.iter().map(|recording| verdict(&nodes, recording, 0)).collect();
         for (a, others) in alike.iter().enumerate() {
             assert!(verdicts[a].weak || !verdicts[a].strong, "a strong yes is a weak yes");
             let stays = |b: &usize| !announced(verdicts[a]) || verdicts[*b] == verdicts[a];
-            assert!(others.iter().all(stays), "{nodes:?}, {:?}", traces[a]);
+            assert!(others.iter().all(stays), "{nodes:?}, {:?}", recordings[a]);
         }
     });
 }
@@ -145,9 +171,9 @@ fn small_verdicts_stay() {
 fn random_verdicts_stay() {
     let mut random = Random::new(92);
     for _ in 0..300 {
-        let whole = traces::recording(&mut random, limits::CONTROLLERS, 30);
+        let whole = recordings::recording(&mut random, limits::CONTROLLERS, 30);
         let controller = random.below(whole.controllers);
-        let rule = formulas::rule_for(&mut random, controller, 12);
+        let rule = rules::rule_for(&mut random, controller, 12);
         let printed = |recording: &RecordingTable| {
             let input = program_input(&rule_text(&rule), &recording_text(recording));
             let output = String::from_utf8(program(&input)).unwrap();
@@ -156,7 +182,7 @@ fn random_verdicts_stay() {
         let mut before = OPEN;
         let mut lines = String::new();
         for length in 1..=whole.length {
-            let cut = traces::cut(&mut random, &whole, length);
+            let cut = recordings::cut(&mut random, &whole, length);
             let now = verdict(&nodes(&rule), &checked(&cut).unwrap(), controller);
             let now_printed = printed(&cut);
             if announced(before) {

@@ -1,10 +1,10 @@
 //! Document 02, eleven controllers: the limit, the digits of run marks, the lent
 //! masks, and demand 3 between a recording of eight controllers and one of eleven.
 
-use reference::generate::formulas::{self, RuleTable};
 use reference::generate::random::Random;
+use reference::generate::recordings::{self, RecordingTable};
+use reference::generate::rules::{self, RuleTable};
 use reference::generate::texts::{recording_text, recording_text_with};
-use reference::generate::traces::{self, RecordingTable};
 use reference::model::{self, limits, Verdict};
 
 mod common;
@@ -139,7 +139,7 @@ fn eleven_masks_are_lent() {
 fn texts_come_back_with_their_digits_and_no_others() {
     let mut random = Random::new(6);
     for _ in 0..2000 {
-        let recording = traces::recording(&mut random, limits::CONTROLLERS, limits::STATES);
+        let recording = recordings::recording(&mut random, limits::CONTROLLERS, limits::STATES);
         let RecordingTable { controllers, length, masks, states } = &recording;
         let (answer, read_masks, read_states) =
             read(&recording_text(&recording), limits::CONTROLLERS);
@@ -163,13 +163,13 @@ fn demand_3_between_eight_controllers_and_eleven() {
     assert_eq!(places(&eleven, 10), Ok(vec![2, 1024]));
     let mut random = Random::new(11);
     for _ in 0..400 {
-        let one = traces::recording(&mut random, 8, limits::STATES);
+        let one = recordings::recording(&mut random, 8, limits::STATES);
         let controller = random.below(one.controllers);
-        let eight = traces::rescheduled_among(&mut random, &one, 8, controller);
-        let eleven = traces::rescheduled_among(&mut random, &one, 11, controller);
+        let eight = recordings::rescheduled_among(&mut random, &one, 8, controller);
+        let eleven = recordings::rescheduled_among(&mut random, &one, 11, controller);
         assert_eq!((eight.controllers, eleven.controllers), (8, 11));
         assert_eq!(places(&eight, controller), places(&eleven, controller));
-        let rule = formulas::rule_for(&mut random, controller, limits::RULE_NODES);
+        let rule = rules::rule_for(&mut random, controller, limits::RULE_NODES);
         let [local, plain, short] = verdicts(&rule, &eight);
         assert!(local.is_ok() && plain == local && short == local);
         assert_eq!(verdicts(&rule, &eleven), [local, local, local]);

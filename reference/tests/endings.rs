@@ -2,10 +2,10 @@
 //! 10, line by line; a byte 13 anywhere else makes it malformed.
 
 use reference::generate::endings::{mixed_endings, plain_endings, with_returns};
-use reference::generate::formulas;
 use reference::generate::random::Random;
+use reference::generate::recordings;
+use reference::generate::rules;
 use reference::generate::texts::{self, program_input, recording_text, rule_text};
-use reference::generate::traces;
 use reference::model::{self, limits, Source};
 
 /// An accepted rule text of controller 1.
@@ -227,7 +227,7 @@ fn the_program_rule_takes_either_ending() {
 fn rules_come_back_with_byte_10_at_each_line() {
     let mut random = Random::new(41);
     for _ in 0..3000 {
-        let plain = rule_text(&formulas::rule(&mut random, limits::RULE_NODES));
+        let plain = rule_text(&rules::rule(&mut random, limits::RULE_NODES));
         let mixed = mixed_endings(&mut random, &plain);
         assert_eq!(plain_endings(&mixed), plain);
         let mut nodes = [1; limits::RULE_NODES];
@@ -288,7 +288,7 @@ fn inputs_and_those_with_byte_10_alone_print_the_same() {
 fn recordings_with_other_endings_are_accepted() {
     let mut random = Random::new(44);
     for _ in 0..2000 {
-        let table = traces::recording(&mut random, limits::CONTROLLERS, limits::STATES);
+        let table = recordings::recording(&mut random, limits::CONTROLLERS, limits::STATES);
         let text = mixed_endings(&mut random, &recording_text(&table));
         let (mut masks, mut states) = ([1; limits::CONTROLLERS], [1; limits::STATES]);
         let heading = model::read_recording(&text, &mut masks, &mut states).expect("accepted");

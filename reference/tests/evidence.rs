@@ -1,15 +1,15 @@
 //! The readings behind a verdict: each case of the walk, the lent space, and
-//! the promise, that other traces with those bits get the same verdict.
+//! the promise, that other recordings with those bits get the same verdict.
 
 use reference::generate::exhaustive;
-use reference::generate::formulas::{self, RuleTable};
 use reference::generate::random::Random;
-use reference::generate::traces::{self, RecordingTable};
+use reference::generate::recordings::{self, RecordingTable};
+use reference::generate::rules::{self, RuleTable};
 use reference::model::evidence::{walk, AsWorded, Pair};
-use reference::model::formula::{Node, ATOM, NEXT, NOT, OR, PREV, SINCE, TRUE, UNTIL};
 use reference::model::limits::{CONTROLLERS, PAIRS, RULE_NODES, STATES};
+use reference::model::recording::{bit, check_recording, project, LocalTrace};
+use reference::model::rule::{Node, ATOM, NEXT, NOT, OR, PREV, SINCE, TRUE, UNTIL};
 use reference::model::semantics::{local_readings, Reading};
-use reference::model::trace::{bit, check_trace, project, LocalTrace};
 use reference::model::{self, refusal};
 
 /// A rule of controller 0 from kinds and operands.
@@ -267,8 +267,8 @@ fn small_traces(own: u32, length: usize) -> Vec<LocalTrace> {
     let mut all = vec![Vec::new()];
     for place in 0..length {
         let fits = |word: &u32| place + 1 < length || word & !own == 0;
-        let longer = |trace: &Vec<u32>| {
-            (0..4).filter(fits).map(|word| [&trace[..], &[word]].concat()).collect::<Vec<_>>()
+        let longer = |recording: &Vec<u32>| {
+            (0..4).filter(fits).map(|word| [&recording[..], &[word]].concat()).collect::<Vec<_>>()
         };
         all = all.iter().flat_map(longer).collect();
     }
@@ -284,22 +284,24 @@ fn verdict(nodes: &[Node], local: &LocalTrace, reading: Reading) -> bool {
 fn small_traces_with_those_bits_get_the_same_verdict() {
     let rules = exhaustive::rules(3);
     for (own, length) in [(0, 3), (1, 3), (2, 2), (3, 3), (3, 2), (1, 1)] {
-        let traces = small_traces(own, length);
+        let recordings = small_traces(own, length);
         for rule in &rules {
             let nodes: Vec<Node> = rule.iter().map(|word| Node::of_word(*word)).collect();
             for reading in [Reading::Weak, Reading::Strong] {
-                let verdicts: Vec<bool> =
-                    traces.iter().map(|trace| verdict(&nodes, trace, reading)).collect();
-                for (trace, one) in traces.iter().zip(&verdicts) {
-                    let pairs = walk(&AsWorded, &nodes, trace, reading);
+                let verdicts: Vec<bool> = recordings
+                    .iter()
+                    .map(|recording| verdict(&nodes, recording, reading))
+                    .collect();
+                for (recording, one) in recordings.iter().zip(&verdicts) {
+                    let pairs = walk(&AsWorded, &nodes, recording, reading);
                     let bits = named_bits(&nodes, &pairs, length);
                     let same = |other: &LocalTrace| {
-                        let mut words = trace.positions.iter().zip(&other.positions).zip(&bits);
+                        let mut words = recording.positions.iter().zip(&other.positions).zip(&bits);
                         words.all(|((word, other), bits)| (word ^ other) & bits == 0)
                     };
-                    let others = traces.iter().zip(&verdicts).filter(|(other, _)| same(other));
+                    let others = recordings.iter().zip(&verdicts).filter(|(other, _)| same(other));
                     for (other, verdict) in others {
-                        assert_eq!(verdict, one, "{nodes:?} {trace:?} {other:?} {reading:?}");
+                        assert_eq!(verdict, one, "{nodes:?} {recording:?} {other:?} {reading:?}");
                     }
                 }
             }
@@ -314,17 +316,18 @@ fn large_traces_with_those_bits_get_the_same_verdict() {
     for number in 0..1500 {
         let far = number % 2 == 0;
         let (table, controller) = if far {
-            traces::steady(&mut random)
+            recordings::steady(&mut random)
         } else {
-            let table = traces::recording(&mut random, CONTROLLERS, STATES);
+            let table = recordings::recording(&mut random, CONTROLLERS, STATES);
             let controller = random.below(table.controllers);
             (table, controller)
         };
-        let rule = if far { formulas::far_rule_for } else { formulas::rule_for };
+        let rule = if far { rules::far_rule_for } else { rules::rule_for };
         let rule = rule(&mut random, controller, RULE_NODES);
         let nodes: Vec<Node> = rule.nodes.iter().map(|word| Node::of_word(*word)).collect();
-        let trace = check_trace(table.controllers, table.length, &table.masks, &table.states);
-        let local = project(&trace.expect("accepted"), controller);
+        let recording =
+            check_recording(table.controllers, table.length, &table.masks, &table.states);
+        let local = project(&recording.expect("accepted"), controller);
         let length = local.positions.len();
         for reading in [Reading::Weak, Reading::Strong] {
             let pairs = walk(&AsWorded, &nodes, &local, reading);

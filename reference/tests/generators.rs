@@ -4,10 +4,10 @@
 use std::collections::BTreeMap;
 
 use reference::generate::exhaustive;
-use reference::generate::formulas::{self, JudgeTable, RuleTable};
 use reference::generate::random::Random;
+use reference::generate::recordings::{self, RecordingTable};
+use reference::generate::rules::{self, JudgeTable, RuleTable};
 use reference::generate::texts::{self, DAMAGES};
-use reference::generate::traces::{self, RecordingTable};
 use reference::model::{self, limits};
 
 /// How often each number was answered; 0 for accepted.
@@ -56,9 +56,9 @@ fn rule_tables_meet_every_number() {
     let mut tally = Tally::new();
     for _ in 0..20_000 {
         let RuleTable { controller, count: nodes_count, nodes } =
-            formulas::damaged_rule(&mut random, limits::RULE_NODES);
+            rules::damaged_rule(&mut random, limits::RULE_NODES);
         count(&mut tally, model::write_rule(controller, nodes_count, &nodes, &mut text));
-        let rule = formulas::rule(&mut random, limits::RULE_NODES);
+        let rule = rules::rule(&mut random, limits::RULE_NODES);
         assert!(model::write_rule(rule.controller, rule.count, &rule.nodes, &mut text).is_ok());
     }
     expect(&tally, &[0, 2, 3, 4], 500);
@@ -85,8 +85,8 @@ fn judge_tables_meet_every_number() {
     };
     let mut tally = Tally::new();
     for _ in 0..3000 {
-        count(&mut tally, judge(&formulas::damaged_table(&mut random, limits::TABLE_NODES)));
-        assert!(judge(&formulas::table(&mut random, limits::TABLE_NODES)).is_ok());
+        count(&mut tally, judge(&rules::damaged_table(&mut random, limits::TABLE_NODES)));
+        assert!(judge(&rules::table(&mut random, limits::TABLE_NODES)).is_ok());
     }
     expect(&tally, &[0, 2, 3, 4], 100);
 }
@@ -96,10 +96,11 @@ fn recording_tables_meet_every_number() {
     let mut random = Random::new(33);
     let mut tally = Tally::new();
     for _ in 0..20_000 {
-        let damaged = traces::damaged_recording(&mut random, limits::CONTROLLERS, limits::STATES);
+        let damaged =
+            recordings::damaged_recording(&mut random, limits::CONTROLLERS, limits::STATES);
         let controller = random.below(limits::CONTROLLERS);
         count(&mut tally, project(&damaged, controller));
-        let recording = traces::recording(&mut random, limits::CONTROLLERS, limits::STATES);
+        let recording = recordings::recording(&mut random, limits::CONTROLLERS, limits::STATES);
         assert!(project(&recording, 0).is_ok());
     }
     expect(&tally, &[0, 6, 7, 8, 10, 11], 100);
@@ -135,10 +136,10 @@ fn every_damage_is_refused_now_and_then() {
     for kind in DAMAGES {
         let (mut rules, mut recordings) = (Tally::new(), Tally::new());
         for _ in 0..300 {
-            let rule = texts::rule_text(&formulas::rule(&mut random, 8));
+            let rule = texts::rule_text(&rules::rule(&mut random, 8));
             let rule = texts::damage(&mut random, &rule, kind);
             count(&mut rules, model::read_rule(&rule, &mut nodes));
-            let recording = texts::recording_text(&traces::recording(&mut random, 4, 8));
+            let recording = texts::recording_text(&recordings::recording(&mut random, 4, 8));
             let recording = texts::damage(&mut random, &recording, kind);
             count(&mut recordings, read_recording(&recording));
         }
@@ -170,9 +171,9 @@ fn schedules_differ_and_local_traces_do_not() {
     let mut random = Random::new(38);
     let mut differ = [0; 3];
     for _ in 0..5000 {
-        let one = traces::recording(&mut random, limits::CONTROLLERS, limits::STATES);
+        let one = recordings::recording(&mut random, limits::CONTROLLERS, limits::STATES);
         let controller = random.below(one.controllers);
-        let other = traces::rescheduled(&mut random, &one, controller);
+        let other = recordings::rescheduled(&mut random, &one, controller);
         assert_eq!(one.masks[controller], other.masks[controller]);
         assert_eq!(project(&one, controller), project(&other, controller));
         differ[0] += usize::from(one.length != other.length);
@@ -188,12 +189,12 @@ fn varied_local_traces_keep_length_mask_and_the_kept_bits() {
     let mut random = Random::new(40);
     let mut differ = 0;
     for _ in 0..5000 {
-        let one = traces::recording(&mut random, limits::CONTROLLERS, limits::STATES);
+        let one = recordings::recording(&mut random, limits::CONTROLLERS, limits::STATES);
         let controller = random.below(one.controllers);
-        let places = traces::places(&one, controller);
+        let places = recordings::places(&one, controller);
         assert_eq!(Ok(&places), project(&one, controller).as_ref());
         let kept: Vec<u32> = places.iter().map(|_| random.word() | random.word()).collect();
-        let other = traces::varied(&mut random, &one, controller, &kept);
+        let other = recordings::varied(&mut random, &one, controller, &kept);
         let varied = project(&other, controller).expect("accepted");
         assert_eq!(one.masks[controller], other.masks[controller]);
         assert_eq!(places.len(), varied.len());
@@ -212,8 +213,8 @@ fn last_states_are_marked_and_unmarked() {
     let marked = |recording: &RecordingTable| recording.states[recording.length - 1] >> 32 != 0;
     let mut tally = [0; 2];
     for _ in 0..1000 {
-        let one = traces::recording(&mut random, limits::CONTROLLERS, limits::STATES);
-        let other = traces::rescheduled(&mut random, &one, 0);
+        let one = recordings::recording(&mut random, limits::CONTROLLERS, limits::STATES);
+        let other = recordings::rescheduled(&mut random, &one, 0);
         tally[usize::from(marked(&one))] += 1;
         tally[usize::from(marked(&other))] += 1;
     }

@@ -2,10 +2,10 @@
 //! what it prints.
 
 use reference::generate::exhaustive;
-use reference::generate::formulas;
 use reference::generate::random::Random;
-use reference::model::formula::Node;
+use reference::generate::rules;
 use reference::model::limits::{PROGRAM_INPUT, RULE_NODES, TABLE_NODES};
+use reference::model::rule::Node;
 use reference::model::{longest_program, longest_rule, read_rule, rewrite, RuleHeading};
 
 /// The plain and the short node count of a rule for an own mask.
@@ -78,7 +78,7 @@ fn no_rule_exceeds_it() {
     exhaustive::each_rule(4, &mut |nodes| (0..4).for_each(|own| within(nodes, own)));
     let mut random = Random::new(41);
     for _ in 0..6000 {
-        let rule = formulas::rule(&mut random, RULE_NODES);
+        let rule = rules::rule(&mut random, RULE_NODES);
         for own in [0, u32::MAX, random.word()] {
             within(&rule.nodes, own);
         }

@@ -2,11 +2,11 @@
 //! is read as, and that every beginning of an accepted recording is accepted.
 
 use reference::generate::exhaustive;
-use reference::generate::formulas::{self, JudgeTable, RuleTable};
 use reference::generate::random::Random;
+use reference::generate::recordings::{self, RecordingTable};
+use reference::generate::rules::{self, JudgeTable, RuleTable};
 use reference::generate::texts::recording_text;
-use reference::generate::traces::{self, RecordingTable};
-use reference::model::formula::{Node, END, RUN};
+use reference::model::rule::{Node, END, RUN};
 use reference::model::{self, limits, Verdict};
 
 mod common;
@@ -112,10 +112,10 @@ fn check_last_marks(recording: &RecordingTable, table: &JudgeTable, rule: &RuleT
 fn last_marks_are_read_by_nothing() {
     let mut random = Random::new(51);
     for _ in 0..300 {
-        let recording = traces::recording(&mut random, limits::CONTROLLERS, 20);
+        let recording = recordings::recording(&mut random, limits::CONTROLLERS, 20);
         let controller = random.below(recording.controllers);
-        let table = formulas::table(&mut random, 12);
-        let rule = formulas::rule_for(&mut random, controller, 12);
+        let table = rules::table(&mut random, 12);
+        let rule = rules::rule_for(&mut random, controller, 12);
         check_last_marks(&recording, &table, &rule);
     }
 }
@@ -135,7 +135,7 @@ fn check_beginnings(recording: &RecordingTable) {
 fn beginnings_are_accepted() {
     let mut random = Random::new(52);
     for _ in 0..300 {
-        check_beginnings(&traces::recording(&mut random, limits::CONTROLLERS, limits::STATES));
+        check_beginnings(&recordings::recording(&mut random, limits::CONTROLLERS, limits::STATES));
     }
     exhaustive::each_recording(2, 3, &mut |recording| check_beginnings(recording));
 }

@@ -3,8 +3,8 @@
 
 use reference::generate::lines::{alphabet, damaged, full, line, short_list, spelled};
 use reference::generate::random::Random;
-use reference::model::formula::{Node, ATOM, NEXT, NOT, OR, SINCE, TRUE, UNTIL};
 use reference::model::one_line::{derivations, read, spellings};
+use reference::model::rule::{Node, ATOM, NEXT, NOT, OR, SINCE, TRUE, UNTIL};
 use reference::model::{read_line, rule_program};
 
 /// The nodes of a line, as kinds and operands.
@@ -56,6 +56,7 @@ fn numbers_come_in_their_order() {
         (" a0".to_string(), 15),
         ("a0 ".to_string(), 15),
         ("a0  |a1".to_string(), 15),
+        ("a0 - > a1".to_string(), 15),
         ("a01".to_string(), 15),
         (String::new(), 15),
     ];
@@ -71,8 +72,12 @@ fn lent_nodes_are_left_as_after_reading_a_rule() {
     let mut nodes = [7; 65];
     assert!(read_line(3, b"!a0", &mut nodes).is_ok());
     assert_eq!(nodes[2..], [&[0; 62][..], &[7]].concat());
-    assert_eq!(read_line(3, b"!", &mut nodes), Err(15));
-    assert_eq!(nodes[..], [&[0; 64][..], &[7]].concat());
+    let deep = "(".repeat(17) + "a0" + &")".repeat(17);
+    for (line, number) in [("!", 15), (&deep, 16), ("a32", 2)] {
+        nodes = [7; 65];
+        assert_eq!(read_line(3, line.as_bytes(), &mut nodes), Err(number));
+        assert_eq!(nodes[..], [&[0; 64][..], &[7]].concat());
+    }
     let mut short = [7; 63];
     assert_eq!(read_line(3, b"!", &mut short), Err(13));
     assert_eq!(short, [7; 63]);

@@ -2,11 +2,11 @@
 //! tables of wrong rewriters give a wrong verdict on some small pair.
 
 use reference::generate::exhaustive;
-use reference::generate::formulas::{self, listed, RuleTable};
 use reference::generate::random::Random;
-use reference::generate::traces::RecordingTable;
-use reference::model::formula::{check_formula, Node, PREV, SINCE};
+use reference::generate::recordings::RecordingTable;
+use reference::generate::rules::{self, listed, RuleTable};
 use reference::model::rewriting::{rewrite, rewrite_by, AsWorded, Decisions, Rewritten};
+use reference::model::rule::{check_rule, Node, PREV, SINCE};
 use reference::model::{self, limits, Verdict};
 
 const NO_NO: Verdict = Verdict { weak: false, strong: false };
@@ -33,9 +33,9 @@ fn recording_z() -> RecordingTable {
 
 /// The table of a rule, with these decisions.
 fn table(decisions: &dyn Decisions, short: bool, rule: &RuleTable, own: u32) -> Rewritten {
-    let formula = check_formula(rule.controller, rule.count, &rule.nodes);
-    let Ok(formula) = formula else { unreachable!("the rule is accepted") };
-    rewrite_by(decisions, short, &formula, own)
+    let checked = check_rule(rule.controller, rule.count, &rule.nodes);
+    let Ok(accepted) = checked else { unreachable!("the rule is accepted") };
+    rewrite_by(decisions, short, &accepted, own)
 }
 
 /// The verdict of a table over the whole recording.
@@ -139,9 +139,9 @@ fn no_longer(rule: &RuleTable, own: u32) {
     let [plain, former_plain] =
         [&AsWorded as &dyn Decisions, &Former].map(|by| table(by, false, rule, own));
     assert_eq!(plain.nodes, former_plain.nodes, "{rule:?}");
-    let formula = check_formula(0, rule.count, &rule.nodes);
-    let Ok(formula) = formula else { unreachable!("the rule is accepted") };
-    let short = rewrite(true, &formula, own).nodes.len();
+    let checked = check_rule(0, rule.count, &rule.nodes);
+    let Ok(accepted) = checked else { unreachable!("the rule is accepted") };
+    let short = rewrite(true, &accepted, own).nodes.len();
     let former = table(&Former, true, rule, own).nodes.len();
     assert!(short <= former && former <= plain.nodes.len(), "{rule:?}");
     let past = rule.nodes.iter().any(|word| matches!(Node::of_word(*word).kind, PREV | SINCE));
@@ -156,7 +156,7 @@ fn never_longer_than_before() {
     });
     let mut random = Random::new(81);
     for _ in 0..3000 {
-        let rule = RuleTable { controller: 0, ..formulas::rule(&mut random, limits::RULE_NODES) };
+        let rule = RuleTable { controller: 0, ..rules::rule(&mut random, limits::RULE_NODES) };
         no_longer(&rule, random.word());
     }
 }

@@ -3,10 +3,10 @@
 
 use std::time::Instant;
 
-use reference::generate::formulas::{self, JudgeTable};
 use reference::generate::random::Random;
-use reference::generate::traces::{self, RecordingTable};
-use reference::model::formula::{Node, ATOM, END, NEXT, NOT, OR, PREV, RUN, SINCE, TRUE, UNTIL};
+use reference::generate::recordings::{self, RecordingTable};
+use reference::generate::rules::{self, JudgeTable};
+use reference::model::rule::{Node, ATOM, END, NEXT, NOT, OR, PREV, RUN, SINCE, TRUE, UNTIL};
 use reference::model::{self, limits};
 
 /// Rows of one table over one recording.
@@ -103,8 +103,8 @@ fn check_rows(table: &JudgeTable, recording: &RecordingTable, controller: usize)
 fn rows_unfold() {
     let mut random = Random::new(21);
     for _ in 0..400 {
-        let table = formulas::table(&mut random, 200);
-        let recording = traces::recording(&mut random, limits::CONTROLLERS, limits::STATES);
+        let table = rules::table(&mut random, 200);
+        let recording = recordings::recording(&mut random, limits::CONTROLLERS, limits::STATES);
         let controller = random.below(recording.controllers);
         check_rows(&table, &recording, controller);
     }
@@ -113,13 +113,13 @@ fn rows_unfold() {
 #[test]
 fn largest_table_over_the_longest_recording() {
     let mut random = Random::new(22);
-    let mut table = formulas::table(&mut random, limits::TABLE_NODES);
+    let mut table = rules::table(&mut random, limits::TABLE_NODES);
     while table.count < limits::TABLE_NODES {
-        table = formulas::table(&mut random, limits::TABLE_NODES);
+        table = rules::table(&mut random, limits::TABLE_NODES);
     }
-    let mut recording = traces::recording(&mut random, limits::CONTROLLERS, limits::STATES);
+    let mut recording = recordings::recording(&mut random, limits::CONTROLLERS, limits::STATES);
     while recording.length < limits::STATES {
-        recording = traces::recording(&mut random, limits::CONTROLLERS, limits::STATES);
+        recording = recordings::recording(&mut random, limits::CONTROLLERS, limits::STATES);
     }
     let start = Instant::now();
     judge(&table, &recording, 0);

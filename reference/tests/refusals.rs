@@ -1,11 +1,11 @@
 //! "Where a refusal is met", case by case, the refused lines of the joint
 //! reading, and what every operation leaves in lent space.
 
-use reference::generate::formulas::{self, JudgeTable, RuleTable};
 use reference::generate::lent;
 use reference::generate::random::Random;
+use reference::generate::recordings::{self, RecordingTable};
+use reference::generate::rules::{self, JudgeTable, RuleTable};
 use reference::generate::texts;
-use reference::generate::traces::{self, RecordingTable};
 use reference::model::{self, limits, Part, Source};
 
 /// The joint reading's number and the refused line.
@@ -254,7 +254,10 @@ fn order_of_the_whole_judge() {
         model::judge_recording(count, nodes, weak, strong, 1, length, &[1], &[0], c, &mut rows)
     };
     assert_eq!(judge(1025, &[0; 1025], 0, 0, 1, 0), Err(2));
+    assert_eq!(judge(1, &[2], 1, 1, 1, 0), Err(3));
     assert_eq!(judge(2, &[8], 9, 9, 1, 0), Err(4));
+    assert_eq!(judge(1, &[8], 1, 0, 1, 0), Err(2));
+    assert_eq!(judge(1, &[8], 0, 1, 1, 0), Err(2));
     assert_eq!(judge(2, &[8, 9], 2, 0, 0, 0), Err(2));
     assert_eq!(judge(2, &[8, 9], 0, usize::MAX, 0, 0), Err(2));
     assert_eq!(judge(2, &[8, 9], 0, 1, 0, 1), Err(6));
@@ -357,7 +360,7 @@ fn lent_space_of_reading_a_rule() {
 fn lent_space_of_writing_and_rewriting() {
     let mut random = Random::new(12);
     for _ in 0..4000 {
-        let RuleTable { controller, count, nodes } = formulas::any_rule(&mut random, 20);
+        let RuleTable { controller, count, nodes } = rules::any_rule(&mut random, 20);
         let length = lent::length(&mut random, limits::RULE_TEXT);
         let before = lent::bytes(&mut random, length);
         let mut after = before.clone();
@@ -415,7 +418,7 @@ fn lent_space_of_projection() {
     let mut random = Random::new(15);
     for _ in 0..4000 {
         let RecordingTable { controllers, length, masks, states } =
-            traces::any_recording(&mut random, 8, 20);
+            recordings::any_recording(&mut random, 8, 20);
         let (before, mut after) = lend(&mut random, limits::PLACES);
         let c = random.below(4);
         let answer = model::project(controllers, length, &masks, &states, c, &mut after);
@@ -429,9 +432,8 @@ fn lent_space_of_the_whole_judge() {
     let mut random = Random::new(16);
     for _ in 0..1000 {
         let RecordingTable { controllers: cs, length, masks, states } =
-            traces::any_recording(&mut random, 8, 20);
-        let JudgeTable { count, nodes, weak_top, strong_top } =
-            formulas::any_table(&mut random, 30);
+            recordings::any_recording(&mut random, 8, 20);
+        let JudgeTable { count, nodes, weak_top, strong_top } = rules::any_table(&mut random, 30);
         let (before, mut after) = lend_long(&mut random, limits::ROW_WORDS);
         let (c, rows) = (random.below(4), &mut after);
         let answer = model::judge_recording(

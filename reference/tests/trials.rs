@@ -4,13 +4,13 @@
 use std::collections::HashMap;
 
 use reference::generate::exhaustive;
-use reference::generate::formulas::{self, listed, RuleTable};
 use reference::generate::random::Random;
+use reference::generate::recordings::{self, RecordingTable};
+use reference::generate::rules::{self, listed, RuleTable};
 use reference::generate::texts::{recording_text, rule_text};
-use reference::generate::traces::{self, RecordingTable};
-use reference::model::formula::{Node, ATOM, END, NEXT, NOT, OR, PREV, RUN, SINCE, TRUE, UNTIL};
-use reference::model::semantics::{trace_readings, Reading};
-use reference::model::trace::{check_trace, Trace};
+use reference::model::recording::{check_recording, Recording};
+use reference::model::rule::{Node, ATOM, END, NEXT, NOT, OR, PREV, RUN, SINCE, TRUE, UNTIL};
+use reference::model::semantics::{whole_readings, Reading};
 use reference::model::{self, limits, RecordingHeading, Rewriting, RuleHeading, Verdict};
 
 const NO_NO: Verdict = Verdict { weak: false, strong: false };
@@ -348,7 +348,7 @@ fn rewritten_tables_of_random_rules() {
     let mut random = Random::new(1);
     let mut rows = vec![0; limits::ROW_WORDS];
     for _ in 0..3000 {
-        let rule = formulas::rule(&mut random, limits::RULE_NODES);
+        let rule = rules::rule(&mut random, limits::RULE_NODES);
         let mask = random.word();
         check_rewritings(&rule, mask, &mut rows);
     }
@@ -377,7 +377,7 @@ fn round_trips_of_rules() {
     });
     let mut random = Random::new(2);
     for _ in 0..5000 {
-        check_round_trip(&formulas::rule(&mut random, limits::RULE_NODES));
+        check_round_trip(&rules::rule(&mut random, limits::RULE_NODES));
     }
 }
 
@@ -385,7 +385,7 @@ fn round_trips_of_rules() {
 fn round_trips_of_recordings() {
     let mut random = Random::new(3);
     for _ in 0..3000 {
-        let recording = traces::recording(&mut random, limits::CONTROLLERS, limits::STATES);
+        let recording = recordings::recording(&mut random, limits::CONTROLLERS, limits::STATES);
         let mut masks = [1; limits::CONTROLLERS];
         let mut states = [1; limits::STATES];
         let answer = model::read_recording(&recording_text(&recording), &mut masks, &mut states);
@@ -473,32 +473,36 @@ fn exhaust_demand_3(nodes: usize, states: usize) {
     let rules: Vec<SmallRule> = exhaustive::rules(nodes).into_iter().map(SmallRule::new).collect();
     let mut compared = 0;
     for ((controller, own, _), recordings) in by_local_trace(states) {
-        let traces: Vec<Trace> = recordings.iter().map(accepted).collect();
+        let read: Vec<Recording> = recordings.iter().map(accepted).collect();
         for rule in &rules {
             let table = small_rule(&rule.nodes, controller);
             check_demand_3(&table, own, &recordings[..1], &mut rows);
             let expected = local(&table, &recordings[0]);
-            for trace in &traces {
+            for recording in &read {
                 for rewritten in &rule.tables[own as usize] {
-                    assert_eq!(expected, read_at_tops(rewritten, trace, controller));
+                    assert_eq!(expected, read_at_tops(rewritten, recording, controller));
                 }
             }
-            compared += traces.len();
+            compared += read.len();
         }
     }
     println!("{compared} pairs of a rule and a recording of up to {states} states");
 }
 
 /// The recording that accepted tables are.
-fn accepted(recording: &RecordingTable) -> Trace {
+fn accepted(recording: &RecordingTable) -> Recording {
     let RecordingTable { controllers, length, masks, states } = recording;
-    check_trace(*controllers, *length, masks, states).expect("the recording is accepted")
+    check_recording(*controllers, *length, masks, states).expect("the recording is accepted")
 }
 
 /// The verdicts of a rewritten table.
-fn read_at_tops(rewritten: &(Vec<Node>, Rewriting), trace: &Trace, controller: usize) -> Verdict {
+fn read_at_tops(
+    rewritten: &(Vec<Node>, Rewriting),
+    recording: &Recording,
+    controller: usize,
+) -> Verdict {
     let (nodes, answer) = rewritten;
-    let readings = trace_readings(nodes, trace, controller);
+    let readings = whole_readings(nodes, recording, controller);
     Verdict {
         weak: readings.at(answer.weak_top, Reading::Weak, 0),
         strong: readings.at(answer.strong_top, Reading::Strong, 0),
@@ -521,11 +525,11 @@ fn demand_3_for_random_rules_and_schedules() {
     let mut rows = vec![0; limits::ROW_WORDS];
     let mut verdicts = HashMap::new();
     for _ in 0..1500 {
-        let one = traces::recording(&mut random, limits::CONTROLLERS, limits::STATES);
+        let one = recordings::recording(&mut random, limits::CONTROLLERS, limits::STATES);
         let controller = random.below(one.controllers);
-        let other = traces::rescheduled(&mut random, &one, controller);
+        let other = recordings::rescheduled(&mut random, &one, controller);
         assert_eq!(local_trace(&one, controller), local_trace(&other, controller));
-        let rule = formulas::rule_for(&mut random, controller, limits::RULE_NODES);
+        let rule = rules::rule_for(&mut random, controller, limits::RULE_NODES);
         let own = one.masks[controller];
         let verdict = local(&rule, &one);
         check_demand_3(&rule, own, &[one, other], &mut rows);

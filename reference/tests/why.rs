@@ -4,7 +4,7 @@
 use reference::generate::endings::{mixed_endings, with_returns};
 use reference::generate::random::Random;
 use reference::generate::texts::{any_program_input, program_input, recording_text, rule_text};
-use reference::generate::{formulas, traces};
+use reference::generate::{recordings, rules};
 use reference::model::limits::{CONTROLLERS, PROGRAM_INPUT, RULE_NODES, STATES};
 use reference::model::{program, program_says, why};
 
@@ -121,9 +121,9 @@ fn refused_texts_are_refused_as_by_the_program_of_document_01() {
 fn the_verdict_is_the_one_of_the_local_trace() {
     let mut random = Random::new(6);
     for _ in 0..300 {
-        let recording = traces::recording(&mut random, CONTROLLERS, STATES);
+        let recording = recordings::recording(&mut random, CONTROLLERS, STATES);
         let controller = random.below(recording.controllers);
-        let rule = formulas::rule_for(&mut random, controller, RULE_NODES);
+        let rule = rules::rule_for(&mut random, controller, RULE_NODES);
         let texts = program_input(&rule_text(&rule), &recording_text(&recording));
         let judged = String::from_utf8(program(&texts)).expect("letters and digits");
         let own = judged.lines().nth(1).expect("a line").split('\t').collect::<Vec<_>>();

@@ -10,7 +10,7 @@ use Rattle.definitions.specs.Recordings.{Recording, firstStates, recordi
 use Rattle.definitions.specs.Projection.{localTrace}
 use Rattle.definitions.specs.Readings.{Verdicts, localVerdicts}
 use Rattle.definitions.specs.Early.{begins, sameMask, sameMarks, sameWords, sameOwnLast, beginsFor, announced}
-use Rattle.definitions.proofs.Samples.{computed, recorded, R}
+use Rattle.definitions.proofs.Samples.{computed, recorded, R, rule, yes, no, judged, agreed}
 
 -- the verdicts of controller 0 on a recording
 abbrev on : List Node → Recording → Verdicts
@@ -120,6 +120,29 @@ isAnnounced = record {
   cutFor = refl;
   undecidedBroken = refl;
   openKept = refl;
+}
+
+-- the same announced by the plain and by the short table over the whole recording, and they stay
+pub record AnnouncedByTables : Type 0 where
+  pub weakNo : judged (rule always) twoSteps ≡ agreed no no 36 23
+  pub weakNoStays : judged (rule always) twoStepsOn ≡ agreed no no 36 23
+  pub weakNoWithOther : judged (rule always) withOther ≡ agreed no no 36 23
+  pub strongYes : judged (rule once) twoSteps ≡ agreed yes yes 32 19
+  pub strongYesStays : judged (rule once) twoStepsOn ≡ agreed yes yes 32 19
+  pub strongYesWithOther : judged (rule once) withOther ≡ agreed yes yes 32 19
+  -- and `yes no` may become `no no`
+  pub neither : judged (rule always) (firstStates 1 twoSteps) ≡ agreed yes no 36 23
+
+announcedByTables : AnnouncedByTables
+unfolding computed
+announcedByTables = record {
+  weakNo = refl;
+  weakNoStays = refl;
+  weakNoWithOther = refl;
+  strongYes = refl;
+  strongYesStays = refl;
+  strongYesWithOther = refl;
+  neither = refl;
 }
 
 -- each thing that is asked is needed: all the others are there, and a strong yes goes

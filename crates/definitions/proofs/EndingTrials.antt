@@ -2,15 +2,21 @@
 use mathlib.Core.Path.{_≡_, refl}
 use Prim.Native.Nat.{ℕ}
 use Prim.Native.String.{String}
-use mathlib.Core.List.{List, _++_}
+use mathlib.Core.List.{List, [], _∷_, _++_}
+use lib.ListN.{replicate}
 use Rattle.definitions.specs.Lines.{bytes, withNewlines}
 use Rattle.definitions.specs.RuleText.{RuleScan, scanRule, ruleText}
-use Rattle.definitions.specs.Program.{programOutput}
+use Rattle.definitions.specs.RecordingText.{jointPart}
+use Rattle.definitions.specs.Program.{bytesOf, programOutput}
 use Rattle.definitions.proofs.Samples.{computed}
 
 -- what the program prints of an input
 abbrev prints : String → List ℕ
 prints input = programOutput (bytes input)
+
+-- the line that the joint reading hands back of a rule text without a recording text
+abbrev handed : List ℕ → List ℕ
+handed text = bytesOf text [] (jointPart text [])
 
 -- what is written of the rule that was read
 abbrev written : RuleScan → List ℕ
@@ -38,6 +44,25 @@ pub record EitherEnding : Type 0 where
 eitherEnding : EitherEnding
 unfolding computed
 eitherEnding = record { mixed = refl; otherwiseMixed = refl; example = refl; comesBack = refl; madeNewlines = refl }
+
+-- bytes 13 13 10 end a line by their last two, and made 13 10 they end the line before them: such a text isn't read as it is with byte 10 at each line
+pub record Unsettled : Type 0 where
+  pub again : withNewlines (withNewlines (bytes "x\r\r\n")) ≡ bytes "x\n"
+  pub handedBack : handed (bytes "x\r\r\n") ≡ bytes "x\r"
+  pub handedBackRenewed : handed (withNewlines (bytes "x\r\r\n")) ≡ bytes "x"
+
+unsettled : Unsettled
+unfolding computed
+unsettled = record { again = refl; handedBack = refl; handedBackRenewed = refl }
+
+-- "14 over 16,384 bytes": the bytes as they came, so 13 10 are two; one line of 16,383 bytes, with the one ending and with the other
+pub record CountedBytes : Type 0 where
+  pub newline : programOutput (replicate 16383 120 ++ (10 ∷ [])) ≡ bytes "refused\t1\t" ++ (replicate 16383 120 ++ (10 ∷ []))
+  pub returned : programOutput (replicate 16383 120 ++ (13 ∷ 10 ∷ [])) ≡ bytes "refused\t14\t\n"
+
+countedBytes : CountedBytes
+unfolding computed
+countedBytes = record { newline = refl; returned = refl }
 
 -- "The line that it hands back leaves out its ending. A byte 13 anywhere else still makes the line malformed"
 pub record ReturnsElsewhere : Type 0 where

@@ -12,10 +12,10 @@ use Rattle.definitions.specs.RuleText.{nodeText, nodesText, ruleText}
 use Rattle.definitions.specs.Operations.{answer, left}
 use Rattle.definitions.specs.LinePrograms.{inputRefusal, refusalText, refusalOr}
 use Rattle.definitions.specs.OneLineSigns as sign
-use Rattle.definitions.specs.OneLineSigns.{Sign, atom, before, between, opening, closing, Spells, last, next, spaced}
-use Rattle.definitions.specs.OneLineGrammar.{reading, one, two, Sentence, arrow, noArrow, or, noOr, and, noAnd, until, since, noUntil, prefix, noPrefix, isAtom, bracketed, larger, mostOpen}
-use Rattle.definitions.specs.OneLineNodes.{formulaOf, size, nodesFrom, largestAtom}
-use Rattle.definitions.specs.OneLineReading.{past, signAmong, digitsAhead, atomFirst, signFirst, afterSpace, signsBy, signsOf, closed, operandBy, whole, treeOf}
+use Rattle.definitions.specs.OneLineSigns.{Sign, atomSign, prefixSign, infixSign, openBracket, closeBracket, Spells, last, next, spaced}
+use Rattle.definitions.specs.OneLineGrammar.{atom, prefixed, joined, Sentence, arrow, noArrow, or, noOr, and, noAnd, until, since, noUntil, prefix, noPrefix, atomAlone, bracketed, larger, mostOpen}
+use Rattle.definitions.specs.OneLineNodes.{ruleTreeOf, size, nodesFrom, largestAtom}
+use Rattle.definitions.specs.OneLineReading.{past, signAmong, digitsAhead, atomFirst, signFirst, afterSpace, signsBy, signsOf, bracketClosed, operandBy, treeAtEnd, treeOf}
 use Rattle.definitions.specs.OneLine.{sentenceRefusal, lineRefusal, lineNodes, readLineNumber, readLineAnswer, readLineNodes, lineOutput, typedOutput, ruleOutput}
 
 -- the word n times
@@ -33,42 +33,42 @@ lent = replicate maxRuleNodes 7
 
 -- the signs of `G (a1 -> X a0)`, and of three atoms with two signs between
 abbrev itsSigns : List Sign
-itsSigns = before sign.Always ∷ opening ∷ atom 1 ∷ between sign.Implies ∷ before sign.Next ∷ atom 0 ∷ closing ∷ []
+itsSigns = prefixSign sign.Always ∷ openBracket ∷ atomSign 1 ∷ infixSign sign.Implies ∷ prefixSign sign.Next ∷ atomSign 0 ∷ closeBracket ∷ []
 
-abbrev three : sign.Infix → sign.Infix → List Sign
-three x y = atom 0 ∷ between x ∷ atom 1 ∷ between y ∷ atom 2 ∷ []
+abbrev threeAtoms : sign.Infix → sign.Infix → List Sign
+threeAtoms x y = atomSign 0 ∷ infixSign x ∷ atomSign 1 ∷ infixSign y ∷ atomSign 2 ∷ []
 
 -- derivations in the grammar
 pub record Derivations : Type 0 where
   pub spelled : Spells (bytes "G (a1 -> X a0)") itsSigns
-  pub sentence : Sentence itsSigns (one sign.Always (two sign.Implies (reading 1) (one sign.Next (reading 0))))
+  pub sentence : Sentence itsSigns (prefixed sign.Always (joined sign.Implies (atom 1) (prefixed sign.Next (atom 0))))
   -- "to the right"
-  pub arrows : Sentence (three sign.Implies sign.Implies) (two sign.Implies (reading 0) (two sign.Implies (reading 1) (reading 2)))
-  pub untils : Sentence (three sign.Until sign.Since) (two sign.Until (reading 0) (two sign.Since (reading 1) (reading 2)))
-  pub sinces : Sentence (three sign.Since sign.Until) (two sign.Since (reading 0) (two sign.Until (reading 1) (reading 2)))
+  pub arrows : Sentence (threeAtoms sign.Implies sign.Implies) (joined sign.Implies (atom 0) (joined sign.Implies (atom 1) (atom 2)))
+  pub untils : Sentence (threeAtoms sign.Until sign.Since) (joined sign.Until (atom 0) (joined sign.Since (atom 1) (atom 2)))
+  pub sinces : Sentence (threeAtoms sign.Since sign.Until) (joined sign.Since (atom 0) (joined sign.Until (atom 1) (atom 2)))
   -- "to the left"
-  pub ors : Sentence (three sign.Or sign.Or) (two sign.Or (two sign.Or (reading 0) (reading 1)) (reading 2))
-  pub ands : Sentence (three sign.And sign.And) (two sign.And (two sign.And (reading 0) (reading 1)) (reading 2))
+  pub ors : Sentence (threeAtoms sign.Or sign.Or) (joined sign.Or (joined sign.Or (atom 0) (atom 1)) (atom 2))
+  pub ands : Sentence (threeAtoms sign.And sign.And) (joined sign.And (joined sign.And (atom 0) (atom 1)) (atom 2))
   -- a prefix binds more tightly than `U`
-  pub notUntil : Sentence (before sign.Not ∷ atom 0 ∷ between sign.Until ∷ atom 1 ∷ []) (two sign.Until (one sign.Not (reading 0)) (reading 1))
+  pub notUntil : Sentence (prefixSign sign.Not ∷ atomSign 0 ∷ infixSign sign.Until ∷ atomSign 1 ∷ []) (joined sign.Until (prefixed sign.Not (atom 0)) (atom 1))
 
 derivations : Derivations
 unfolding digits digitsBy pick
 derivations = record {
   spelled =
-      spaced (before sign.Always) (next opening (spaced (atom 1) (spaced (between sign.Implies) (spaced (before sign.Next) (next (atom 0) (last closing))))));
+      spaced (prefixSign sign.Always) (next openBracket (spaced (atomSign 1) (spaced (infixSign sign.Implies) (spaced (prefixSign sign.Next) (next (atomSign 0) (last closeBracket))))));
   sentence =
       noArrow (noOr (noAnd (noUntil (prefix sign.Always (noPrefix (bracketed
-      (arrow (noOr (noAnd (noUntil (noPrefix (isAtom 1)))))
-      (noArrow (noOr (noAnd (noUntil (prefix sign.Next (noPrefix (isAtom 0))))))))))))));
+      (arrow (noOr (noAnd (noUntil (noPrefix (atomAlone 1)))))
+      (noArrow (noOr (noAnd (noUntil (prefix sign.Next (noPrefix (atomAlone 0))))))))))))));
   arrows =
-      arrow (noOr (noAnd (noUntil (noPrefix (isAtom 0)))))
-      (arrow (noOr (noAnd (noUntil (noPrefix (isAtom 1))))) (noArrow (noOr (noAnd (noUntil (noPrefix (isAtom 2)))))));
-  untils = noArrow (noOr (noAnd (until (noPrefix (isAtom 0)) (since (noPrefix (isAtom 1)) (noUntil (noPrefix (isAtom 2)))))));
-  sinces = noArrow (noOr (noAnd (since (noPrefix (isAtom 0)) (until (noPrefix (isAtom 1)) (noUntil (noPrefix (isAtom 2)))))));
-  ors = noArrow (or (or (noOr (noAnd (noUntil (noPrefix (isAtom 0))))) (noAnd (noUntil (noPrefix (isAtom 1))))) (noAnd (noUntil (noPrefix (isAtom 2)))));
-  ands = noArrow (noOr (and (and (noAnd (noUntil (noPrefix (isAtom 0)))) (noUntil (noPrefix (isAtom 1)))) (noUntil (noPrefix (isAtom 2)))));
-  notUntil = noArrow (noOr (noAnd (until (prefix sign.Not (noPrefix (isAtom 0))) (noUntil (noPrefix (isAtom 1))))));
+      arrow (noOr (noAnd (noUntil (noPrefix (atomAlone 0)))))
+      (arrow (noOr (noAnd (noUntil (noPrefix (atomAlone 1))))) (noArrow (noOr (noAnd (noUntil (noPrefix (atomAlone 2)))))));
+  untils = noArrow (noOr (noAnd (until (noPrefix (atomAlone 0)) (since (noPrefix (atomAlone 1)) (noUntil (noPrefix (atomAlone 2)))))));
+  sinces = noArrow (noOr (noAnd (since (noPrefix (atomAlone 0)) (until (noPrefix (atomAlone 1)) (noUntil (noPrefix (atomAlone 2)))))));
+  ors = noArrow (or (or (noOr (noAnd (noUntil (noPrefix (atomAlone 0))))) (noAnd (noUntil (noPrefix (atomAlone 1))))) (noAnd (noUntil (noPrefix (atomAlone 2)))));
+  ands = noArrow (noOr (and (and (noAnd (noUntil (noPrefix (atomAlone 0)))) (noUntil (noPrefix (atomAlone 1)))) (noUntil (noPrefix (atomAlone 2)))));
+  notUntil = noArrow (noOr (noAnd (until (prefix sign.Not (noPrefix (atomAlone 0))) (noUntil (noPrefix (atomAlone 1))))));
 }
 
 -- the nodes of trees
@@ -95,7 +95,7 @@ pub record Shapes : Type 0 where
   pub eventually : lineNodes (bytes "F Y X true") ≡ node True 0 0 ∷ node True 0 0 ∷ node Next 1 0 ∷ node Prev 2 0 ∷ node Until 0 3 ∷ []
 
 shapes : Shapes
-unfolding pick lines.before lines.newlineNext lines.isReturn lines.lineLength onParsed decimalOn decimal digitsBy digits larger mostOpen formulaOf size nodesFrom largestAtom past signAmong digitsAhead atomFirst signFirst afterSpace signsBy signsOf closed operandBy whole treeOf sentenceRefusal lineRefusal lineNodes
+unfolding pick lines.before lines.newlineNext lines.isReturn lines.lineLength onParsed decimalOn decimal digitsBy digits larger mostOpen ruleTreeOf size nodesFrom largestAtom past signAmong digitsAhead atomFirst signFirst afterSpace signsBy signsOf bracketClosed operandBy treeAtEnd treeOf sentenceRefusal lineRefusal lineNodes
 shapes = record {
   always = refl;
   untils = refl;
@@ -118,6 +118,8 @@ pub record Numbers : Type 0 where
   pub spaceFirst : lineRefusal 0 (bytes " a0") ≡ 15
   pub spaceLast : lineRefusal 0 (bytes "a0 ") ≡ 15
   pub spaceInside : lineRefusal 0 (bytes "a 0") ≡ 15
+  -- "`->`, `true` and `a` with its number are one sign each"
+  pub spaceInArrow : lineRefusal 0 (bytes "a0 - > a1") ≡ 15
   -- "the number has no leading zeros"
   pub leadingZero : lineRefusal 0 (bytes "a01") ≡ 15
   pub emptyLine : lineRefusal 0 [] ≡ 15
@@ -129,8 +131,9 @@ pub record Numbers : Type 0 where
   -- "at most 16 deep"
   pub brackets16 : lineRefusal 0 (nested 16) ≡ 0
   pub brackets17 : lineRefusal 0 (nested 17) ≡ 16
-  -- 15 goes before 16, 16 before 2
+  -- 15 goes before 16 and before 2, 16 before 2
   pub brackets17NoSentence : lineRefusal 0 (nested 17 ++ bytes ")") ≡ 15
+  pub highAtomNoSentence : lineRefusal 0 (bytes "a32 |") ≡ 15
   pub brackets17HighAtom : lineRefusal 0 (times 17 (bytes "(") ++ (bytes "a32" ++ times 17 (bytes ")"))) ≡ 16
   -- brackets that are closed again are not open
   pub bracketsApart : lineRefusal 0 (nested 16 ++ (bytes "|" ++ nested 16)) ≡ 0
@@ -151,13 +154,14 @@ pub record Numbers : Type 0 where
   pub bytes1025 : lineRefusal 0 (times 13 (nested 16 ++ bytes " | ") ++ (nested 16 ++ (bytes " |" ++ (times 12 (nested 16 ++ bytes "|") ++ nested 16)))) ≡ 15
 
 numbers : Numbers
-unfolding pick lines.before lines.newlineNext lines.isReturn lines.lineLength onParsed decimalOn decimal digitsBy digits larger mostOpen formulaOf size nodesFrom largestAtom past signAmong digitsAhead atomFirst signFirst afterSpace signsBy signsOf closed operandBy whole treeOf sentenceRefusal lineRefusal lineNodes
+unfolding pick lines.before lines.newlineNext lines.isReturn lines.lineLength onParsed decimalOn decimal digitsBy digits larger mostOpen ruleTreeOf size nodesFrom largestAtom past signAmong digitsAhead atomFirst signFirst afterSpace signsBy signsOf bracketClosed operandBy treeAtEnd treeOf sentenceRefusal lineRefusal lineNodes
 numbers = record {
   unspaced = refl;
   twoSpaces = refl;
   spaceFirst = refl;
   spaceLast = refl;
   spaceInside = refl;
+  spaceInArrow = refl;
   leadingZero = refl;
   emptyLine = refl;
   lineEnd = refl;
@@ -166,6 +170,7 @@ numbers = record {
   brackets16 = refl;
   brackets17 = refl;
   brackets17NoSentence = refl;
+  highAtomNoSentence = refl;
   brackets17HighAtom = refl;
   bracketsApart = refl;
   nodes64 = refl;
@@ -187,6 +192,9 @@ pub record Answers : Type 0 where
   pub acceptedNodes : readLineNodes 3 (bytes "!a0") (lent ++ (9 ∷ [])) ≡ map nodeWord (node Atom 0 0 ∷ node Not 0 0 ∷ []) ++ (replicate 62 0 ++ (9 ∷ []))
   pub refuses : readLineAnswer 3 (bytes "!") lent ≡ answer 15 []
   pub refusedNodes : readLineNodes 3 (bytes "!") (lent ++ (9 ∷ [])) ≡ replicate 64 0 ++ (9 ∷ [])
+  -- after 16 and after 2 as after 15
+  pub refusedNodesDeep : readLineNodes 3 (nested 17) (lent ++ (9 ∷ [])) ≡ replicate 64 0 ++ (9 ∷ [])
+  pub refusedNodesHigh : readLineNodes 3 (bytes "a32") (lent ++ (9 ∷ [])) ≡ replicate 64 0 ++ (9 ∷ [])
   -- 13 before 15, and nothing is touched
   pub lentShort : readLineAnswer 3 (bytes "!") (replicate 63 7) ≡ answer 13 []
   pub untouched : readLineNodes 3 (bytes "!") (replicate 63 7) ≡ replicate 63 7
@@ -201,12 +209,14 @@ pub record Answers : Type 0 where
   pub unclosedReturn : ruleOutput (bytes "2\tX a31\r") ≡ bytes "refused\t1\n"
 
 answers : Answers
-unfolding pick lines.before lines.newlineNext lines.isReturn lines.lineLength onParsed decimalOn decimal digitsBy digits larger mostOpen formulaOf size nodesFrom largestAtom past signAmong digitsAhead atomFirst signFirst afterSpace signsBy signsOf closed operandBy whole treeOf sentenceRefusal lineRefusal lineNodes readLineNumber readLineAnswer readLineNodes answer left kindOf nodeText nodesText ruleText inputRefusal refusalText refusalOr lineOutput typedOutput ruleOutput
+unfolding pick lines.before lines.newlineNext lines.isReturn lines.lineLength onParsed decimalOn decimal digitsBy digits larger mostOpen ruleTreeOf size nodesFrom largestAtom past signAmong digitsAhead atomFirst signFirst afterSpace signsBy signsOf bracketClosed operandBy treeAtEnd treeOf sentenceRefusal lineRefusal lineNodes readLineNumber readLineAnswer readLineNodes answer left kindOf nodeText nodesText ruleText inputRefusal refusalText refusalOr lineOutput typedOutput ruleOutput
 answers = record {
   accepts = refl;
   acceptedNodes = refl;
   refuses = refl;
   refusedNodes = refl;
+  refusedNodesDeep = refl;
+  refusedNodesHigh = refl;
   lentShort = refl;
   untouched = refl;
   printed = refl;

@@ -6,8 +6,9 @@ use mathlib.Core.Bool.{true}
 use mathlib.Core.List.{List, [], _∷_, _++_}
 use lib.ListN.{drop, replicate}
 use Rattle.definitions.specs.Limits.{maxControllers, maxStates, maxRuleNodes, maxRowWords}
-use Rattle.definitions.specs.Nodes.{True, node}
-use Rattle.definitions.specs.Recordings.{recordingRefusal, stateOf}
+use Rattle.definitions.specs.Nodes.{True, Not, node, nodeWord}
+use Rattle.definitions.specs.Tables.{ruleOf, tableOf, ruleRefusal, tableRefusal}
+use Rattle.definitions.specs.Recordings.{recordingOf, recordingRefusal, stateOf}
 use Rattle.definitions.specs.Lines.{bytes}
 use Rattle.definitions.specs.RecordingText.{emptyStart}
 use Rattle.definitions.specs.Operations.{readRuleNumber, readRuleNodes, writeRuleNumber, writeRuleText, readRecordingNumber, readRecordingMasks, readRecordingStates, readJointNumber, readJointPart}
@@ -83,6 +84,26 @@ pub record RefusedTables : Type 0 where
   -- the order 6, 10
   pub outputFirst : recordingRefusal (recorded (1 ∷ []) (stateOf 0 0 ∷ stateOf 1 1 ∷ [])) ≡ 10
   pub markFirst : recordingRefusal (recorded (1 ∷ []) (stateOf 0 0 ∷ stateOf 2 1 ∷ [])) ≡ 6
+  -- "an unused operand not 0", the second or both, and before 3 in the same node
+  pub unusedSecond : ruleRefusal (rule (node True 0 0 ∷ node Not 0 1 ∷ [])) ≡ 2
+  pub unusedBoth : ruleRefusal (rule (node True 1 0 ∷ [])) ≡ 2
+  pub unusedFirst : ruleRefusal (rule (node Not 0 1 ∷ [])) ≡ 2
+  -- "A table, or masks or states, with fewer entries than its count has a line missing": 4, and 8
+  pub nodesFew : ruleRefusal (ruleOf 0 2 (0 ∷ [])) ≡ 4
+  pub tableFew : tableRefusal (tableOf 2 (0 ∷ []) 0 0) ≡ 4
+  pub masksFew : recordingRefusal (recordingOf 2 1 (1 ∷ []) (0 ∷ [])) ≡ 8
+  pub statesFew : recordingRefusal (recordingOf 1 2 (1 ∷ []) (0 ∷ [])) ≡ 8
+  -- each after what is wrong in the entries that are there
+  pub nodesFewLate : ruleRefusal (ruleOf 0 2 (nodeWord (node Not 0 0) ∷ [])) ≡ 3
+  pub statesFewLate : recordingRefusal (recordingOf 1 2 (1 ∷ []) (stateOf 2 0 ∷ [])) ≡ 6
+  -- "A top not below the count is 2, tested after the nodes and 4"
+  pub weakTop : tableRefusal (tableOf 1 (0 ∷ []) 1 0) ≡ 2
+  pub strongTop : tableRefusal (tableOf 1 (0 ∷ []) 0 1) ≡ 2
+  pub nodesBeforeTops : tableRefusal (tableOf 1 (nodeWord (node Not 0 0) ∷ []) 1 1) ≡ 3
+  pub linesBeforeTops : tableRefusal (tableOf 2 (0 ∷ []) 2 2) ≡ 4
+  -- "The judge's table may hold 1,024 nodes"
+  pub nodes1024 : tableRefusal (tableOf 1024 (replicate 1024 0) 1023 1023) ≡ 0
+  pub nodes1025 : tableRefusal (tableOf 1025 (replicate 1025 0) 0 0) ≡ 2
   -- 11 of each operation that takes a controller
   pub projected : projectAnswer R 2 (replicate maxStates 0) ≡ answer 11 []
   pub judgedLocally : judgeLocalAnswer (ruleFor 2 (node True 0 0 ∷ [])) R ≡ answer 11 []
@@ -101,6 +122,21 @@ refusedTables = record {
   outputOfStep = refl;
   outputFirst = refl;
   markFirst = refl;
+  unusedSecond = refl;
+  unusedBoth = refl;
+  unusedFirst = refl;
+  nodesFew = refl;
+  tableFew = refl;
+  masksFew = refl;
+  statesFew = refl;
+  nodesFewLate = refl;
+  statesFewLate = refl;
+  weakTop = refl;
+  strongTop = refl;
+  nodesBeforeTops = refl;
+  linesBeforeTops = refl;
+  nodes1024 = refl;
+  nodes1025 = refl;
   projected = refl;
   judgedLocally = refl;
   judgedWhole = refl;

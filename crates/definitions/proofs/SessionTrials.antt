@@ -8,12 +8,12 @@ use Rattle.definitions.specs.Nodes.{True, Atom, Not, Or, Next, Until, no
 use Rattle.definitions.specs.Tables.{Rule, ruleOf}
 use Rattle.definitions.specs.Recordings.{stateOf}
 use Rattle.definitions.specs.Operations.{Answer}
-use Rattle.definitions.specs.Sessions.{Space, image, controllersRefusal, openMasksRefusal, openRefusal, openNumber, arrivalRefusal, arriveNumber, withdrawalRefusal, withdrawNumber, opened, arrived, withdrawn, Call, Open, Arrive, Withdraw, numberOf, leaves, leavesAll, verdictsAnswer, takes, after, afterAll}
+use Rattle.definitions.specs.Sessions.{Space, spaceOf, controllersRefusal, openMasksRefusal, openRefusal, openNumber, arrivalRefusal, arriveNumber, withdrawalRefusal, withdrawNumber, opened, arrived, withdrawn, Call, Open, Arrive, Withdraw, numberOf, leaves, leavesAll, verdictsAnswer, admits, heldAfter, heldAfterAll}
 use Rattle.definitions.proofs.Samples.{computed, R, ruleFor, rule, yes, no}
 
 -- what these trials compute through
 unfoldable calls : Bool
-unfolding computed image controllersRefusal openMasksRefusal openRefusal openNumber arrivalRefusal arriveNumber withdrawalRefusal withdrawNumber arrived withdrawn leaves leavesAll verdictsAnswer takes after afterAll
+unfolding computed spaceOf controllersRefusal openMasksRefusal openRefusal openNumber arrivalRefusal arriveNumber withdrawalRefusal withdrawNumber arrived withdrawn leaves leavesAll verdictsAnswer admits heldAfter heldAfterAll
 calls = true
 
 -- lent slices of these sizes: every entry is 7
@@ -127,7 +127,7 @@ pub record InLentSpace : Type 0 where
   -- opening over an old session leaves nothing of it
   pub openedOver : leaves (Open 1 (4 ∷ []) nextGate) (session example (first 5)) ≡ leaves (Open 1 (4 ∷ []) nextGate) lent
   -- "the remaining states", by the checks of the whole
-  pub remaining : image (afterAll arriving (opened 2 (1 ∷ 2 ∷ []) example)) lent ≡ session example arriving
+  pub remaining : spaceOf (heldAfterAll arriving (opened 2 (1 ∷ 2 ∷ []) example)) lent ≡ session example arriving
 
 inLentSpace : InLentSpace
 unfolding calls
@@ -184,7 +184,7 @@ saying heading = record { heading = heading; masks = replicate 12 0; nodes = rep
 
 -- a session of 128 states
 abbrev holding128 : Space
-holding128 = image (record { masks = 1 ∷ 2 ∷ []; rule = nextGate; states = replicate 128 0 }) lent
+holding128 = spaceOf (record { masks = 1 ∷ 2 ∷ []; rule = nextGate; states = replicate 128 0 }) lent
 
 pub record CallsRefused : Type 0 where
   -- 13 of the slices that are written, before 17 and 18

@@ -33,6 +33,8 @@ pub record Starred : Type 0 where
   pub trueAlone : counts 1 (node True 0 0 ∷ []) ≡ 20 ∷ 12 ∷ []
   -- "Until of two own atoms: 32 and 19"
   pub untilOfOwn : counts 3 (node Atom 0 0 ∷ node Atom 1 0 ∷ node Until 0 1 ∷ []) ≡ 32 ∷ 19 ∷ []
+  -- "Until of two foreign atoms: 40 and 32"
+  pub untilOfForeign : counts 0 (node Atom 0 0 ∷ node Atom 1 0 ∷ node Until 0 1 ∷ []) ≡ 40 ∷ 32 ∷ []
   -- "Node 0 as `not 0`: 3"
   pub selfOperand : ruleRefusal (rule (node Not 0 0 ∷ [])) ≡ 3
   -- "`until 1 0` as node 2: accepted"
@@ -50,6 +52,7 @@ starred = record {
   localLength = refl;
   trueAlone = refl;
   untilOfOwn = refl;
+  untilOfForeign = refl;
   selfOperand = refl;
   earlierOperands = refl;
 }
@@ -93,8 +96,6 @@ traps = record {
 
 -- trials without a star that compute cheaply
 pub record Unstarred : Type 0 where
-  -- "Until of two foreign atoms: 40 and 32"
-  pub untilOfForeign : counts 0 (node Atom 0 0 ∷ node Atom 1 0 ∷ node Until 0 1 ∷ []) ≡ 40 ∷ 32 ∷ []
   -- "64 nodes are accepted, 65 refused with 2"
   pub nodes64 : ruleRefusal (rule (replicate 64 (node True 0 0))) ≡ 0
   pub nodes65 : ruleRefusal (rule (replicate 65 (node True 0 0))) ≡ 2
@@ -107,7 +108,7 @@ pub record Unstarred : Type 0 where
 
 unstarred : Unstarred
 unfolding computed
-unstarred = record { untilOfForeign = refl; nodes64 = refl; nodes65 = refl; states128 = refl; states129 = refl; atom31 = refl; atom32 = refl }
+unstarred = record { nodes64 = refl; nodes65 = refl; states128 = refl; states129 = refl; atom31 = refl; atom32 = refl }
 
 -- texts and the program
 pub record Printed : Type 0 where

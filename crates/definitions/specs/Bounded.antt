@@ -1,4 +1,4 @@
--- Document 01's "some" and "every" over bounded places, choice by a test, and bits of words.
+-- "Some" and "every" over bounded places, as documents 01 and 02 say them, choice by a test, and bits of words.
 use Prim.Native.Nat.{ℕ, zero, suc, _-_, _/_, _%_, _^_}
 use mathlib.Core.Bool.{Bool, true, false, _&&_, _||_}
 use mathlib.Core.List.{List, [], _∷_}

@@ -1,14 +1,13 @@
--- "The readings behind a verdict": the walk from the rule, and the pairs of a node of kind atom and a local place that it adds.
--- A reading is a node, a place, and weak (true) or strong (false). That the walk comes to just what these steps say is in theorems: `wanted-rule`,
--- `wanted-closed`, `wanted-least`.
+-- "The readings behind a verdict" (document 02), computed: rows of the places to which the walk comes, and the list of pairs. Who reads for meaning reads
+-- `Reached`, and of this file the last part alone; in theorems, `reached-is-wanted` and `evidence-is-behind` say that they are the same.
 use Prim.Native.Nat.{ℕ, zero, suc, _+_, _-_, _*_}
 use mathlib.Core.Bool.{Bool, true, false, not, _&&_, _||_}
 use mathlib.Core.List.{List, [], _∷_, _++_}
-use lib.ListN.{length, getD}
+use lib.ListN.{length}
 use lib.Dec.{eqb, ltb, leb}
 use Rattle.definitions.specs.Limits.{maxRuleNodes}
 use Rattle.definitions.specs.Bounded.{pick, some, every, tabulate, bitOf}
-use Rattle.definitions.specs.Nodes.{Kind, True, Atom, Not, Or, Next, Until, Prev, Since, Run, End, Unknown, Node, node}
+use Rattle.definitions.specs.Nodes.{Kind, True, Atom, Not, Or, Next, Until, Prev, Since, Run, End, Unknown, Node, nodeAt}
 use Rattle.definitions.specs.Tables.{isAtom}
 use Rattle.definitions.specs.Readings.{Trace, local, untilAt, Rows, readFrom, rowsOf}
 
@@ -137,13 +136,6 @@ unfoldable pub wantedRows : (t : Trace) (ns : List Node) (weak : Bool) → List 
 wantedRows t ns weak = walkNodes (t .places) (readFrom (rowsOf t ns)) (length ns) 0 ns (startRows (t .places) (length ns) weak)
 
 -- ---- what it adds
-
--- a node that is not there
-abbrev pub noNode : Node
-noNode = node True 0 0
-
-abbrev pub nodeAt : (ns : List Node) (j : ℕ) → Node
-nodeAt ns j = getD ns j noNode
 
 -- "each a node of kind atom and a local place"
 pub record Found : Type 0 where

@@ -5,6 +5,7 @@ pub mod Tables
 pub mod Recordings
 pub mod Projection
 pub mod Readings
+pub mod Reached
 pub mod Evidence
 pub mod Early
 pub mod Rewriting

@@ -1,4 +1,4 @@
--- The limits and the refusal numbers of document 01, each said once.
+-- The limits and the refusal numbers of documents 01 and 02, each said once.
 use Prim.Native.Nat.{ℕ, _*_}
 
 -- "C controllers (1 to ..", and "Make eleven the limit, and 10 the highest controller in a rule" (document 02)

@@ -1,4 +1,5 @@
--- "Texts": bytes, lines, fields, decimal and hexadecimal forms, and printed numbers.
+-- "Texts" (document 01), with the line ends of "Lines from the other system" (document 02): bytes, lines, fields, decimal and hexadecimal forms, and
+-- printed numbers.
 use Prim.Native.Nat.{ℕ, zero, suc, _+_, _-_, _*_, _/_, _%_}
 use mathlib.Core.Bool.{Bool, true, false, not, _&&_, _||_}
 use mathlib.Core.List.{List, [], _∷_, _++_}

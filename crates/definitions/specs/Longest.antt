@@ -1,4 +1,4 @@
--- "The rule that grows most": the rule, how long a rewritten table can be, and what the program `longest` prints.
+-- "The rule that grows most" (document 02): the rule, how long a rewritten table can be, and what the program `longest` prints.
 use Prim.Native.Nat.{ℕ, _+_, _-_, _*_}
 use mathlib.Core.List.{List, _∷_, map}
 use lib.ListN.{replicate}

@@ -1,5 +1,7 @@
--- "The rule table": kinds and their numbers, nodes, and the word that a node is in lent space.
+-- "The rule table" (document 01): kinds and their numbers, nodes, and the word that a node is in lent space.
 use Prim.Native.Nat.{ℕ, _+_, _*_, _/_, _%_}
+use mathlib.Core.List.{List}
+use lib.ListN.{getD}
 use lib.Dec.{eqb}
 use Rattle.definitions.specs.Bounded.{pick}
 
@@ -44,6 +46,14 @@ pub record Node : Type 0 where
 -- a node of a kind with its operands
 abbrev pub node : (k : Kind) (a b : ℕ) → Node
 node k a b = record { kind = k; first = a; second = b }
+
+-- a node that is not there
+abbrev pub noNode : Node
+noNode = node True 0 0
+
+-- node m of a table
+abbrev pub nodeAt : (ns : List Node) (m : ℕ) → Node
+nodeAt ns m = getD ns m noNode
 
 -- how many operands a kind uses
 abbrev pub operands : Kind → ℕ

@@ -1,4 +1,4 @@
--- "Rules in one line": what reading such a rule answers, and the program that makes a rule text of it.
+-- "Rules in one line" (document 02): what reading such a rule answers, and the program that makes a rule text of it.
 use Prim.Native.Nat.{ℕ}
 use mathlib.Core.Bool.{_||_}
 use mathlib.Core.List.{List, [], _∷_, map}

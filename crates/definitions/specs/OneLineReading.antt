@@ -1,12 +1,13 @@
--- "Rules in one line": the signs of a line and the tree of its signs, computed. Theorems say that they are those of the spelling and of the grammar.
+-- "Rules in one line" (document 02), computed: a second grammar, which who reads for meaning may skip. In theorems, `signs-spelled` and `spelled-signs`
+-- say that its signs are those that a line spells, `tree-sentence` and `sentence-tree` that its trees are those of the grammar.
 use Prim.Native.Nat.{ℕ, zero, suc, _+_, _*_}
 use mathlib.Core.List.{List, [], _∷_}
 use lib.ListN.{length, take, drop}
 use lib.Dec.{eqb, leb}
 use Rattle.definitions.specs.Bounded.{pick, within}
 use Rattle.definitions.specs.Lines.{bytes, isEmpty, Parsed, formed, malformed, onParsed, decimal}
-use Rattle.definitions.specs.OneLineSigns.{Not, Next, Prev, Future, Always, Infix, Implies, Or, And, Until, Since, Sign, truth, atom, before, between, opening, closing, signBytes, space}
-use Rattle.definitions.specs.OneLineGrammar.{Tree, always, reading, one, two}
+use Rattle.definitions.specs.OneLineSigns.{Not, Next, Prev, Future, Always, Infix, Implies, Or, And, Until, Since, Sign, trueSign, atomSign, prefixSign, infixSign, openBracket, closeBracket, signBytes, space}
+use Rattle.definitions.specs.OneLineGrammar.{Tree, truth, atom, prefixed, joined}
 
 -- what follows a word with which a text begins
 unfoldable pub past : (word text : List ℕ) → Parsed (List ℕ)
@@ -25,9 +26,9 @@ taken x u = record { named = x; rest = u }
 -- the signs but for atoms
 abbrev pub wordSigns : List Sign
 wordSigns =
-    truth ∷ opening ∷ closing
-    ∷ before Not ∷ before Next ∷ before Prev ∷ before Future ∷ before Always
-    ∷ between Implies ∷ between Or ∷ between And ∷ between Until ∷ between Since ∷ []
+    trueSign ∷ openBracket ∷ closeBracket
+    ∷ prefixSign Not ∷ prefixSign Next ∷ prefixSign Prev ∷ prefixSign Future ∷ prefixSign Always
+    ∷ infixSign Implies ∷ infixSign Or ∷ infixSign And ∷ infixSign Until ∷ infixSign Since ∷ []
 
 -- the one of these signs with which a text begins
 unfoldable pub signAmong : List Sign → List ℕ → Parsed Taken
@@ -43,7 +44,7 @@ digitsAhead (x ∷ t) = pick (within 48 57 x) (suc (digitsAhead t)) 0
 unfoldable pub atomFirst : List ℕ → Parsed Taken
 atomFirst t =
     onParsed (past (bytes "a") t) malformed
-    (λ u. onParsed (decimal (take (digitsAhead u) u)) malformed (λ n. formed (taken (atom n) (drop (digitsAhead u) u))))
+    (λ u. onParsed (decimal (take (digitsAhead u) u)) malformed (λ n. formed (taken (atomSign n) (drop (digitsAhead u) u))))
 
 -- the sign with which a text begins
 unfoldable pub signFirst : List ℕ → Parsed Taken
@@ -91,26 +92,26 @@ rightStrength Until = 4
 rightStrength Since = 4
 
 -- a bracketed rule ends with its bracket
-unfoldable pub closed : Tree → List Sign → Parsed Grown
-closed p [] = malformed
-closed p (truth ∷ u) = malformed
-closed p (atom n ∷ u) = malformed
-closed p (before x ∷ u) = malformed
-closed p (between x ∷ u) = malformed
-closed p (opening ∷ u) = malformed
-closed p (closing ∷ u) = grown p u
+unfoldable pub bracketClosed : Tree → List Sign → Parsed Grown
+bracketClosed p [] = malformed
+bracketClosed p (trueSign ∷ u) = malformed
+bracketClosed p (atomSign n ∷ u) = malformed
+bracketClosed p (prefixSign x ∷ u) = malformed
+bracketClosed p (infixSign x ∷ u) = malformed
+bracketClosed p (openBracket ∷ u) = malformed
+bracketClosed p (closeBracket ∷ u) = grown p u
 
 -- in at most so many steps: an operand; a rule whose signs outside its brackets bind with some strength at least; and that rule after its first operands p
 unfoldable mutual
   pub operandBy : (more : ℕ) (s : List Sign) → Parsed Grown
   operandBy zero s = malformed
   operandBy (suc more) [] = malformed
-  operandBy (suc more) (truth ∷ s) = grown always s
-  operandBy (suc more) (atom n ∷ s) = grown (reading n) s
-  operandBy (suc more) (before x ∷ s) = onParsed (operandBy more s) malformed (λ g. grown (one x (g .tree)) (g .rest))
-  operandBy (suc more) (between x ∷ s) = malformed
-  operandBy (suc more) (opening ∷ s) = onParsed (ruleBy more 1 s) malformed (λ g. closed (g .tree) (g .rest))
-  operandBy (suc more) (closing ∷ s) = malformed
+  operandBy (suc more) (trueSign ∷ s) = grown truth s
+  operandBy (suc more) (atomSign n ∷ s) = grown (atom n) s
+  operandBy (suc more) (prefixSign x ∷ s) = onParsed (operandBy more s) malformed (λ g. grown (prefixed x (g .tree)) (g .rest))
+  operandBy (suc more) (infixSign x ∷ s) = malformed
+  operandBy (suc more) (openBracket ∷ s) = onParsed (ruleBy more 1 s) malformed (λ g. bracketClosed (g .tree) (g .rest))
+  operandBy (suc more) (closeBracket ∷ s) = malformed
 
   pub ruleBy : (more least : ℕ) (s : List Sign) → Parsed Grown
   ruleBy zero least s = malformed
@@ -119,20 +120,20 @@ unfoldable mutual
   pub ruleOn : (more least : ℕ) (p : Tree) (u : List Sign) → Parsed Grown
   ruleOn zero least p u = malformed
   ruleOn (suc more) least p [] = grown p []
-  ruleOn (suc more) least p (truth ∷ u) = grown p (truth ∷ u)
-  ruleOn (suc more) least p (atom n ∷ u) = grown p (atom n ∷ u)
-  ruleOn (suc more) least p (before x ∷ u) = grown p (before x ∷ u)
-  ruleOn (suc more) least p (between x ∷ u) =
+  ruleOn (suc more) least p (trueSign ∷ u) = grown p (trueSign ∷ u)
+  ruleOn (suc more) least p (atomSign n ∷ u) = grown p (atomSign n ∷ u)
+  ruleOn (suc more) least p (prefixSign x ∷ u) = grown p (prefixSign x ∷ u)
+  ruleOn (suc more) least p (infixSign x ∷ u) =
       pick (leb least (strength x))
-      (onParsed (ruleBy more (rightStrength x) u) malformed (λ g. ruleOn more least (two x p (g .tree)) (g .rest)))
-      (grown p (between x ∷ u))
-  ruleOn (suc more) least p (opening ∷ u) = grown p (opening ∷ u)
-  ruleOn (suc more) least p (closing ∷ u) = grown p (closing ∷ u)
+      (onParsed (ruleBy more (rightStrength x) u) malformed (λ g. ruleOn more least (joined x p (g .tree)) (g .rest)))
+      (grown p (infixSign x ∷ u))
+  ruleOn (suc more) least p (openBracket ∷ u) = grown p (openBracket ∷ u)
+  ruleOn (suc more) least p (closeBracket ∷ u) = grown p (closeBracket ∷ u)
 
 -- nothing comes after a sentence
-unfoldable pub whole : Grown → Parsed Tree
-whole g = pick (eqb (length (g .rest)) 0) (formed (g .tree)) malformed
+unfoldable pub treeAtEnd : Grown → Parsed Tree
+treeAtEnd g = pick (eqb (length (g .rest)) 0) (formed (g .tree)) malformed
 
 -- the tree of a list of signs: each of them takes two steps at most
 unfoldable pub treeOf : List Sign → Parsed Tree
-treeOf s = onParsed (ruleBy (length s * 2 + 1) 1 s) malformed whole
+treeOf s = onParsed (ruleBy (length s * 2 + 1) 1 s) malformed treeAtEnd

@@ -1,4 +1,4 @@
--- "Rules in one line": the signs of a line, and which lines spell them.
+-- "Rules in one line" (document 02): the signs of a line, and which lines spell them.
 use Prim.Native.Nat.{ℕ}
 use mathlib.Core.List.{List, [], _∷_, _++_}
 use Rattle.definitions.specs.Lines.{bytes, digits}
@@ -13,11 +13,11 @@ pub data Infix : Type 0 where
 
 -- "`->`, `true` and `a` with its number are one sign each"
 pub data Sign : Type 0 where
-  truth : Sign
-  atom : ℕ → Sign
-  before : Prefix → Sign
-  between : Infix → Sign
-  opening closing : Sign
+  trueSign : Sign
+  atomSign : ℕ → Sign
+  prefixSign : Prefix → Sign
+  infixSign : Infix → Sign
+  openBracket closeBracket : Sign
 
 -- the byte of a prefix
 abbrev pub prefixBytes : Prefix → List ℕ
@@ -37,12 +37,12 @@ infixBytes Since = bytes "S"
 
 -- "`true`, `a` with an atom number, or a bracketed rule"; "the number has no leading zeros"
 abbrev pub signBytes : Sign → List ℕ
-signBytes truth = bytes "true"
-signBytes (atom n) = bytes "a" ++ digits n
-signBytes (before x) = prefixBytes x
-signBytes (between x) = infixBytes x
-signBytes opening = bytes "("
-signBytes closing = bytes ")"
+signBytes trueSign = bytes "true"
+signBytes (atomSign n) = bytes "a" ++ digits n
+signBytes (prefixSign x) = prefixBytes x
+signBytes (infixSign x) = infixBytes x
+signBytes openBracket = bytes "("
+signBytes closeBracket = bytes ")"
 
 -- the byte of a space
 abbrev pub space : ℕ

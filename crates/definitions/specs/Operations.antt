@@ -1,4 +1,4 @@
--- "The operations": what each answers on any input, and what every lent slice holds afterwards.
+-- "The operations" of document 01 and those of document 02: what each answers on any input, and what every lent slice holds afterwards.
 use Prim.Native.Nat.{ℕ, _-_}
 use mathlib.Core.Bool.{Bool, _||_}
 use mathlib.Core.List.{List, [], _∷_, _++_, map}

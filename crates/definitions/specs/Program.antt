@@ -1,4 +1,4 @@
--- "The program": from the bytes of standard input to the bytes printed.
+-- "The program" (document 01), its input split at a line `-` of either ending (document 02): from the bytes of standard input to the bytes printed.
 use Prim.Native.Nat.{ℕ, zero, suc, _+_}
 use mathlib.Core.Bool.{Bool, true, false}
 use mathlib.Core.List.{List, [], _∷_, _++_}
@@ -29,12 +29,12 @@ ruleLength (suc lines) t =
     (length t)
 
 -- the rule text of the input
-abbrev pub ruleIn : List ℕ → List ℕ
-ruleIn input = take (ruleLength (length input) input) input
+abbrev pub ruleTextIn : List ℕ → List ℕ
+ruleTextIn input = take (ruleLength (length input) input) input
 
 -- the recording text of the input, after the line `-`; "with none, the recording text is empty"
-abbrev pub recordingIn : List ℕ → List ℕ
-recordingIn input = restOf (drop (ruleLength (length input) input) input)
+abbrev pub recordingTextIn : List ℕ → List ℕ
+recordingTextIn input = restOf (drop (ruleLength (length input) input) input)
 
 -- the words that it prints
 abbrev pub refusedWord : List ℕ
@@ -101,4 +101,4 @@ textsOutput rule recording =
 
 -- "program input": "14 over 16,384 bytes"; for it "an empty line field"
 unfoldable pub programOutput : List ℕ → List ℕ
-programOutput input = pick (ltb maxInputBytes (length input)) (refusedText inputLong []) (textsOutput (ruleIn input) (recordingIn input))
+programOutput input = pick (ltb maxInputBytes (length input)) (refusedText inputLong []) (textsOutput (ruleTextIn input) (recordingTextIn input))

@@ -1,4 +1,4 @@
--- "The local trace".
+-- "The local trace" (document 01), of a recording that may stop in mid step (document 02).
 use Prim.Native.Nat.{ℕ, zero, suc}
 use mathlib.Core.Bool.{Bool, not}
 use mathlib.Core.List.{List, [], _∷_, _++_, map}

@@ -1,4 +1,4 @@
--- "Weak and strong": the readings of a table's nodes over a trace. A reading is a Bool: true is weak, false is strong.
+-- "Weak and strong" (document 01): the readings of a table's nodes over a trace. A reading is a Bool: true is weak, false is strong.
 use Prim.Native.Nat.{ℕ, suc, _+_, _-_, _*_}
 use mathlib.Core.Bool.{Bool, true, false, not, _&&_, _||_}
 use mathlib.Core.List.{List, [], _∷_, _++_}

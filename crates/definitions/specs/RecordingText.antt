@@ -1,4 +1,5 @@
--- "Recording: `recording`, C, N; C lines `owns`, mask; N lines `at`, run marks (.., bit c for controller c), word", and "The joint reading".
+-- "Recording: `recording`, C, N; C lines `owns`, mask; N lines `at`, run marks (.., bit c for controller c), word" (document 01), the run marks of two or three
+-- digits (document 02), and "The joint reading".
 use Prim.Native.Nat.{ℕ, zero, suc, _+_, _-_}
 use mathlib.Core.Bool.{Bool, true, false}
 use mathlib.Core.List.{List, [], _∷_}

@@ -1,4 +1,5 @@
--- "The recording": states and masks in lent space, the output rule, and the check.
+-- "The recording" (document 01), which may "stop in mid step" and have eleven controllers (document 02): states and masks in lent space, the output rule,
+-- and the check.
 use Prim.Native.Nat.{ℕ, suc, _+_, _*_, _/_, _%_, _^_}
 use mathlib.Core.Bool.{Bool, false, not, _&&_, _||_}
 use mathlib.Core.List.{List, [], _∷_}

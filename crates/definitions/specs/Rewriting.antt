@@ -1,4 +1,4 @@
--- "The plain rewriting" and "The short rewriting".
+-- "The plain rewriting" and "The short rewriting" (document 01), the short one with "Shorter rules about the past" (document 02).
 use Prim.Native.Nat.{ℕ, suc, _-_}
 use mathlib.Core.Bool.{Bool, true, false, not, _&&_}
 use mathlib.Core.List.{List, [], _∷_, _++_}
@@ -129,22 +129,51 @@ tolerantOf mask is Run a b = false
 tolerantOf mask is End a b = false
 tolerantOf mask is Unknown a b = false
 
--- what is emitted for one image of a rule's node: x is the number of the first node emitted for the rule's node, g that of the first for this image;
--- "a and b are the operands' images of the same reading", but for a not of the other
-abbrev pub part : (short : Bool) (mask : ℕ) (is : List Image) (x g : ℕ) (weak : Bool) (k : Kind) (a b : ℕ) → List Emit
-part short mask is x g weak True a b = itself weak True 0
-part short mask is x g weak Atom a b = pick (bitOf mask a) (itself weak Atom a) (foreignAtom weak x a)
-part short mask is x g weak Not a b = one Not (# (image (not weak) is a)) ∷ []
-part short mask is x g weak Or a b = two Or (# (image weak is a)) (# (image weak is b)) ∷ []
-part short mask is x g weak Next a b = pick (short && tolerantAt is a) (shortNext weak (image weak is a)) (plainNext weak (image weak is a))
-part short mask is x g weak Until a b =
-    pick (short && (tolerantAt is a && tolerantAt is b)) (shortUntil weak (image weak is a) (image weak is b)) (plainUntil weak g (image weak is a) (image weak is b))
-part short mask is x g weak Prev a b = plainPrev (image weak is a)
-part short mask is x g weak Since a b =
-    pick (short && (tolerantAt is a && tolerantAt is b)) (shortSince (image weak is a) (image weak is b)) (plainSince g (image weak is a) (image weak is b))
-part short mask is x g weak Run a b = []
-part short mask is x g weak End a b = []
-part short mask is x g weak Unknown a b = []
+-- what the letters of the lists mean, in one image of a rule's node
+pub record Meanings : Type 0 where
+  -- the first node emitted for the rule's node
+  pub x : ℕ
+  -- the first node of this image, "call it g" where it is named
+  pub g : ℕ
+  -- "a and b are the operands' images of the same reading"
+  pub a : ℕ
+  pub b : ℕ
+  -- the first operand's image of the other reading
+  pub opposite : ℕ
+  -- of an atom, its number, and whether it is own
+  pub atomNumber : ℕ
+  pub own : Bool
+  -- the first operand is tolerant; both are
+  pub tolerantFirst : Bool
+  pub tolerantBoth : Bool
+
+-- what they mean in an image of the rule's node n
+abbrev pub meaningsOf : (mask : ℕ) (is : List Image) (n : Node) (weak : Bool) (x g : ℕ) → Meanings
+meaningsOf mask is n weak x g = record {
+  x = x;
+  g = g;
+  a = image weak is (n .first);
+  b = image weak is (n .second);
+  opposite = image (not weak) is (n .first);
+  atomNumber = n .first;
+  own = bitOf mask (n .first);
+  tolerantFirst = tolerantAt is (n .first);
+  tolerantBoth = tolerantAt is (n .first) && tolerantAt is (n .second);
+}
+
+-- what is emitted for one image of a rule's node, by its kind; "not: not of the operand's s (w); not of its w (s) (2). or: or a b, twice (2)"
+abbrev pub part : (short weak : Bool) (k : Kind) (m : Meanings) → List Emit
+part short weak True m = itself weak True 0
+part short weak Atom m = pick (m .own) (itself weak Atom (m .atomNumber)) (foreignAtom weak (m .x) (m .atomNumber))
+part short weak Not m = one Not (# (m .opposite)) ∷ []
+part short weak Or m = two Or (# (m .a)) (# (m .b)) ∷ []
+part short weak Next m = pick (short && m .tolerantFirst) (shortNext weak (m .a)) (plainNext weak (m .a))
+part short weak Until m = pick (short && m .tolerantBoth) (shortUntil weak (m .a) (m .b)) (plainUntil weak (m .g) (m .a) (m .b))
+part short weak Prev m = plainPrev (m .a)
+part short weak Since m = pick (short && m .tolerantBoth) (shortSince (m .a) (m .b)) (plainSince (m .g) (m .a) (m .b))
+part short weak Run m = []
+part short weak End m = []
+part short weak Unknown m = []
 
 -- the nodes emitted so far, and the images of the rule's nodes so far
 pub record Draft : Type 0 where
@@ -155,8 +184,8 @@ pub record Draft : Type 0 where
 abbrev pub step : (short : Bool) (mask : ℕ) (D : Draft) (n : Node) → Draft
 step short mask D n =
     let x = length (D .nodes) in
-    let T = emit (D .nodes) (part short mask (D .images) x x true (n .kind) (n .first) (n .second)) in
-    let U = emit T (part short mask (D .images) x (length T) false (n .kind) (n .first) (n .second)) in
+    let T = emit (D .nodes) (part short true (n .kind) (meaningsOf mask (D .images) n true x x)) in
+    let U = emit T (part short false (n .kind) (meaningsOf mask (D .images) n false x (length T))) in
     record {
       nodes = U;
       images = D .images

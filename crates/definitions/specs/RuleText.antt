@@ -1,4 +1,4 @@
--- "Rule: `rule`, controller .., node count; then a line per node", the controller 0 to 10 by document 02: reading and writing.
+-- "Rule: `rule`, controller .., node count; then a line per node" (document 01), the controller 0 to 10 (document 02): reading and writing.
 use Prim.Native.Nat.{ℕ, zero, suc, _+_}
 use mathlib.Core.Bool.{false, not, _||_}
 use mathlib.Core.List.{List, [], _∷_, _++_}

@@ -40,8 +40,8 @@ abbrev pub headingOf : Held → List ℕ
 headingOf a = length (a .masks) ∷ a .rule .controller ∷ a .rule .count ∷ length (a .states) ∷ []
 
 -- a session in lent space: "Accepted, unused entries are zero. What is lent past the full size is never touched"
-unfoldable pub image : (a : Held) (h : Space) → Space
-image a h = record {
+unfoldable pub spaceOf : (a : Held) (h : Space) → Space
+spaceOf a h = record {
   heading = left accepted headingSize (headingOf a) (h .heading);
   masks = left accepted maxControllers (a .masks) (h .masks);
   nodes = left accepted maxRuleNodes (a .rule .nodes) (h .nodes);
@@ -57,12 +57,12 @@ abbrev pub heldIn : Space → ℕ
 heldIn h = getD (h .heading) 3 0
 
 -- the rule that the contents are
-abbrev pub ruleIn : Space → Rule
-ruleIn h = ruleOf (getD (h .heading) 1 0) (getD (h .heading) 2 0) (h .nodes)
+abbrev pub sessionRule : Space → Rule
+sessionRule h = ruleOf (getD (h .heading) 1 0) (getD (h .heading) 2 0) (h .nodes)
 
 -- the recording that the contents are
-abbrev pub recordingIn : Space → Recording
-recordingIn h = recordingOf (controllersIn h) (heldIn h) (h .masks) (h .states)
+abbrev pub sessionRecording : Space → Recording
+sessionRecording h = recordingOf (controllersIn h) (heldIn h) (h .masks) (h .states)
 
 -- ---- what a call is refused with, 0 for none
 
@@ -148,7 +148,7 @@ numberOf Withdraw h = withdrawNumber h
 
 -- what it leaves where it is accepted
 abbrev pub acceptedLeaves : (c : Call) (h : Space) → Space
-acceptedLeaves (Open C masks r) h = image (opened C masks r) h
+acceptedLeaves (Open C masks r) h = spaceOf (opened C masks r) h
 acceptedLeaves (Arrive s) h = arrived s h
 acceptedLeaves Withdraw h = withdrawn h
 
@@ -163,7 +163,7 @@ leavesAll (c ∷ cs) h = leavesAll cs (leaves c h)
 
 -- both verdicts, as judging on the local trace answers them; "An empty session has no verdict, and its answer says so": 0 and no values
 unfoldable pub verdictsAnswer : (h : Space) → Answer
-verdictsAnswer h = pick (eqb (heldIn h) 0) (answer accepted []) (judgeLocalAnswer (ruleIn h) (recordingIn h))
+verdictsAnswer h = pick (eqb (heldIn h) 0) (answer accepted []) (judgeLocalAnswer (sessionRule h) (sessionRecording h))
 
 -- ---- the same calls on what is held, by document 01's checks of the whole
 
@@ -180,19 +180,19 @@ abbrev pub oneLess : (a : Held) → Held
 oneLess a = withStates a (take (length (a .states) - 1) (a .states))
 
 -- an arrival is taken where under 128 states are held and the recording with it is accepted
-unfoldable pub takes : (s : ℕ) (a : Held) → Bool
-takes s a = pick (ltb (length (a .states)) maxStates) (eqb (recordingRefusal (recordingHeld (oneMore s a))) accepted) false
+unfoldable pub admits : (s : ℕ) (a : Held) → Bool
+admits s a = pick (ltb (length (a .states)) maxStates) (eqb (recordingRefusal (recordingHeld (oneMore s a))) accepted) false
 
 -- what is held after a call
-unfoldable pub after : (c : Call) (a : Held) → Held
-after (Open C masks r) a = pick (eqb (openRefusal C masks r) accepted) (opened C masks r) a
-after (Arrive s) a = pick (takes s a) (oneMore s a) a
-after Withdraw a = oneLess a
+unfoldable pub heldAfter : (c : Call) (a : Held) → Held
+heldAfter (Open C masks r) a = pick (eqb (openRefusal C masks r) accepted) (opened C masks r) a
+heldAfter (Arrive s) a = pick (admits s a) (oneMore s a) a
+heldAfter Withdraw a = oneLess a
 
 -- what is held after a list of calls: of the states "the remaining states"
-unfoldable pub afterAll : (cs : List Call) (a : Held) → Held
-afterAll [] a = a
-afterAll (c ∷ cs) a = afterAll cs (after c a)
+unfoldable pub heldAfterAll : (cs : List Call) (a : Held) → Held
+heldAfterAll [] a = a
+heldAfterAll (c ∷ cs) a = heldAfterAll cs (heldAfter c a)
 
 -- ---- a session "made by its own calls"
 
@@ -209,9 +209,9 @@ pub record Full (h : Space) : Type 0 where
   pub nodes : maxRuleNodes ≤ length (h .nodes)
   pub states : maxStates ≤ length (h .states)
 
--- the contents are the image of such
+-- the contents are such, in lent space
 pub record Made (h : Space) : Type 0 where
   pub held : Held
   pub sound : Sound held
   pub full : Full h
-  pub is : h ≡ image held h
+  pub is : h ≡ spaceOf held h

@@ -1,4 +1,4 @@
--- The check of a rule's table and of the judge's table: the first refusal that is met, 0 for none.
+-- The check of a rule's table and of the judge's table (document 01, with the eleven controllers of document 02): the first refusal that is met, 0 for none.
 use Prim.Native.Nat.{ℕ, zero, suc, _+_}
 use mathlib.Core.Bool.{Bool, true, false, not, _&&_, _||_}
 use mathlib.Core.List.{List, [], _∷_, map}

@@ -6,16 +6,16 @@ use lib.ListN.{length, getD}
 use lib.Dec.{eqb, ltb}
 use Rattle.definitions.specs.Limits.{accepted, maxInputBytes, inputLong, ruleForm}
 use Rattle.definitions.specs.Bounded.{pick, bitOf, bit}
-use Rattle.definitions.specs.Nodes.{Node}
+use Rattle.definitions.specs.Nodes.{Node, nodeAt}
 use Rattle.definitions.specs.Tables.{nodesIn}
 use Rattle.definitions.specs.Recordings.{Recording, maskOf, runsAt}
 use Rattle.definitions.specs.Projection.{runStates, afterLast, localTrace}
 use Rattle.definitions.specs.Readings.{local, verdict}
-use Rattle.definitions.specs.Evidence.{nodeAt, Found, evidence}
+use Rattle.definitions.specs.Evidence.{Found, evidence}
 use Rattle.definitions.specs.Lines.{bytes, tab, newline, isClosed, lineOf, restOf, same, digits}
 use Rattle.definitions.specs.RuleText.{scanRule}
 use Rattle.definitions.specs.RecordingText.{scanRecording, jointNumber, jointPart}
-use Rattle.definitions.specs.Program.{ruleIn, recordingIn, yesNo, refusedText, bytesOf, scanned}
+use Rattle.definitions.specs.Program.{ruleTextIn, recordingTextIn, yesNo, refusedText, bytesOf, scanned}
 
 -- the word for a reading
 abbrev pub readingWord : (weak : Bool) → List ℕ
@@ -27,17 +27,17 @@ unfoldable pub stateOfPlace : (R : Recording) (c k : ℕ) → ℕ
 stateOfPlace R c k = getD (runStates (runsAt R c) (R .count)) k (afterLast (runStates (runsAt R c) (R .count)))
 
 -- a word and a number, parted by a tab
-abbrev pub named : (word : List ℕ) (number : ℕ) → List ℕ
-named word number = word ++ (tab ∷ digits number)
+abbrev pub wordNumber : (word : List ℕ) (number : ℕ) → List ℕ
+wordNumber word number = word ++ (tab ∷ digits number)
 
 -- a pair in words: the state of the recording, the controller's step, the atom, its bit there, the rule's node
 unfoldable pub pairText : (state step atom value node : ℕ) → List ℕ
 pairText state step atom value node =
-    named (bytes "state") state
-    ++ (tab ∷ (named (bytes "step") step
-    ++ (tab ∷ (named (bytes "atom") atom
-    ++ (tab ∷ (named (bytes "is") value
-    ++ (tab ∷ (named (bytes "node") node
+    wordNumber (bytes "state") state
+    ++ (tab ∷ (wordNumber (bytes "step") step
+    ++ (tab ∷ (wordNumber (bytes "atom") atom
+    ++ (tab ∷ (wordNumber (bytes "is") value
+    ++ (tab ∷ (wordNumber (bytes "node") node
     ++ (newline ∷ [])))))))))
 
 -- of a pair that was found
@@ -76,6 +76,6 @@ asks weak input = isClosed input && same (lineOf input) (readingWord weak)
 unfoldable pub whyOutput : (input : List ℕ) → List ℕ
 whyOutput input =
     pick (ltb maxInputBytes (length input)) (refusedText inputLong [])
-    (pick (asks true input) (whyTexts true (ruleIn (restOf input)) (recordingIn (restOf input)))
-    (pick (asks false input) (whyTexts false (ruleIn (restOf input)) (recordingIn (restOf input)))
+    (pick (asks true input) (whyTexts true (ruleTextIn (restOf input)) (recordingTextIn (restOf input)))
+    (pick (asks false input) (whyTexts false (ruleTextIn (restOf input)) (recordingTextIn (restOf input)))
     (refusedText ruleForm (lineOf input))))

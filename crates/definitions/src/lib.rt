@@ -1,1 +1,1 @@
-// No code: specs/ has document 01 as definitions, proofs/ its worked trials.
+// No code: specs/ has documents 01 and 02 as definitions, proofs/ their trials.

@@ -1,7 +1,7 @@
 -- One law for each need of the evaluator: a node's rows, the rows laid, and the loop.
 use mathlib.Core.Path.{_≡_, refl, sym, ap, ap₂, _∙_}
 use mathlib.Core.Bool.{Bool, true, false}
-use mathlib.Core.List.{List, [], _∷_, _++_}
+use mathlib.Core.List.{List, [], _∷_, _++_, append-assoc}
 use Prim.Native.Nat.{ℕ, _+_, _*_, _<_, _≤_}
 use native.Mathlib.Omega.{arith}
 use lib.Dec.{ltb, eqb}
@@ -12,37 +12,19 @@ use borrow.Author.Tests.{lt-ltb, le-ltb, ltb-true, eqb-true}
 use Rattle.definitions.specs.Limits.{maxStates, pairWords}
 use Rattle.definitions.specs.Nodes.{Node, node, nodeOf, kindOf}
 use Rattle.definitions.specs.Tables.{nodesIn}
-use Rattle.definitions.specs.Readings.{Trace, Rows, noRows, nodeRows, rowsOf, rowWords, pairsWords}
+use Rattle.definitions.specs.Readings.{Trace, Rows, noRows, nodeRows, rowsOf, pairsWords}
 use Rattle.theorems.proofs.Choice.{both-true}
-use Rattle.formulas.specs.Meaning.{meaning, OfWord}
-use Rattle.formulas.specs.declared.node.Node as code
-use Rattle.rows.specs.Marks.{marks}
-use Rattle.stored_rows.proofs.StoredLaws.{loaded, pairs-length, weak-words, strong-words, pair-laid}
-use Rattle.row_pairs.specs.declared.pair.Pair.{Pair}
-use Rattle.evaluation.specs.Nodes.{slots, again, Fit, Evaluable, Ready, rowsTo, rowsAt}
-use Rattle.row_pairs.specs.Pairs.{isLeaf, rowsIn, PairMade, Counted, Operable, operated, pairAt, pairOfNode, Operands, operatorRows}
-use Rattle.leaf_rows.specs.Traced.{LeafReady, traceOf}
-use Rattle.row_pairs.proofs.KindLaws.{leaf-is}
-use Rattle.evaluation.proofs.TableLaws.{rows-more, rows-length, rows-sized, nodes-more, nodes-length, operated-is, leaf-rows, rows-at}
-
--- ---- pairs
-
-pub rows-in : (p : Pair) (n : ℕ) (r : Rows) → PairMade p n r → rowsIn p ≡ r
-rows-in p n r m = ap₂ (λ w s. record { weak = w; strong = s }) (m .weak .marked) (m .strong .marked)
-
-pub pair-same : (p : Pair) (n : ℕ) (r s : Rows) → PairMade p n r → r ≡ s → PairMade p n s
-pair-same p n r s m e = rw e at m
-
-pub both-made : (p q : Pair) (n : ℕ) (r s : Rows) → PairMade p n r → PairMade q n s → Operable p q
-both-made p q n r s m o = record {
-  firstWeak = m .weak .whole;
-  firstStrong = m .strong .whole;
-  secondWeak = o .weak .whole;
-  secondStrong = o .strong .whole;
-  firstEven = m .strong .count ∙ sym (m .weak .count);
-  secondFirst = o .weak .count ∙ sym (m .weak .count);
-  secondEven = o .strong .count ∙ sym (m .weak .count);
-}
+use Rattle.rules.specs.Kinds.{isLeaf, Fit}
+use Rattle.rules.specs.Meaning.{meaning, OfWord}
+use Rattle.rules.specs.declared.node.Node as code
+use Rattle.rules.proofs.NodeLists.{nodes-more, nodes-length}
+use Rattle.rows.proofs.StoredLaws.{loaded, pairs-length, pairs-more, weak-words, strong-words}
+use Rattle.rows.specs.declared.pair.Pair.{Pair}
+use Rattle.evaluation.specs.Nodes.{slots, again, Evaluable, Ready, rowsTo, rowsAt}
+use Rattle.rows.specs.Pairs.{rowsIn, PairMade, PairStored, Counted, Operable, operated, pairAt, pairOfNode, Operands, operatorRows}
+use Rattle.evaluation.specs.Traced.{LeafReady, traceOf}
+use Rattle.rows.proofs.PairLaws.{rows-in, pair-same, both-made, made-whole}
+use Rattle.evaluation.proofs.TableLaws.{rows-more, rows-length, rows-sized, operated-is, leaf-rows, rows-at}
 
 -- the pair of node k, where rows are laid
 pub pair-of-rows : (t : Trace) (ns : List Node) (l rest : List ℕ) → t .places ≤ maxStates → l ≡ pairsWords (rowsOf t ns) ++ rest → (k : ℕ) → k < length ns
@@ -87,6 +69,7 @@ module _ (kind first second n : ℕ) (rows : List ℕ) (p q : Pair) (e : p ≡ p
     pub operands-even : Operands kind first second n rows → Operable p′ q′
     operands-even o = rw (f, h, e, g) (o .laid)
 
+    -- `operator`
     pub operator-rows : Operands kind first second n rows → (r : Pair) → PairMade r (p′ .weak .count) (operated (kindOf kind) (p′ .weak .count) (rowsIn p′) (rowsIn q′))
         → PairMade r n (operatorRows kind first second n rows)
     operator-rows o r m = rw (f, h, e, g, o .places) at m
@@ -121,6 +104,7 @@ module _ (nodes : List ℕ) (i : ℕ) (states : List ℕ) (n c own : ℕ) (rows 
         controller = ready .controller;
       }
 
+      -- `node_rows`: a leaf gathered, a leaf that stood there before, an operator; each to `rowsAt`
       pub leaf-turn : leaf ≡ true → (r : Pair) → PairMade r n (nodeRows (traceOf states n c own) [] (node (kindOf (x .kind)) (x .first) 0)) → PairMade r n (rowsAt nodes i states n c own)
       leaf-turn t r m =
           pair-same r n (nodeRows (traceOf states n c own) [] (node (kindOf (x .kind)) (x .first) 0)) (rowsAt nodes i states n c own) m
@@ -163,15 +147,19 @@ module _ (nodes : List ℕ) (i : ℕ) (states : List ℕ) (n c own : ℕ) (rows 
             (rw (ps, qs) at m)
             (operated-is states n c own before (kindOf (x .kind)) (x .first) (x .second) (sym tested ∙ f) ∙ ap (nodeRows (traceOf states n c own) before) (word .meant))
 
-  pub turn-laid : (p : Pair) (l′ l″ : List ℕ) → PairMade p n (rowsAt nodes i states n c own)
-      → l′ ≡ take (i * pairWords) rows ++ (rowWords (marks (p .weak)) ++ drop (i * pairWords + 3) rows)
-      → l″ ≡ take (i * pairWords + 3) l′ ++ (rowWords (marks (p .strong)) ++ drop (i * pairWords + 3 + 3) l′)
-      → l″ ≡ pairsWords (rowsTo nodes (i + 1) states n c own) ++ drop ((i + 1) * pairWords) rows
-  turn-laid p l′ l″ m a b =
+  -- `evaluate_node`: its pair stored, the rows of one node more are laid
+  pub turn-laid : (p : Pair) (l′ : List ℕ) → PairMade p n (rowsAt nodes i states n c own) → PairStored rows i p l′
+      → l′ ≡ pairsWords (rowsTo nodes (i + 1) states n c own) ++ drop ((i + 1) * pairWords) rows
+  turn-laid p l′ m u =
       let more : rowsTo nodes (i + 1) states n c own ≡ before ++ (rowsAt nodes i states n c own ∷ []) =
       ap (rowsOf (traceOf states n c own)) (nodes-more nodes i (ready .counted)) ∙ rows-more (traceOf states n c own) (nodesIn i nodes) (nodeOf (getD nodes i 0)) in
-      rw (more, ← rows-in p n (rowsAt nodes i states n c own) m)
-      (pair-laid rows rows l′ l″ before i (rowsIn p) laid-whole before-length a b)
+      rw (
+        more,
+        ← rows-in p n (rowsAt nodes i states n c own) m,
+        pairs-more before (rowsIn p),
+        append-assoc (pairsWords before) (pairsWords (rowsIn p ∷ [])) (drop ((i + 1) * pairWords) rows),
+      )
+      (u .words ∙ ap (λ (l : List ℕ). l ++ (pairsWords (rowsIn p ∷ []) ++ drop ((i + 1) * pairWords) rows)) (ready .laid))
 
 -- ---- the loop
 
@@ -222,8 +210,9 @@ module _ (nodes : List ℕ) (count : ℕ) (states : List ℕ) (n c own : ℕ) (e
       rw sum at (sym (drop-drop 6 (i * pairWords) l) ∙ ap (drop 6) rest ∙ drop-drop 6 (i * pairWords) entry) in
       record { within = omega arith; laid = e ∙ rw same; slotted = so .slotted ∙ sym s }
 
+  -- `evaluate`: after the last node the rows are `rowsTo` of all
   pub evaluated-done : count ≤ i → l ≡ pairsWords (rowsTo nodes count states n c own) ++ drop (count * pairWords) entry
   evaluated-done h = let e : i ≡ count = omega (arith, so .within) in rw e at (so .laid)
 
 pub ruleset table-laws =
-    (needs, leaf-is, first-counted, second-counted, operands-even, operator-rows, leaf-ready, leaf-turn, again-tested, again-late, again-turn, again-room, operands-laid, operator-turn, turn-laid, evaluated-none, evaluated-length, evaluated-slots, evaluated-ready, evaluated-more, evaluated-done)
+    (needs, first-counted, second-counted, operands-even, operator-rows, leaf-ready, leaf-turn, again-tested, again-late, again-turn, again-room, operands-laid, operator-turn, made-whole, turn-laid, evaluated-none, evaluated-length, evaluated-slots, evaluated-ready, evaluated-more, evaluated-done)

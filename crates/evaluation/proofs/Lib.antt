@@ -1,2 +1,3 @@
+pub mod LeafLaws
 pub mod TableLaws
 pub mod EvaluateLaws

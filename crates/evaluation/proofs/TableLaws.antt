@@ -13,9 +13,11 @@ use Rattle.definitions.specs.Tables.{nodesIn}
 use Rattle.definitions.specs.Readings.{Trace, Rows, noRows, nodeRows, reading, readFrom, rowsAfter, rowsOf}
 use Rattle.theorems.proofs.Tabulations.{tabulate-length}
 use Rattle.mark_words.proofs.OperatorLaws.{lt-or-le}
-use Rattle.leaf_rows.specs.Traced.{traceOf}
+use Rattle.evaluation.specs.Traced.{traceOf}
 use Rattle.evaluation.specs.Nodes.{rowsTo, rowsAt}
-use Rattle.row_pairs.specs.Pairs.{isLeaf, operated}
+use Rattle.rules.specs.Kinds.{isLeaf}
+use Rattle.rules.proofs.NodeLists.{nodes-more, nodes-length}
+use Rattle.rows.specs.Pairs.{operated}
 
 -- every row of a list covers n places
 abbrev pub Sized : ℕ → List Rows → Type 0
@@ -57,12 +59,6 @@ module _ (t : Trace) where
   pub rows-sized : (ns : List Node) → Sized (t .places) (rowsOf t ns)
   unfolding rowsOf
   rows-sized ns = after-sized [] ns (λ k h. absurd (omega arith))
-
-pub nodes-more : (nodes : List ℕ) (i : ℕ) → i < length nodes → nodesIn (i + 1) nodes ≡ nodesIn i nodes ++ (nodeOf (getD nodes i 0) ∷ [])
-nodes-more nodes i h = rw (add-one i, take-suc nodes i 0 h, map-append)
-
-pub nodes-length : (nodes : List ℕ) (i : ℕ) → i ≤ length nodes → length (nodesIn i nodes) ≡ i
-nodes-length nodes i h = length-map (take i nodes) nodeOf ∙ length-take-le i nodes h
 
 -- the rows of a node, among those of the nodes before a later one
 pub rows-at : (nodes states : List ℕ) (n c own i j : ℕ) → j < i → i ≤ length nodes → getD (rowsTo nodes i states n c own) j noRows ≡ rowsAt nodes j states n c own

@@ -1,23 +1,16 @@
 -- What the evaluator asks of a node, and of the lent rows when its turn comes.
-use mathlib.Core.Bool.{Bool, false, _&&_}
+use mathlib.Core.Bool.{Bool, _&&_}
 use mathlib.Core.List.{List}
 use mathlib.Core.Path.{_≡_}
 use Prim.Native.Nat.{ℕ, _+_, _*_, _<_, _≤_}
 use lib.Dec.{eqb, ltb}
 use lib.ListN.{length, getD, take}
-use Rattle.definitions.specs.Limits.{atomCount, maxStates, maxControllers, pairWords}
-use Rattle.definitions.specs.Nodes.{Atom, Unknown, Node, nodeOf}
+use Rattle.definitions.specs.Limits.{maxStates, maxControllers, pairWords}
+use Rattle.definitions.specs.Nodes.{nodeOf}
 use Rattle.definitions.specs.Tables.{nodesIn}
 use Rattle.definitions.specs.Readings.{Rows, nodeRows, rowsOf, pairsWords}
-use Rattle.row_pairs.specs.Pairs.{isLeaf}
-use Rattle.leaf_rows.specs.Traced.{traceOf}
-
--- node i of an accepted table: its atom is an atom, its operands are earlier nodes (an unused one is 0)
-pub record Fit (i : ℕ) (n : Node) : Type 0 where
-  pub known : n .kind ≡ Unknown → ⊥
-  pub atom : n .kind ≡ Atom → n .first < atomCount
-  pub first : isLeaf (n .kind) ≡ false → n .first < i
-  pub second : isLeaf (n .kind) ≡ false → n .second < i
+use Rattle.rules.specs.Kinds.{Fit}
+use Rattle.evaluation.specs.Traced.{traceOf}
 
 -- how many slots there are for leaves seen before
 abbrev pub slots : ℕ

@@ -1,2 +1,4 @@
+pub mod FindLaws
+pub mod LayLaws
 pub mod AcceptedLaws
 pub mod EvidenceLaws

@@ -7,8 +7,8 @@ use Rattle.definitions.specs.Limits.{accepted}
 use Rattle.definitions.specs.Tables.{Rule}
 use Rattle.definitions.specs.Recordings.{Recording}
 use Rattle.definitions.specs.Operations.{Answer, answer, evidenceAnswer, evidencePairs}
-use Rattle.evidence.specs.declared.evidence.Explanation.{Explanation}
-use Rattle.evidence.specs.declared.evidence.Explanation.the-variants.{Pairs, Refused}
+use Rattle.evidence.specs.declared.Explanation.{Explanation}
+use Rattle.evidence.specs.declared.Explanation.the-variants.{Pairs, Refused}
 
 -- how many pairs there are, or the refusal's number alone
 unfoldable pub answerOf : Explanation → Answer

@@ -1,2 +1,4 @@
+pub mod Finding
+pub mod Laying
 pub mod Accepted
 pub mod Answers

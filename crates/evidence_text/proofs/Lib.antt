@@ -1,1 +1,4 @@
 pub mod LineLaws
+pub mod VerdictLaws
+pub mod FoundLaws
+pub mod BehindLaws

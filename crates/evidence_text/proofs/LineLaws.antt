@@ -10,18 +10,17 @@ use mir.Syntax.{w32}
 use mir.Val.{Fits}
 use borrow.Author.Needs.{needs}
 use Rattle.definitions.specs.Lines.{bytes, tab, newline, digits}
-use Rattle.definitions.specs.Why.{stateOfPlace, named, pairText}
-use Rattle.passes.specs.Places.{statesOnly, Countable}
+use Rattle.definitions.specs.Why.{stateOfPlace, wordNumber, pairText}
+use Rattle.projection.specs.Places.{statesOnly, Countable}
 use Rattle.mark_words.proofs.WordLaws.{bit-number}
-use Rattle.formulas.specs.Meaning.{OfWord}
-use Rattle.formulas.specs.declared.node.Node as code
-use Rattle.printing.specs.Printing.{Printed}
+use Rattle.rules.specs.Meaning.{OfWord}
+use Rattle.rules.specs.declared.node.Node as code
+use Rattle.printing.specs.Printing.{Printed, countedLine}
 use Rattle.printing.proofs.PrintLaws.{digits-fit, printed-none}
-use Rattle.report.specs.Reporting.{countedLine}
-use Rattle.report.proofs.ReportLaws.{first-room, rest-room, both}
+use Rattle.printing.proofs.LineLaws.{first-room, rest-room, both}
 use Rattle.evidence_text.specs.Pairs.{maxPairBytes, pairOf, lineText, placeText, readingText, pairIn, pairsIn, PairReady, PairsReady}
 use Rattle.evidence_text.specs.declared.line.Line.{Line}
-use Rattle.place_states.proofs.StateLaws.{state-low}
+use Rattle.projection.proofs.StateLaws.{state-low}
 
 -- ---- `line_of`
 module _ (c : ℕ) (nodes : List ℕ) (N : ℕ) (states places : List ℕ) (w : ℕ) (so : PairReady c nodes N states places w) where
@@ -30,6 +29,9 @@ module _ (c : ℕ) (nodes : List ℕ) (N : ℕ) (states places : List ℕ) (w : 
 
   pub place-inside : w / 64 < length places
   place-inside = so .place
+
+  pub place-below : w / 64 < 128
+  place-below = so .few
 
   pub pair-countable : Countable N c states
   pair-countable = so .recording
@@ -42,19 +44,20 @@ module _ (c : ℕ) (nodes : List ℕ) (N : ℕ) (states places : List ℕ) (w : 
       pub state-fits : Fits w32 s
       state-fits = record { fits = omega (arith, state-low (statesOnly N states) c (w / 64) (so .recording .someState), so .recording .fewStates) }
 
+      -- `line_of`: state, step, atom, value and node are those of `pairIn`
       pub line-is : pairText s (w / 64) (x .first) (getD places (w / 64) 0 / 2 ^ (x .first) % 2) (w % 64) ≡ pairIn c nodes N states places (pairOf w)
       unfolding pairIn
       line-is = rw (at, is .first, bit-number (getD places (w / 64) 0) (getD nodes (w % 64) 0 / 256 % 4096))
 
-pub ruleset line-laws = (needs, node-inside, place-inside, pair-countable, atom-below, state-fits, line-is)
+pub ruleset line-laws = (needs, node-inside, place-inside, place-below, pair-countable, atom-below, state-fits, line-is)
 
 -- ---- the parts of a line
 -- a named number and its end
-part-of : (word : List ℕ) (n : ℕ) (end rest : List ℕ) → named word n ++ (end ++ rest) ≡ countedLine word n end ++ rest
+part-of : (word : List ℕ) (n : ℕ) (end rest : List ℕ) → wordNumber word n ++ (end ++ rest) ≡ countedLine word n end ++ rest
 unfolding countedLine
 part-of word n end rest = simp append-assoc
 
-last-part : (word : List ℕ) (n : ℕ) (end : List ℕ) → named word n ++ end ≡ countedLine word n end
+last-part : (word : List ℕ) (n : ℕ) (end : List ℕ) → wordNumber word n ++ end ≡ countedLine word n end
 unfolding countedLine
 last-part word n end = append-assoc word (tab ∷ digits n) end
 
@@ -90,7 +93,7 @@ module _ (l : Line) where
 
   halves : lineText l ≡ placeText l ++ readingText l
   unfolding pairText placeText readingText
-  halves = two-parts (named (bytes "state") (l .state)) (named (bytes "step") (l .step)) _
+  halves = two-parts (wordNumber (bytes "state") (l .state)) (wordNumber (bytes "step") (l .step)) _
 
 -- ---- `put_place`
 module _ (l : Line) (o : List ℕ) (at : ℕ) (room : at + length (placeText l) ≤ length o) where
@@ -104,6 +107,7 @@ module _ (l : Line) (o : List ℕ) (at : ℕ) (room : at + length (placeText l) 
     pub step-room : length o₁ ≡ length o → p + length (step l) ≤ length o₁
     step-room kept = rest-room (state l) (step l) o at place-room o₁ p one kept
 
+    -- `put_place`: the state and the step are `placeText`
     pub place-written : (o₂ : List ℕ) (e : ℕ) → Printed (step l) o₁ p e o₂ → Printed (placeText l) o at e o₂
     place-written o₂ e two = rw (place-parts l) (both (state l) (step l) o at place-room o₁ p one o₂ e two)
 
@@ -128,6 +132,7 @@ module _ (l : Line) (o : List ℕ) (at : ℕ) (room : at + length (readingText l
       pub node-room : length o₂ ≡ length o₁ → q + length (node l) ≤ length o₂
       node-room kept₂ = rest-room (value l) (node l) o₁ p after-atom o₂ q two kept₂
 
+      -- `put_reading`: the atom, its value and the node are `readingText`
       pub reading-written : (o₃ : List ℕ) (e : ℕ) → Printed (node l) o₂ q e o₃ → Printed (readingText l) o at e o₃
       reading-written o₃ e three =
           rw (reading-parts l)
@@ -148,6 +153,7 @@ module _ (l : Line) (o : List ℕ) (at : ℕ) (room : at + length (lineText l) �
     pub reading-fits : length o₁ ≡ length o → p + length (readingText l) ≤ length o₁
     reading-fits kept = rest-room (placeText l) (readingText l) o at both-room o₁ p one kept
 
+    -- `put_pair`: the place and the reading are `lineText`
     pub pair-written : (o₂ : List ℕ) (e : ℕ) → Printed (readingText l) o₁ p e o₂ → Printed (lineText l) o at e o₂
     pair-written o₂ e two = rw (halves l) (both (placeText l) (readingText l) o at both-room o₁ p one o₂ e two)
 
@@ -170,6 +176,7 @@ module _ (c : ℕ) (nodes : List ℕ) (N : ℕ) (states places : List ℕ) where
     pub kept : length o′ ≡ length o
     pub printed : Printed (text (take i pairs)) o at end o′
 
+  -- `put_pairs`, before the first turn: no line is printed
   pub printing-none : (pairs : List ℕ) (at : ℕ) (o : List ℕ) → Printing pairs at o 0 at o
   printing-none pairs at o = record { within = omega arith; kept = refl; printed = printed-none o at }
 
@@ -178,6 +185,7 @@ module _ (c : ℕ) (nodes : List ℕ) (N : ℕ) (states places : List ℕ) where
     pub printing-kept : length o′ ≡ length o
     printing-kept = so .kept
 
+    -- `put_pairs`, all pairs are printed: the lines are `pairsIn`
     pub printing-done : length pairs ≤ i → Printed (text pairs) o at end o′
     printing-done h = rw (take-all i pairs h) at (so .printed)
 
@@ -208,6 +216,7 @@ module _ (c : ℕ) (nodes : List ℕ) (N : ℕ) (states places : List ℕ) where
         pub printing-room : end + length (lineText l) ≤ length o′
         printing-room = rw is (rest-room (text (take i pairs)) this o at more-room o′ end (so .printed) (so .kept))
 
+        -- `put_pairs`, a turn: the line of one pair more of `pairsIn` is printed
         pub printing-next : (o″ : List ℕ) (e : ℕ) → length o″ ≡ length o′ → Printed (lineText l) o′ end e o″ → Printing pairs at o (i + 1) e o″
         printing-next o″ e kept p = record {
           within = omega arith;

@@ -2,13 +2,13 @@
 use Prim.Native.Nat.{ℕ, _+_, _/_, _%_, _<_, _≤_}
 use mathlib.Core.List.{List, [], _∷_, _++_}
 use lib.ListN.{length, getD}
-use Rattle.definitions.specs.Limits.{maxRuleNodes, atomCount}
+use Rattle.definitions.specs.Limits.{maxRuleNodes, maxStates, atomCount}
 use Rattle.definitions.specs.Bounded.{bitOf, bit}
 use Rattle.definitions.specs.Nodes.{nodeOf}
 use Rattle.definitions.specs.Evidence.{Found, found}
 use Rattle.definitions.specs.Lines.{bytes, tab, newline}
-use Rattle.definitions.specs.Why.{stateOfPlace, named, pairText}
-use Rattle.passes.specs.Places.{statesOnly, Countable}
+use Rattle.definitions.specs.Why.{stateOfPlace, wordNumber, pairText}
+use Rattle.projection.specs.Places.{statesOnly, Countable}
 use Rattle.evidence_text.specs.declared.line.Line.{Line}
 
 -- the longest line: the five words, nine tabs, byte 10, and digits of numbers below 1,000 (twice), 100, 10 and 100
@@ -25,12 +25,12 @@ lineText l = pairText (l .state) (l .step) (l .atom) (l .value) (l .node)
 
 -- the part of a line that says where it was read
 unfoldable pub placeText : Line → List ℕ
-placeText l = named (bytes "state") (l .state) ++ (tab ∷ (named (bytes "step") (l .step) ++ (tab ∷ [])))
+placeText l = wordNumber (bytes "state") (l .state) ++ (tab ∷ (wordNumber (bytes "step") (l .step) ++ (tab ∷ [])))
 
 -- the part that says what was read there
 unfoldable pub readingText : Line → List ℕ
 readingText l =
-    named (bytes "atom") (l .atom) ++ (tab ∷ (named (bytes "is") (l .value) ++ (tab ∷ (named (bytes "node") (l .node) ++ (newline ∷ [])))))
+    wordNumber (bytes "atom") (l .atom) ++ (tab ∷ (wordNumber (bytes "is") (l .value) ++ (tab ∷ (wordNumber (bytes "node") (l .node) ++ (newline ∷ [])))))
 
 -- the line of a pair, of what it depends on: of an atom's node of an accepted rule, foundText R c ns f is pairIn c nodes (R .count) (R .states) (localTrace R c) f
 unfoldable pub pairIn : (c : ℕ) (nodes : List ℕ) (N : ℕ) (states places : List ℕ) (f : Found) → List ℕ
@@ -49,6 +49,7 @@ pub record PairReady (c : ℕ) (nodes : List ℕ) (N : ℕ) (states places : Lis
   pub node : w % maxRuleNodes < length nodes
   pub atom : (nodeOf (getD nodes (w % maxRuleNodes) 0)) .first < atomCount
   pub place : w / maxRuleNodes < length places
+  pub few : w / maxRuleNodes < maxStates
 
 -- each of them is, and there is space for their lines
 pub record PairsReady (c : ℕ) (nodes : List ℕ) (N : ℕ) (states places pairs : List ℕ) (at : ℕ) (text : List ℕ) : Type 0 where

@@ -4,12 +4,13 @@ ghost use Prim.Native.Nat.{_+_, _≤_};
 ghost use lib.ListN.{length};
 ghost use Rattle.printing.specs.Printing.{Printed};
 ghost use Rattle.evidence_text.specs.Pairs.{pairOf, lineText, placeText, readingText, pairIn, pairsIn, PairReady, PairsReady};
-use formulas::limits::Limits;
-use formulas::node::Node;
-use judges::headings::RecordingHeading;
-use judges::headings::RuleHeading;
-use place_states::state::state_of_place;
-use report::put_line;
+use judges::local::LocalTrace;
+use printing::put_line;
+use projection::place_state::state_of_place;
+use recordings::heading::RecordingHeading;
+use rules::headings::RuleHeading;
+use rules::limits::Limits;
+use rules::node::Node;
 
 // What is said of a pair: the state of the recording, the controller's step, the atom, its bit there, the rule's node.
 struct Line {
@@ -22,25 +23,25 @@ struct Line {
 
 // Of the pair that is this number.
 fn line_of(
-    rule: RuleHeading,
     nodes: &[u32],
+    trace: LocalTrace,
     recording: RecordingHeading,
     states: &[u64],
-    places: &[u32],
     pair: u32,
 ) -> Line
-    requires { ⌜ PairReady (rule .controller) (now nodes) (recording .count) (now states) (now places) pair ⌝ }
-    ensures { λ r. ⌜ lineText r ≡ pairIn (rule .controller) (now (nodes .entry)) (recording .count) (now (states .entry)) (now (places .entry)) (pairOf pair) ⌝ }
+    requires { ⌜ PairReady (trace .controller) (now nodes) (recording .count) (now states) (trace .words) pair ⌝ }
+    ensures { λ r. ⌜ lineText r ≡ pairIn (trace .controller) (now (nodes .entry)) (recording .count) (now (states .entry)) (trace .words) (pairOf pair) ⌝ }
 {
     let place = pair as usize / Limits::RULE_NODES;
     let node = pair as usize % Limits::RULE_NODES;
     let atom = Node::of_word(nodes[node]).first as u32;
-    let state = state_of_place(recording.count, rule.controller, states, place);
+    let state = state_of_place(recording.count, trace.controller, states, place);
+    let words = trace.words;
     Line {
         state: state as u32,
         step: place as u32,
         atom: atom,
-        value: (places[place] >> atom) % 2,
+        value: (words[place] >> atom) % 2,
         node: node as u32,
     }
 }
@@ -75,21 +76,20 @@ fn put_pair(line: Line, at: usize, text: &mut [u8]) -> usize
 
 // A line for each pair. The place after them.
 pub fn put_pairs(
-    rule: RuleHeading,
     nodes: &[u32],
+    trace: LocalTrace,
     recording: RecordingHeading,
     states: &[u64],
-    places: &[u32],
     pairs: &[u32],
     at: usize,
     text: &mut [u8],
 ) -> usize
-    requires { ⌜ PairsReady (rule .controller) (now nodes) (recording .count) (now states) (now places) (now pairs) at (now text) ⌝ }
-    ensures { λ r. ⌜ Printed (pairsIn (rule .controller) (now (nodes .entry)) (recording .count) (now (states .entry)) (now (places .entry)) (now (pairs .entry))) (now (text .entry)) at r (now (text .exit)) ⌝ }
+    requires { ⌜ PairsReady (trace .controller) (now nodes) (recording .count) (now states) (trace .words) (now pairs) at (now text) ⌝ }
+    ensures { λ r. ⌜ Printed (pairsIn (trace .controller) (now (nodes .entry)) (recording .count) (now (states .entry)) (trace .words) (now (pairs .entry))) (now (text .entry)) at r (now (text .exit)) ⌝ }
 {
     let mut end = at;
     for i in 0..pairs.len() {
-        let line = line_of(rule, nodes, recording, states, places, pairs[i]);
+        let line = line_of(nodes, trace, recording, states, pairs[i]);
         let next = put_pair(line, end, text);
         end = next;
     }

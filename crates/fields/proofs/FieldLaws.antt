@@ -18,10 +18,12 @@ use Rattle.fields.specs.declared.number.Field.{Field}
 use Rattle.fields.specs.declared.number.Field.the-variants.{Number, Malformed}
 
 -- ---- the largest number
+-- `shifted`, a number above the largest: `cap` is the largest
 pub cap-over : (n : ℕ) → largest < n → largest ≡ cap n
 unfolding cap pick
 cap-over n h = rw (lt-ltb largest n h)
 
+-- `shifted`, a number up to the largest: `cap` is the number
 pub cap-within : (n : ℕ) → n ≤ largest → n ≡ cap n
 unfolding cap pick
 cap-within n h = rw (le-ltb largest n h)
@@ -68,17 +70,20 @@ capped-on v [] = rw (cap-cap v)
 capped-on v (x ∷ t) = by-test (within 48 57 x) (λ e. rw e (sym (capped-on (cap v * 10 + (x - 48)) t) ∙ rw (cap-step v (x - 48)) (capped-on (v * 10 + (x - 48)) t))) (λ e. rw e)
 
 -- ---- `decimal`
+-- `decimal`, no byte: `decimal` of the definitions is malformed
 pub dec-empty : (s : List ℕ) → length s ≡ 0 → Malformed ≡ capped (decimal s)
 unfolding capped decimal
 dec-empty [] h = refl
 dec-empty (x ∷ t) h = absurd (omega arith)
 
+-- `decimal`, the digit 0 alone: `decimal` of the definitions is 0
 pub dec-zero : (s : List ℕ) → getD s 0 0 ≡ 48 → length s ≡ 1 → Number 0 ≡ capped (decimal s)
 unfolding capped cap decimal decimalOn pick
 dec-zero [] e h = absurd (omega arith)
 dec-zero (x ∷ []) e h = let g : x ≡ 48 = e in rw g
 dec-zero (x ∷ y ∷ t) e h = absurd (omega arith)
 
+-- `decimal`, a leading digit 0: `decimal` of the definitions is malformed
 pub dec-lead : (s : List ℕ) → (length s ≡ 0 → ⊥) → getD s 0 0 ≡ 48 → (length s ≡ 1 → ⊥) → Malformed ≡ capped (decimal s)
 unfolding capped decimal pick
 dec-lead [] g e h = absurd (g refl)
@@ -91,25 +96,30 @@ pub record Counted (s : List ℕ) (v i : ℕ) : Type 0 where
   pub small : v ≤ largest
   pub left : capped (decimal s) ≡ capped (decimalOn v (drop i s))
 
+-- `decimal`, before byte 0: all of `decimal` of the definitions is left
 pub dec-start : (s : List ℕ) → (length s ≡ 0 → ⊥) → (getD s 0 0 ≡ 48 → ⊥) → Counted s 0 0
 unfolding decimal pick
 dec-start [] g e = absurd (g refl)
 dec-start (x ∷ t) g e = record { within = omega arith; small = omega arith; left = rw (ne-eqb x 48 e) }
 
 module _ (s : List ℕ) (v i : ℕ) (inv : Counted s v i) where
+  -- `decimal`, no byte is left: v is `decimal` of the definitions, up to the largest (`capped`)
   pub dec-done : length s ≤ i → Number v ≡ capped (decimal s)
   unfolding capped decimalOn
   dec-done h = rw (inv .left, drop-of-length-le s h, ← cap-within v (inv .small))
 
   module _ (h : i < length s) where
+    -- `decimal`, byte i is below the digits: `decimal` of the definitions is malformed
     pub dec-low : getD s i 0 < 48 → Malformed ≡ capped (decimal s)
     unfolding capped decimalOn pick
     dec-low l = rw (inv .left, drop-cons s i 0 h, lt-leb 48 (getD s i 0) l)
 
+    -- `decimal`, byte i is above the digits: `decimal` of the definitions is malformed
     pub dec-high : 48 ≤ getD s i 0 → 57 < getD s i 0 → Malformed ≡ capped (decimal s)
     unfolding capped decimalOn pick
     dec-high l u = rw (inv .left, drop-cons s i 0 h, le-leb 48 (getD s i 0) l, lt-leb (getD s i 0) 57 u)
 
+    -- `decimal`, byte i is a digit: `decimal` of the definitions is left from the next byte on
     pub dec-next : (r : ℕ) → 48 ≤ getD s i 0 → getD s i 0 ≤ 57 → r ≡ cap (v * 10 + (getD s i 0 - 48)) → Counted s r (i + 1)
     unfolding decimalOn pick
     dec-next r l u e = record {

@@ -1,2 +1,4 @@
 pub mod FieldLaws
 pub mod HexLaws
+pub mod FormLaws
+pub mod HeadingLaws

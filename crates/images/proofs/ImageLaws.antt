@@ -17,14 +17,14 @@ use Rattle.definitions.specs.Nodes as words
 use Rattle.definitions.specs.Nodes.{Kind, node, nodeOf, nodeWord, kindOf, operandSpan}
 use Rattle.definitions.specs.Rewriting as table
 use Rattle.definitions.specs.Rewriting.{Emit, emitted, opening, closing}
-use Rattle.formulas.proofs.KindLaws.{kind-cases}
-use Rattle.blocks.specs.Emission.{Room, Emitted, Follows, Holds}
-use Rattle.blocks.specs.Blocks.{dot, Lists, rowsOf, forms, formOf, closingLists, FineRows, rowsIn, IsBlock, naming, SmallNames, laid}
+use Rattle.rules.proofs.KindLaws.{kind-cases}
+use Rattle.images.specs.Emission.{Room, Emitted, Follows, Holds}
+use Rattle.images.specs.Blocks.{dot, Lists, rowsOf, forms, formOf, closingLists, FineRows, rowsIn, IsBlock, naming, SmallNames, laid}
 use Rattle.images.specs.Images.{meant, Small, Begun, Named, partOf, formBy, tolerantBy, Stepped, ClosedBy}
-use Rattle.blocks.specs.declared.blocks.Block.{Block}
-use Rattle.images.specs.declared.image.Image.{Image}
-use Rattle.blocks.proofs.EmitLaws.{emitted-follows}
-use Rattle.blocks.proofs.BlockLaws.{fine-rows}
+use Rattle.images.specs.declared.blocks.Block.{Block}
+use Rattle.images.specs.declared.Image.{Image}
+use Rattle.images.proofs.EmitLaws.{emitted-follows}
+use Rattle.images.proofs.BlockLaws.{fine-rows}
 
 -- every name stands for a small number
 data Low : List ℕ → Type 0 where
@@ -45,6 +45,7 @@ naming-small j a a′ b b′ x g n hj ha ha′ hb hb′ hx hg hn = record {
       (more hj (more ha (more ha′ (more hb (more hb′ (more hx (more hg (more hn none))))))))))))))))));
 }
 
+-- `named_operands`: the array is `naming`, and all its numbers are small (`Named`)
 pub names-are : (at weak n : ℕ) (p q : Image) → Begun at weak → n < operandSpan → Small p → Small q →
     Named at weak n (meant p) (meant q) (naming (at - 1) (p .weak) (p .strong) (q .weak) (q .strong) at (at + weak) n)
 names-are at weak n p q h hn sp sq = record {
@@ -66,6 +67,7 @@ opened = map nodeWord opening
 pub opened-fine : FineRows 11 opened
 opened-fine = fine-rows 11 opened (omega arith) refl
 
+-- `opening`: the rows that are laid are `opening` of the definitions (`Holds`)
 pub opening-laid : (o o′ : List ℕ) (r : ℕ) → Follows (laid (naming 0 0 0 0 0 0 0 0) 0 (rowsIn 11 opened)) o 0 r o′ → Holds opening o r o′
 unfolding kindOf pick
 opening-laid o o′ r p = record { next = p .next; inside = p .inside; size = p .size; words = p .words }
@@ -76,6 +78,7 @@ or-no : (b : Bool) → (b || false) ≡ b
 or-no true = refl
 or-no false = refl
 
+-- `tolerant_of`: the tests of the kind's number are `tolerantBy`
 pub tolerance : (own p q : Bool) (k : ℕ) →
     ((eqb k 0 || (eqb k 5 || eqb k 6)) || ((eqb k 1 && own) || ((eqb k 2 && p) || ((eqb k 3 || eqb k 7) && (p && q))))) ≡ tolerantBy own p q (kindOf k)
 tolerance own p q =
@@ -102,6 +105,7 @@ formed-is short own p q = kind-cases (λ k K. k ≤ 7 → formed short own p q k
     (λ h. refl) (λ h. refl) (λ h. refl) (λ h. refl) (λ h. refl) (λ h. refl) (λ h. refl) (λ h. refl)
     (λ h. absurd (omega arith)) (λ h. absurd (omega arith)) (λ k l h. absurd (omega arith))
 
+-- `form_of`: the picks by the kind's number are `formBy`
 pub form-is : (short own p q : Bool) (k r s t u : ℕ) → k ≤ 7 → r ≡ pick (eqb k 1 && own) 8 s → s ≡ pick (eqb k 4 && (short && p)) 9 t →
     t ≡ pick (eqb k 5 && (short && (p && q))) 10 u → u ≡ pick (eqb k 7 && (short && (p && q))) 11 k → r ≡ formBy short own p q (kindOf k)
 form-is short own p q k r s t u h er es et eu = rw (er, es, et, eu) (formed-is short own p q k h)
@@ -246,6 +250,7 @@ module _ (l : Lists) (k : Block) (at : ℕ) (o : List ℕ) (b : IsBlock l k) (h 
 pub strong-fits : (l : Lists) (k : Block) (F o o′ : List ℕ) (at r : ℕ) → Follows (laid F at (rowsIn (k .count) (k .rows))) o at r o′ → IsBlock l k → Room 11 at o → Fits w16 (r - 1)
 strong-fits l k F o o′ at r p b h = record { fits = lt-of-lt-of-le {m = 4096} (omega (arith, end-is l k F o o′ at r b p, b .fine .few, h .low)) (lit≤ tt) }
 
+-- `draw_image`: the block that is laid has both images of the node (`partOf`, `Stepped`)
 pub stepped : (short own : Bool) (P Q : table.Image) (c x y f : ℕ) (k : Block) (F o o′ : List ℕ) (at r : ℕ) (t : Bool) →
     Follows (laid F at (rowsIn (k .count) (k .rows))) o at r o′ → IsBlock (formOf f) k → Named at (k .weak) x P Q F →
     f ≡ formBy short own (P .tolerant) (Q .tolerant) (kindOf c) → c ≤ 7 → t ≡ tolerantBy own (P .tolerant) (Q .tolerant) (kindOf c) →
@@ -280,6 +285,7 @@ closing-fine = fine-rows 8 closingRows (omega arith) refl
 pub closing-begun : (at : ℕ) (o : List ℕ) → 0 < at → Room 8 at o → Begun at 4
 closing-begun at o z h = record { some = z; low = omega (arith, h .low) }
 
+-- `closing`: the block that is laid is `closing` of the definitions, with both tops (`ClosedBy`)
 pub closed-by : (i : table.Image) (at : ℕ) (F o o′ : List ℕ) (r : ℕ) → Follows (laid F at (rowsIn 8 closingRows)) o at r o′ → Named at 4 0 i i F → 0 < at →
     ClosedBy i o at (record { count = r; weak = at + 4 - 1; strong = r - 1 }) o′
 unfolding kindOf pick

@@ -1,1 +1,3 @@
+pub mod EmitLaws
+pub mod BlockLaws
 pub mod ImageLaws

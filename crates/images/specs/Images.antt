@@ -9,10 +9,10 @@ use Rattle.definitions.specs.Bounded.{pick}
 use Rattle.definitions.specs.Nodes.{Kind, True, Atom, Not, Or, Next, Until, Prev, Since, Run, End, Unknown, Node, operandSpan}
 use Rattle.definitions.specs.Rewriting as table
 use Rattle.definitions.specs.Rewriting.{Emit, #, one, two, itself, foreignAtom, plainNext, plainUntil, plainPrev, plainSince, shortNext, shortUntil, shortSince, closing, imageOf}
-use Rattle.images.specs.declared.image.Image.{Image}
-use Rattle.images.specs.declared.image.Tops.{Tops}
-use Rattle.blocks.specs.Emission.{Emitted}
-use Rattle.blocks.specs.Blocks.{naming, SmallNames}
+use Rattle.images.specs.declared.Image.{Image}
+use Rattle.images.specs.declared.Tops.{Tops}
+use Rattle.images.specs.Emission.{Emitted}
+use Rattle.images.specs.Blocks.{naming, SmallNames}
 
 -- what the image type of the code means
 abbrev pub meant : Image → table.Image

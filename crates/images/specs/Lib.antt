@@ -1,1 +1,3 @@
+pub mod Emission
+pub mod Blocks
 pub mod Images

@@ -1,12 +1,12 @@
 // Judges the rule and the recording on standard input, and prints to standard output. On standard error it says where a
 // refused line stands, or what could not be read or written.
-use formulas::limits::Limits;
 use libc::STDOUT_FILENO;
-use program::judge;
-use refused_line::find::refused_line;
+use refused_line::refused_line;
+use report::REFUSED;
+use rules::limits::Limits;
 use standard_streams::failures;
 use standard_streams::input::read_input;
-use told_line::say_line;
+use standard_streams::told_line::say_line;
 
 fn main() {
     // One byte more than the limit tells an input that is too long.
@@ -17,10 +17,13 @@ fn main() {
         return;
     }
     let length = input.count;
-    let mut output = [0u8; judge::OUTPUT_BYTES];
-    let printed = judge::judge(&space[..length], &mut output);
+    let mut output = [0u8; judge_program::OUTPUT_BYTES];
+    let printed = judge_program::judge(&space[..length], &mut output);
     if io::write_all(STDOUT_FILENO, &output[..printed]) {
-        say_line(refused_line(&space[..length]));
+        // What was accepted has no refused line, and is not read again.
+        if output[0] == REFUSED {
+            say_line(refused_line(&space[..length]));
+        }
     } else {
         failures::say_unwritten(b"judge");
     }

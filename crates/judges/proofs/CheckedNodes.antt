@@ -11,8 +11,7 @@ use Rattle.definitions.specs.Limits.{ruleLimits, ruleOperand, atomCount}
 use Rattle.definitions.specs.Nodes.{Kind, True, Atom, Not, Or, Next, Until, Prev, Since, Run, End, Unknown, Node, node, nodeOf}
 use Rattle.definitions.specs.Tables.{isUnknown, isRewritten, isAtom, unusedSet, operandLate, nodeRefusal, nodesRefusal, nodesIn}
 use Rattle.theorems.proofs.Choice.{both-false, refuse-no, or-else-none}
-use Rattle.evaluation.specs.Nodes.{Fit}
-use Rattle.row_pairs.specs.Pairs.{isLeaf}
+use Rattle.rules.specs.Kinds.{isLeaf, Fit}
 
 -- the tests that an accepted node i passed
 record Passed (rewritten : Bool) (i : ℕ) (n : Node) : Type 0 where

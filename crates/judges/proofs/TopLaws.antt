@@ -9,12 +9,12 @@ use borrow.Author.Needs.{needs}
 use Rattle.definitions.specs.Limits.{maxStates, pairWords}
 use Rattle.definitions.specs.Nodes.{Node}
 use Rattle.definitions.specs.Readings.{Trace, noRows, rowsOf, verdict, pairsWords, verdicts}
-use Rattle.rows.specs.declared.row.Row.{Row}
+use Rattle.rows.specs.declared.Row.{Row}
 use Rattle.mark_words.specs.Marks.{markAt}
 use Rattle.rows.specs.Marks.{marks, Whole, Made}
-use Rattle.stored_rows.specs.Stored.{rowAt}
-use Rattle.stored_rows.proofs.StoredLaws.{pairs-length}
-use Rattle.row_pairs.specs.Pairs.{pairAt, pairOfNode}
+use Rattle.rows.specs.Stored.{rowAt}
+use Rattle.rows.proofs.StoredLaws.{pairs-length}
+use Rattle.rows.specs.Pairs.{pairAt, pairOfNode}
 use Rattle.evaluation.proofs.TableLaws.{rows-length}
 use Rattle.evaluation.proofs.EvaluateLaws.{pair-of-rows}
 use Rattle.judges.specs.declared.verdicts.Verdicts.{Verdicts}
@@ -27,6 +27,7 @@ module _ (rows : List ℕ) (weakTop strongTop : ℕ) where
   pub strong-whole : (r : Row) → Topped rows weakTop strongTop → r ≡ rowAt rows (strongTop * pairWords + 3) → Whole r
   strong-whole r t e = rw e (t .strong)
 
+  -- `at_tops`: `topsIn`
   pub tops-read : (a b : Row) (x y : Bool) → a ≡ rowAt rows (weakTop * pairWords) → b ≡ rowAt rows (strongTop * pairWords + 3)
       → x ≡ markAt (marks a) 0 → y ≡ markAt (marks b) 0 → record { weak = x; strong = y } ≡ topsIn rows weakTop strongTop
   unfolding topsIn

@@ -15,7 +15,7 @@ use Rattle.definitions.specs.Projection.{endAt}
 use Rattle.definitions.specs.Readings.{Trace, local, whole, reading, readFrom, Rows, nodeRows, rowsAfter, rowsOf, marksWord}
 use Rattle.theorems.proofs.Tabulations.{tabulate-same}
 use Rattle.mark_words.proofs.WordLaws.{bit-low, word-bit, word-full}
-use Rattle.leaf_rows.specs.Traced.{stateAtom, stateRun, traceOf, everyAtom}
+use Rattle.evaluation.specs.Traced.{stateAtom, stateRun, traceOf, everyAtom}
 use Rattle.judges.proofs.CheckedNodes.{Each, each-node, node-fit, rule-kind}
 
 abbrev pub traceFrom : ℕ → (ℕ → Bool → ℕ → Bool) → (ℕ → Bool) → (ℕ → Bool) → Trace

@@ -19,12 +19,13 @@ use Rattle.definitions.specs.Operations.{answer, verdictValues, judgeRecordingN
 use Rattle.theorems.proofs.Choice.{both-true, accept-yes, or-else-none}
 use Rattle.theorems.proofs.RecordingLaws.{Checked, checked}
 use Rattle.lent.specs.Space.{laid, cleared}
-use Rattle.stored_rows.proofs.StoredLaws.{pairs-length}
+use Rattle.rows.proofs.StoredLaws.{pairs-length}
 use Rattle.lent.proofs.LeftLaws.{laid-past, laid-begins, left-filled, lent-number, lent-full, zeroed-within, zeroed-left}
-use Rattle.traces.specs.Joining.{traceRefusal}
-use Rattle.leaf_rows.specs.Traced.{everyAtom}
+use Rattle.recordings.specs.Joining.{joinedRefusal}
+use Rattle.evaluation.specs.Traced.{everyAtom}
 use Rattle.evaluation.specs.Nodes.{Evaluable, rowsTo}
-use Rattle.evaluation.proofs.TableLaws.{rows-length, nodes-length}
+use Rattle.evaluation.proofs.TableLaws.{rows-length}
+use Rattle.rules.proofs.NodeLists.{nodes-length}
 use Rattle.judges.specs.declared.verdicts.Verdicts.{Verdicts}
 use Rattle.judges.specs.declared.verdicts.Judgement.the-variants.{Judged, Refused}
 use Rattle.judges.specs.Verdicts.{answerOf, Topped, topsIn}
@@ -98,6 +99,7 @@ module _ (count : ℕ) (nodes : List ℕ) (weakTop strongTop n : ℕ) (states : 
       pub whole-topped : Topped l weakTop strongTop
       whole-topped = topped (wholeIn n states c) (nodesIn count nodes) l (drop (count * pairWords) entry) weakTop strongTop (ready .few) rows-laid weak-below strong-below
 
+      -- `judge_accepted_table`
       pub whole-verdicts : (v : Verdicts) (exit : List ℕ) → v ≡ topsIn l weakTop strongTop → exit ≡ cleared l (count * pairWords) maxRowWords
           → WholeVerdicts t n states c entry v exit
       whole-verdicts v exit e x =
@@ -136,10 +138,10 @@ answer-refused number values some = rw (ne-eqb number accepted some)
 -- ---- the answers
 
 module _ (count : ℕ) (nodes : List ℕ) (weakTop strongTop C n : ℕ) (masks states : List ℕ) (c : ℕ) (entry : List ℕ)
-    (short unread untraced both number : ℕ) (s : short ≡ pick (ltb (length entry) maxRowWords) lentShort accepted)
+    (short unread unjoined both number : ℕ) (s : short ≡ pick (ltb (length entry) maxRowWords) lentShort accepted)
     (a : unread ≡ tableRefusal (tableOf count nodes weakTop strongTop))
-    (b : untraced ≡ traceRefusal (recordingOf C n masks states) c)
-    (o : both ≡ orElse unread untraced) (e : number ≡ orElse short both) where
+    (b : unjoined ≡ joinedRefusal (recordingOf C n masks states) c)
+    (o : both ≡ orElse unread unjoined) (e : number ≡ orElse short both) where
   abbrev table : Table
   table = tableOf count nodes weakTop strongTop
 
@@ -150,6 +152,7 @@ module _ (count : ℕ) (nodes : List ℕ) (weakTop strongTop C n : ℕ) (masks s
   unfolding judgeRecordingNumber
   number-is = rw (← a, ← b, ← o) (sym (lent-number maxRowWords entry short both number s e))
 
+  -- `judge_recording`, refused and judged: `judgeRecordingAnswer`, `judgeRecordingRows`
   pub whole-refused : (number ≡ 0 → ⊥) → (zeroed : ℕ) → zeroed ≡ pick (eqb number lentShort) 0 maxRowWords → (exit : List ℕ) → exit ≡ cleared entry 0 zeroed
       → WholeJudged table R c entry (Refused number) exit
   unfolding judgeRecordingAnswer judgeRecordingRows
@@ -161,10 +164,11 @@ module _ (count : ℕ) (nodes : List ℕ) (weakTop strongTop C n : ℕ) (masks s
   module _ (none : number ≡ 0) where
     pub whole-accepted : WholeReady table n states c entry
     whole-accepted =
-        let p = or-else-none unread untraced (sym o ∙ (or-else-none short both (sym e ∙ none)) .1) in
+        let p = or-else-none unread unjoined (sym o ∙ (or-else-none short both (sym e ∙ none)) .1) in
         let q = or-else-none (recordingRefusal R) (controllerRefusal C c) (sym b ∙ p .1) in
         whole-ready table R c entry (sym a ∙ p .0) (q .0) (accepted-controller C c (q .1)) (lent-full maxRowWords entry short both number s e (λ w. omega arith))
 
+    -- `judge_recording`, judged: `judgeRecordingAnswer` is the verdicts, `judgeRecordingRows` the rows and then zeros
     pub whole-judged : (v : Verdicts) (exit : List ℕ) → WholeVerdicts table n states c entry v exit → WholeJudged table R c entry (Judged v) exit
     unfolding answerOf judgeRecordingAnswer judgeRecordingRows
     whole-judged v exit d = record { answered = rw (number-is, none, d .verdicts); rows = d .rows ∙ rw (number-is, none) }

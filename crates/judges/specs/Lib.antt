@@ -1,3 +1,3 @@
-pub mod Headings
 pub mod Verdicts
 pub mod Whole
+pub mod Local

@@ -11,7 +11,7 @@ use Rattle.definitions.specs.Readings.{localVerdicts}
 use Rattle.definitions.specs.Operations.{Answer, answer, verdictValues}
 use Rattle.mark_words.specs.Marks.{markAt}
 use Rattle.rows.specs.Marks.{marks, Whole}
-use Rattle.stored_rows.specs.Stored.{rowAt}
+use Rattle.rows.specs.Stored.{rowAt}
 use Rattle.judges.specs.declared.verdicts.Verdicts.{Verdicts}
 use Rattle.judges.specs.declared.verdicts.Judgement.{Judgement}
 use Rattle.judges.specs.declared.verdicts.Judgement.the-variants.{Judged, Refused}

@@ -1,4 +1,4 @@
-// The judge of a table over the whole recording, and what both judges share: headings and verdicts.
-pub mod headings;
+// Both judges. `whole`: of a table over the whole recording; `local`: of a rule on its own local trace; `verdicts`: what they answer. They rewrite nothing.
+pub mod local;
 pub mod verdicts;
 pub mod whole;

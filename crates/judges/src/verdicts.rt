@@ -1,9 +1,9 @@
 // The answer of a judge.
 ghost use mathlib.Core.Path.{_≡_};
 ghost use Rattle.judges.specs.Verdicts.{Topped, topsIn};
-use formulas::limits::Limits;
-use row_pairs::pair::Pair;
-use stored_rows::stored::load;
+use rows::pair::Pair;
+use rows::stored::load;
+use rules::limits::Limits;
 
 pub struct Verdicts {
     pub weak: bool,

@@ -1,25 +1,25 @@
 // Judging the whole recording.
-ghost use Rattle.definitions.specs.Tables.{tableOf};
-ghost use Rattle.definitions.specs.Recordings.{recordingOf};
-ghost use Rattle.judges.specs.Headings.{tableIn};
+ghost use Rattle.rules.specs.Headings.{tableIn};
+ghost use Rattle.recordings.specs.Heading.{recordingIn};
 ghost use Rattle.judges.specs.Whole.{WholeReady, WholeVerdicts, WholeJudged};
-use super::headings::TableHeading;
 use super::verdicts::Judgement;
 use super::verdicts::Verdicts;
 use super::verdicts::at_tops;
-use evaluation::evaluate::evaluate;
-use formulas::choice::or_else;
-use formulas::choice::pick;
-use formulas::choice::pick_index;
-use formulas::limits::Limits;
-use formulas::limits::Refusal;
+use evaluation::evaluate;
 use lent::clear_u64;
-use table_check::table_refusal;
-use traces::check::trace_refusal;
+use recordings::check::joined_refusal;
+use recordings::heading::RecordingHeading;
+use rules::choice::or_else;
+use rules::choice::pick;
+use rules::choice::pick_index;
+use rules::headings::TableHeading;
+use rules::limits::Limits;
+use rules::limits::Refusal;
+use rules::table_check::table_refusal;
 
 // An accepted table over the n states of an accepted recording: every atom is "read as recorded", so none is foreign.
 // Only what no row covers is cleared.
-pub fn judge_accepted(
+pub fn judge_accepted_table(
     table: TableHeading,
     nodes: &[u32],
     n: usize,
@@ -33,42 +33,34 @@ pub fn judge_accepted(
     let count = table.count;
     evaluate(nodes, count, states, n, c, u32::MAX, rows);
     let verdicts = at_tops(rows, table.weak_top, table.strong_top);
-    clear_u64(rows, count * Limits::PAIR_WORDS, Limits::ROW_WORDS);
+    clear_u64(rows, count * Limits::PAIR_WORDS, Limits::ROWS_WORDS);
     verdicts
 }
 
 // "judge the whole recording": 13 leaves the lent rows alone, another refusal zeroes them.
 pub fn judge_recording(
-    count: usize,
+    table: TableHeading,
     nodes: &[u32],
-    weak_top: usize,
-    strong_top: usize,
-    controllers: usize,
-    states_count: usize,
+    recording: RecordingHeading,
     masks: &[u32],
     states: &[u64],
     c: usize,
     rows: &mut [u64],
 ) -> Judgement
-    ensures { λ r. ⌜ WholeJudged (tableOf count (now (nodes .entry)) «weak_top» «strong_top») (recordingOf controllers «states_count» (now (masks .entry)) (now (states .entry))) c (now (rows .entry)) r (now (rows .exit)) ⌝ }
+    ensures { λ r. ⌜ WholeJudged (tableIn table (now (nodes .entry))) (recordingIn recording (now (masks .entry)) (now (states .entry))) c (now (rows .entry)) r (now (rows .exit)) ⌝ }
 {
     let short = pick(
-        rows.len() < Limits::ROW_WORDS,
+        rows.len() < Limits::ROWS_WORDS,
         Refusal::LENT_SHORT,
         Refusal::NONE,
     );
-    let unread = table_refusal(count, nodes, weak_top, strong_top);
-    let untraced = trace_refusal(controllers, states_count, masks, states, c);
-    let refusal = or_else(short, or_else(unread, untraced));
+    let unread = table_refusal(table.count, nodes, table.weak_top, table.strong_top);
+    let unjoined = joined_refusal(recording.controllers, recording.count, masks, states, c);
+    let refusal = or_else(short, or_else(unread, unjoined));
     if refusal != Refusal::NONE {
-        let zeroed = pick_index(refusal == Refusal::LENT_SHORT, 0, Limits::ROW_WORDS);
+        let zeroed = pick_index(refusal == Refusal::LENT_SHORT, 0, Limits::ROWS_WORDS);
         clear_u64(rows, 0, zeroed);
         return Judgement::Refused(refusal);
     }
-    let table = TableHeading {
-        count: count,
-        weak_top: weak_top,
-        strong_top: strong_top,
-    };
-    Judgement::Judged(judge_accepted(table, nodes, states_count, states, c, rows))
+    Judgement::Judged(judge_accepted_table(table, nodes, recording.count, states, c, rows))
 }

@@ -3,8 +3,8 @@ ghost use mathlib.Core.Path.{_≡_};
 ghost use Rattle.definitions.specs.Nodes.{kindNumber, kindOf};
 ghost use Rattle.definitions.specs.RuleText.{wordKind};
 ghost use Rattle.kind_words.specs.Words.{lateKind, WordIs};
-use formulas::node::Node;
-use scanning::scan;
+use lines::scan;
+use rules::node::Node;
 
 // The number of every word that is no kind word.
 pub const UNKNOWN: u8 = 10;

@@ -27,17 +27,17 @@ laid-past full words entry exit h x =
 pub laid-begins : (count : ℕ) (words entry exit : List ℕ) → length words ≡ count → exit ≡ laid words entry → take count exit ≡ words
 laid-begins count words entry exit l x = rw x (take-at words (drop (length words) entry) count l)
 
--- "After 13 lent space is untouched"
+-- "After 13 lent space is untouched": the return of an operation that refuses with 13
 pub left-untouched : (number full : ℕ) (content entry : List ℕ) → number ≡ lentShort → entry ≡ left number full content entry
 left-untouched number full content entry e = rw e (sym (left-short full content entry))
 
 module _ (number full : ℕ) (content entry exit end : List ℕ) (past : drop full exit ≡ drop full entry) where
-  -- "after another refusal its full size is zero"
+  -- "after another refusal its full size is zero": the return after `clear_..(lent, 0, full)`
   pub left-zeroed : number < lentShort → (number ≡ 0 → ⊥) → end ≡ cleared exit 0 full → end ≡ left number full content entry
   unfolding cleared
   left-zeroed low some e = e ∙ rw (sub-zero full, past) (sym (left-refused number full content entry some low))
 
-  -- "Accepted, unused entries are zero"
+  -- "Accepted, unused entries are zero": the return after `clear_..(lent, count, full)`
   pub left-filled : (count : ℕ) → number ≡ 0 → length content ≡ count → take count exit ≡ content → end ≡ cleared exit count full
       → end ≡ left number full content entry
   unfolding cleared
@@ -62,6 +62,7 @@ module _ (full : ℕ) (entry : List ℕ) (short other number : ℕ) (s : short �
         (λ t. let e : zeroed ≡ 0 = rw t at z in omega arith)
         (λ t. let e : zeroed ≡ full = rw t at z in omega (arith, lent-full (eqb-false number lentShort t)))
 
+    -- the return of such a refusal, after `clear_..(lent, 0, zeroed)`: `left` of the definitions
     pub zeroed-left : (content exit : List ℕ) → (number ≡ 0 → ⊥) → exit ≡ cleared entry 0 zeroed → exit ≡ left number full content entry
     unfolding left cleared pick
     zeroed-left content exit some e =

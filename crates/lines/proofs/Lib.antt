@@ -1,2 +1,4 @@
+pub mod ScanLaws
+pub mod PartLaws
 pub mod NextLaws
 pub mod LoopLaws

@@ -9,7 +9,7 @@ use lib.Seq.{take-suc-set, drop-set-lt, drop-drop, length-take-le}
 use Rattle.definitions.specs.Limits.{noController}
 use Rattle.definitions.specs.Lines.{restOf, Scan, stop, more}
 use Rattle.lines.specs.Reading.{FirstLine, LinesScanned}
-use Rattle.lines.specs.declared.next.Line.{Line}
+use Rattle.lines.specs.declared.Line.{Line}
 
 -- a list that is laid from the front: `total` is what is laid so far and what is left
 pub record Fills (total o o′ : List ℕ) (n : ℕ) (left : List ℕ) : Type 0 where

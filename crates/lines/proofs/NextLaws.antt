@@ -16,9 +16,9 @@ use Rattle.definitions.specs.Lines.{newline, carriageReturn, before, isEmpty, l
 use Rattle.theorems.proofs.Choice.{by-test, pick-must, pick-other}
 use Rattle.theorems.proofs.EndingLaws.{length-within, length-empty, length-open, length-returned, length-other}
 use Rattle.lines.specs.Reading.{Ending, FirstLine, endRefusal}
-use Rattle.scanning.specs.Parts.{Located}
-use Rattle.scanning.proofs.ScanLaws.{before-le}
-use Rattle.scanning.proofs.PartLaws.{empty-yes, empty-no}
+use Rattle.lines.specs.Parts.{Located}
+use Rattle.lines.proofs.ScanLaws.{before-le}
+use Rattle.lines.proofs.PartLaws.{empty-yes, empty-no}
 
 -- ---- the first line, by the byte before its byte 10
 pub length-le : (t : List ℕ) → lineLength t ≤ length t
@@ -34,6 +34,7 @@ whole-open t h = le-ltb (before newline t) (length t) (omega (arith, length-with
 
 -- ---- `before_ending`
 module _ (t : List ℕ) (end : ℕ) (is : Ending t end) where
+  -- `before_ending`, nothing before the newline: `lineLength` is 0
   pub ending-none : end ≡ 0 → end ≡ lineLength t
   ending-none e = e ∙ sym (length-empty t (sym (is .stands) ∙ e))
 
@@ -44,9 +45,11 @@ module _ (t : List ℕ) (end : ℕ) (is : Ending t end) where
     pub ending-within : end - 1 < length t
     ending-within = omega (arith, is .inside)
 
+    -- `before_ending`, a carriage return before the newline: `lineLength` is without it
     pub ending-return : getD t (end - 1) 0 ≡ carriageReturn → end - 1 ≡ lineLength t
     ending-return e = sym (length-returned (end - 1) t one-before (omega (arith, is .inside)) e)
 
+    -- `before_ending`, another byte before the newline: `lineLength` is all before the newline
     pub ending-newline : (getD t (end - 1) 0 ≡ carriageReturn → ⊥) → end ≡ lineLength t
     ending-newline e = is .stands ∙ (one-before ∙ sym (length-other (end - 1) t one-before e))
 
@@ -54,6 +57,7 @@ pub ruleset ending-laws = (needs, ending-none, ending-within, ending-return, end
 
 -- ---- `first_line`
 module _ (t : List ℕ) (end : ℕ) (is : Located newline t end) where
+  -- `first_line`, no newline: the line is all of the text (`FirstLine`)
   pub line-open : length t ≤ end → FirstLine t (record { len = end; next = end })
   line-open e = record {
     length-is = is .place ∙ sym (length-open t (omega (arith, is .place)));
@@ -69,6 +73,7 @@ module _ (t : List ℕ) (end : ℕ) (is : Located newline t end) where
     pub line-next-fits : length t < 2 ^ 64 → Fits w64 (end + 1)
     line-next-fits few = record { fits = omega arith }
 
+    -- `first_line`, a newline: `lineLength` bytes, and the rest after the newline (`FirstLine`)
     pub line-closed : (len : ℕ) → len ≡ lineLength t → FirstLine t (record { len = len; next = end + 1 })
     line-closed len e = record {
       length-is = e;
@@ -94,15 +99,18 @@ pub ruleset line-part-laws = (needs, line-within, line-counts)
 
 -- ---- `end_refusal`
 module _ (missing unclosed : ℕ) (t : List ℕ) where
+  -- `end_refusal`, no text: `endRefusal` is the number of a missing line
   pub end-missing : length t ≡ 0 → missing ≡ endRefusal missing unclosed t
   unfolding endRefusal pick
   end-missing e = rw (empty-yes t e)
 
   module _ (some : length t ≡ 0 → ⊥) (len : ℕ) (is : len ≡ lineLength t) where
+    -- `end_refusal`, the line is all of the text: `endRefusal` is the number of an unclosed line
     pub end-open : length t ≤ len → unclosed ≡ endRefusal missing unclosed t
     unfolding endRefusal pick
     end-open h = rw (empty-no t some, whole-open t (omega arith))
 
+    -- `end_refusal`, the line is shorter than the text: `endRefusal` is 0
     pub end-closed : len < length t → 0 ≡ endRefusal missing unclosed t
     unfolding endRefusal pick
     end-closed h = rw (empty-no t some, short-closed t (omega arith))

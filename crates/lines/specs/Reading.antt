@@ -6,8 +6,8 @@ use lib.ListN.{length, drop}
 use Rattle.definitions.specs.Limits.{accepted}
 use Rattle.definitions.specs.Bounded.{pick}
 use Rattle.definitions.specs.Lines.{newline, before, isEmpty, lineLength, isClosed, restOf, Scan}
-use Rattle.lines.specs.declared.next.Line.{Line}
-use Rattle.lines.specs.declared.next.Stopped.{Stopped}
+use Rattle.lines.specs.declared.Line.{Line}
+use Rattle.lines.specs.declared.Stopped.{Stopped}
 
 -- the first line is closed by the byte 10 at `end`
 pub record Ending (t : List ℕ) (end : ℕ) : Type 0 where

@@ -1,8 +1,8 @@
 // Makes the rule text whose plain table grows most, of as many nodes as standard input says, and prints it to standard output.
 // On standard error it says what could not be read or written.
-use formulas::limits::Limits;
 use libc::STDOUT_FILENO;
-use longest_rule::print;
+use line_programs::longest;
+use rules::limits::Limits;
 use standard_streams::failures;
 use standard_streams::input::read_input;
 
@@ -16,7 +16,7 @@ fn main() {
     }
     let length = input.count;
     let mut output = [0u8; Limits::RULE_BYTES];
-    let printed = print::print_longest(&space[..length], &mut output);
+    let printed = longest::print_longest(&space[..length], &mut output);
     if !io::write_all(STDOUT_FILENO, &output[..printed]) {
         failures::say_unwritten(b"longest");
     }

@@ -184,6 +184,7 @@ held-add p (suc a) b k =
     let e : a + suc k ≡ suc a + k = omega arith in
     rw (suc-add a b, ← e, held-add p a b (suc k)) (and-join (p k) (heldIn p a (suc k)) (heldIn p b (a + suc k)))
 
+-- `doubled`: a window of d places becomes one of twice as many
 pub window-more : (ps qs : List Bool) (d : ℕ) (w : Reach) → Window ps qs d w
     → Window ps qs (d + d) (record { found = bitOr (w .found) (bitAnd (w .held) (w .found / 2 ^ d)); held = bitAnd (w .held) (w .held / 2 ^ d) })
 window-more ps qs d w h =
@@ -223,6 +224,7 @@ unfolding foundIn
 found-until ps qs zero k h le = sym (none-past (untilRow false ps qs) k (rw (until-length false ps qs h) (omega arith)))
 found-until ps qs (suc d) k h le = rw (found-until ps qs d (suc k) h (omega arith)) (sym (until-every ps qs k h))
 
+-- `until_word`: a window that reaches past the last mark is `untilRow`
 pub window-until : (ps qs : List Bool) (w : Reach) → w .found < 2 ^ 64 → length ps ≡ length qs → length ps ≤ wordMarks → Window ps qs 64 w → w .found ≡ marksWord (untilRow false ps qs)
 window-until ps qs w fits h le v =
     same-bits 64 (w .found) (marksWord (untilRow false ps qs)) fits (word-fits (untilRow false ps qs) (rw (until-length false ps qs h) le))
@@ -300,6 +302,7 @@ since-sum c (p ∷ ps) (q ∷ qs) h =
     ∙ or-cons (marksWord qs) (bitAnd (marksWord ps) (bitXor (marksWord ps) S)) q (p && differs p s)
     ∙ ap₂ (λ (x : ℕ) (b : Bool). x * 2 + bit b) (since-sum c′ ps qs (omega arith)) (since-bit c p q)
 
+-- `since_word`: q or (p and (p xor the sum)) is the word of `sinceRow`, with c before the first place
 pub since-word : (c : Bool) (ps qs : List Bool) (s t : ℕ) → length ps ≡ length qs → marksWord ps < 2 ^ 64
     → s ≡ (marksWord qs + bitOr (marksWord ps) (marksWord qs)) % 2 ^ 64 → t ≡ (s + bit c) % 2 ^ 64
     → bitOr (marksWord qs) (bitAnd (marksWord ps) (bitXor (marksWord ps) t)) ≡ marksWord (sinceRow c ps qs)

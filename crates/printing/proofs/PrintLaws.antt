@@ -57,6 +57,7 @@ module _ (n : ℕ) (o : List ℕ) (at : ℕ) (room : at + length (digits n) ≤ 
     pub print-small-room : at < length o
     print-small-room = omega (arith, small-length)
 
+    -- `print`, below ten: `digits` is that one digit
     pub print-small : Printed (digits n) o at (at + 1) (set o at (48 + n))
     print-small = record {
       next = rw small-length;
@@ -77,6 +78,7 @@ module _ (n : ℕ) (o : List ℕ) (at : ℕ) (room : at + length (digits n) ≤ 
       pub print-last-room : r < length o′
       print-last-room = omega (arith, large-length, ih .next)
 
+      -- `print`, ten or more: `digits` is those of the tenth and the last digit
       pub print-step : Printed (digits n) o at (r + 1) (set o′ r (48 + n % 10))
       print-step = record {
         next = omega (arith, large-length, ih .next);
@@ -98,10 +100,12 @@ pub record Copied (word o : List ℕ) (at : ℕ) (o′ : List ℕ) (i : ℕ) : T
   pub kept : length o′ ≡ length o
   pub lies : o′ ≡ laidAt at (take i word) o
 
+-- `put`, before the first turn: no byte of the word is laid
 pub copied-none : (word o : List ℕ) (at : ℕ) → Copied word o at o 0
 copied-none word o at = record { within = omega arith; kept = refl; lies = sym (laid-none at o) }
 
 module _ (word o : List ℕ) (at : ℕ) (o′ : List ℕ) (i : ℕ) (inv : Copied word o at o′ i) (room : at + length word ≤ length o) where
+  -- `put`, a turn: one byte more of the word is laid
   pub copied-next : i < length word → Copied word o at (set o′ (at + i) (getD word i 0)) (i + 1)
   copied-next h =
       let ln : length (take i word) ≡ i = length-take-le i word (omega arith) in
@@ -112,6 +116,7 @@ module _ (word o : List ℕ) (at : ℕ) (o′ : List ℕ) (i : ℕ) (inv : Copie
         lies = rw (inv .lies, add-one, take-suc word i 0 h) (rw ln at sn);
       }
 
+  -- `put`, all bytes are laid: the word is `Printed`
   pub copied-done : length word ≤ i → Printed word o at (at + i) o′
   copied-done h =
       let e : i ≡ length word = omega (arith, inv .within) in
@@ -137,6 +142,7 @@ printed-seq xs ys o o′ o″ at r q h p s = record {
   lies = s .lies ∙ rw (p .next, p .lies) (laid-seq at xs ys o h);
 }
 
+-- `put_byte`: the one byte is `Printed`
 pub printed-byte : (b : ℕ) (o : List ℕ) (at : ℕ) → at < length o → Printed (b ∷ []) o at (at + 1) (set o at b)
 printed-byte b o at h = record { next = refl; lies = laid-one at b o h }
 
@@ -144,6 +150,7 @@ pub printed-none : (o : List ℕ) (at : ℕ) → Printed [] o at at o
 printed-none o at = record { next = omega arith; lies = sym (laid-none at o) }
 
 -- ---- `put_field`
+-- `put_field`: the tab and the digits behind it are `Printed`
 pub field-written : (n : ℕ) (o o′ o″ : List ℕ) (at r q : ℕ) → at + length (tab ∷ digits n) ≤ length o → Printed (tab ∷ []) o at r o′ → Printed (digits n) o′ r q o″
     → Printed (tab ∷ digits n) o at q o″
 field-written n o o′ o″ at r q h a b = printed-seq (tab ∷ []) (digits n) o o′ o″ at r q (omega arith) a b

@@ -3,8 +3,8 @@ ghost use Prim.Native.Nat.{_+_, _<_, _≤_};
 ghost use mathlib.Core.List.{[], _∷_};
 ghost use lib.ListN.{length};
 ghost use Rattle.definitions.specs.Lines.{tab, digits};
-ghost use Rattle.printing.specs.Printing.{Printed};
-use scanning::scan;
+ghost use Rattle.printing.specs.Printing.{Printed, countedLine};
+use lines::scan;
 
 // Writes the digits of `n` from `at` on, highest first. The place after them.
 pub fn print(n: u32, at: usize, text: &mut [u8]) -> usize
@@ -49,4 +49,14 @@ pub fn put_field(n: u32, at: usize, text: &mut [u8]) -> usize
 {
     let next = put_byte(scan::TAB, at, text);
     print(n, next, text)
+}
+
+// A word, a number and how the line ends.
+pub fn put_line(word: &[u8], number: u32, end: &[u8], at: usize, text: &mut [u8]) -> usize
+    requires { ⌜ at + length (countedLine (now word) number (now end)) ≤ length (now text) ⌝ }
+    ensures { λ r. ⌜ Printed (countedLine (now (word .entry)) number (now (end .entry))) (now (text .entry)) at r (now (text .exit)) ⌝ }
+{
+    let after_word = put(word, at, text);
+    let after_number = put_field(number, after_word, text);
+    put(end, after_number, text)
 }

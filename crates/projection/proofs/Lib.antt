@@ -1,2 +1,5 @@
+pub mod LengthLaws
+pub mod PassLaws
 pub mod PlaceLaws
 pub mod ProjectLaws
+pub mod StateLaws

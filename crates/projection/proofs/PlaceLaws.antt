@@ -11,11 +11,11 @@ use Rattle.theorems.proofs.RecordingLaws.{Checked, checked}
 use Rattle.theorems.proofs.LastMarks.{last-adds-none}
 use Rattle.theorems.proofs.RunStates.{few-runs}
 use Rattle.lent.specs.Space.{laid}
-use Rattle.passes.specs.declared.pass.Pass.{Pass}
-use Rattle.passes.specs.Passes.{Holds, Passed, Closed, Counted}
-use Rattle.passes.specs.Places.{statesOnly, runsIn, placesIn, Projectable, Countable}
-use Rattle.passes.proofs.LengthLaws.{length-of}
-use Rattle.passes.proofs.PassLaws.{sole, sole-mask, held-length}
+use Rattle.projection.specs.declared.pass.Pass.{Pass}
+use Rattle.projection.specs.Passes.{Holds, Passed, Closed, Counted}
+use Rattle.projection.specs.Places.{statesOnly, runsIn, placesIn, Projectable, Countable}
+use Rattle.projection.proofs.LengthLaws.{length-of}
+use Rattle.projection.proofs.PassLaws.{sole, sole-mask, held-length}
 
 module _ (N mask c : ℕ) (states entry : List ℕ) (held : Pass) (places : List ℕ) (H : Passed N mask c states entry held places) where
   abbrev R : Recording
@@ -32,12 +32,14 @@ module _ (N mask c : ℕ) (states entry : List ℕ) (held : Pass) (places : List
   runs-are : length (localTrace R c) ≡ length (runsIn N c states) + 1
   runs-are = ap length content ∙ length-of N c mask states
 
+  -- `project_counted`, its answer: one more than the runs (`runsIn`)
   pub into-counted : (r : ℕ) → Counted held r → r ≡ length (runsIn N c states) + 1
   into-counted r f = f .long R c entry places whole ∙ runs-are
 
   pub into-placed : held .placed ≡ length (runsIn N c states)
   into-placed = omega (arith, held-length R c entry held places whole, runs-are)
 
+  -- `project_counted`, the lent places: the local trace (`placesIn`) is laid over their start
   pub into-laid : (exit : List ℕ) → Closed held places exit → exit ≡ laid (placesIn N mask c states) entry
   into-laid exit f = f .places R c entry whole ∙ ap (λ (l : List ℕ). laid l entry) content
 
@@ -68,21 +70,11 @@ countable R c h l =
       controller = omega (arith, K .fewControllers);
     }
 
--- the local length alone: places in space of its own
-pub own-places : (N c : ℕ) (states places : List ℕ) → Countable N c states → maxStates ≤ length places → Projectable N c states places
-own-places N c states places C room = record {
-  someState = C .someState;
-  fewStates = C .fewStates;
-  allThere = C .allThere;
-  room = room;
-  controller = C .controller;
-}
-
 pub local-places : (R : Recording) (c : ℕ) → placesIn (R .count) (maskOf R c) c (R .states) ≡ localTrace R c
 unfolding placesIn
 local-places R c = refl
 
--- an accepted recording has fewer runs of a component than states
+-- an accepted recording has fewer runs of a controller than states
 pub few-local : (N c : ℕ) (states places : List ℕ) → Projectable N c states places → length (runsIn N c states) < N
 few-local N c states places P =
     rw (last-adds-none (statesOnly N states) c (P .someState)) (omega (arith, few-runs (runsAt (statesOnly N states) c) (N - 1), P .someState))

@@ -15,16 +15,16 @@ use Rattle.definitions.specs.Operations.{answer, projectNumber, projectAnswer, 
 use Rattle.theorems.proofs.Choice.{accept-yes, or-else-none}
 use Rattle.lent.specs.Space.{laid, cleared}
 use Rattle.lent.proofs.LeftLaws.{laid-past, laid-begins, left-filled, lent-number, lent-full, zeroed-within, zeroed-left}
-use Rattle.traces.specs.Joining.{traceRefusal}
-use Rattle.state_words.proofs.WordLaws.{own-mask}
-use Rattle.passes.specs.Places.{runsIn, placesIn, Projectable}
+use Rattle.recordings.specs.Joining.{joinedRefusal}
+use Rattle.recordings.proofs.WordLaws.{own-mask}
+use Rattle.projection.specs.Places.{runsIn, placesIn, Projectable}
 use Rattle.projection.specs.Answers.{answerOf, ProjectIs}
-use Rattle.projection.specs.declared.project.Projection.the-variants.{Places, Refused}
-use Rattle.passes.proofs.LengthLaws.{length-local}
+use Rattle.projection.specs.declared.Projection.the-variants.{Places, Refused}
+use Rattle.projection.proofs.LengthLaws.{length-local}
 use Rattle.projection.proofs.PlaceLaws.{projectable, local-places, few-local}
 
 module _ (C N : ℕ) (masks states : List ℕ) (c : ℕ) (entry : List ℕ) (short other r : ℕ) (s : short ≡ pick (ltb (length entry) maxStates) lentShort accepted)
-    (o : other ≡ traceRefusal (recordingOf C N masks states) c) (e : r ≡ orElse short other) where
+    (o : other ≡ joinedRefusal (recordingOf C N masks states) c) (e : r ≡ orElse short other) where
   abbrev R : Recording
   R = recordingOf C N masks states
 
@@ -32,6 +32,7 @@ module _ (C N : ℕ) (masks states : List ℕ) (c : ℕ) (entry : List ℕ) (sho
   unfolding projectNumber
   number-is = rw (← o) (sym (lent-number maxStates entry short other r s e))
 
+  -- `project`, a refusal: `projectAnswer` is its number; `projectPlaces` is zero, or for 13 what was lent
   pub project-refused : (r ≡ 0 → ⊥) → (zeroed : ℕ) → zeroed ≡ pick (eqb r lentShort) 0 maxStates → (exit : List ℕ) → exit ≡ cleared entry 0 zeroed →
       ProjectIs R c entry (Refused r) exit
   unfolding answerOf answer projectAnswer projectPlaces pick
@@ -68,6 +69,7 @@ module _ (C N : ℕ) (masks states : List ℕ) (c : ℕ) (entry : List ℕ) (sho
       places : L ≡ length (localTrace R c)
       places = length-local R c L le
 
+      -- `project`, accepted: `projectAnswer` is the local length, `projectPlaces` the local trace and zeros
       pub project-accepted : (exit : List ℕ) → exit ≡ cleared o′ L maxStates → ProjectIs R c entry (Places L) exit
       unfolding answerOf answer projectAnswer projectPlaces pick
       project-accepted exit x =

@@ -4,8 +4,8 @@ use Prim.Native.Nat.{ℕ}
 use mathlib.Core.List.{List, [], _∷_}
 use Rattle.definitions.specs.Recordings.{Recording}
 use Rattle.definitions.specs.Operations.{Answer, answer, projectAnswer, projectPlaces}
-use Rattle.projection.specs.declared.project.Projection.{Projection}
-use Rattle.projection.specs.declared.project.Projection.the-variants.{Places, Refused}
+use Rattle.projection.specs.declared.Projection.{Projection}
+use Rattle.projection.specs.declared.Projection.the-variants.{Places, Refused}
 
 -- "project (recording and c)": L, or the refusal's number alone
 unfoldable pub answerOf : Projection → Answer

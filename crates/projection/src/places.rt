@@ -1,23 +1,12 @@
-// The local trace of one component, by one pass over the states.
+// The local trace of one controller, by one pass over the states.
 ghost use mathlib.Core.Path.{_≡_};
 ghost use Prim.Native.Nat.{_+_};
 ghost use lib.ListN.{length};
 ghost use Rattle.lent.specs.Space.{laid};
-ghost use Rattle.passes.specs.Places.{runsIn, placesIn, Countable, Projectable};
-use formulas::limits::Limits;
-use passes::pass::pass_over;
+ghost use Rattle.projection.specs.Places.{runsIn, placesIn, Projectable};
+use super::pass::pass_over;
 
-// The places, over the start of what is lent; the answer is the last one's number.
-pub fn project_into(count: usize, mask: u32, c: usize, states: &[u64], places: &mut [u32]) -> usize
-    requires { ⌜ Projectable count c (now states) (now places) ⌝ }
-    ensures { λ r. ⌜ (r ≡ length (runsIn count c (now (states .entry)))) × (now (places .exit) ≡ laid (placesIn count mask c (now (states .entry))) (now (places .entry))) ⌝ }
-{
-    let held = pass_over(count, mask, c, states, places);
-    held.close(places);
-    held.placed
-}
-
-// The same; the answer is the local length.
+// The places, over the start of what is lent; the answer is the local length.
 pub fn project_counted(
     count: usize,
     mask: u32,
@@ -31,13 +20,4 @@ pub fn project_counted(
     let held = pass_over(count, mask, c, states, places);
     held.close(places);
     held.length()
-}
-
-// The local length alone, with places in space of its own.
-pub fn local_length(count: usize, c: usize, states: &[u64]) -> usize
-    requires { ⌜ Countable count c (now states) ⌝ }
-    ensures { λ r. ⌜ r ≡ length (runsIn count c (now (states .entry))) + 1 ⌝ }
-{
-    let mut places = [0u32; Limits::STATES];
-    project_counted(count, 0, c, states, &mut places)
 }

@@ -16,7 +16,7 @@ use Rattle.theorems.proofs.EarlyJudged.{announced-stays}
 use Rattle.judges.specs.Verdicts.{meant}
 use Rattle.judges.specs.declared.verdicts.Judgement.{Judgement}
 use Rattle.judges.specs.declared.verdicts.Judgement.the-variants.{Judged, Refused}
-use Rattle.evidence.specs.declared.evidence.Explanation.{Explanation}
+use Rattle.evidence.specs.declared.Explanation.{Explanation}
 use Rattle.ragyvosin.proofs.SameVerdicts.{JudgedWhole, JudgedLocally, ownVerdicts, judged-is, judged-whole, judged-locally}
 use Rattle.ragyvosin.proofs.SameEvidence.{Explained, countBy, BitsAt, bits-of, ownVerdict, Gets, gets}
 

@@ -1,3 +1,4 @@
+pub mod RoundTrips
 pub mod SameVerdicts
 pub mod SameEvidence
 pub mod EarlyVerdicts

@@ -23,7 +23,7 @@ use Rattle.judges.specs.declared.verdicts.Verdicts.{Verdicts}
 use Rattle.judges.specs.declared.verdicts.Judgement.{Judgement}
 use Rattle.judges.specs.declared.verdicts.Judgement.the-variants.{Judged}
 use Rattle.evidence.specs.Answers.{answerOf as explained}
-use Rattle.evidence.specs.declared.evidence.Explanation.{Explanation}
+use Rattle.evidence.specs.declared.Explanation.{Explanation}
 use Rattle.ragyvosin.proofs.SameVerdicts.{JudgedWhole, JudgedLocally, ownVerdicts, judged-whole, judged-locally}
 
 -- the readings behind a verdict, by one call in lent space of full size, with what the contract of `evidence` says of its answer e and of the pairs

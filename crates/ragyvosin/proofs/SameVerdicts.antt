@@ -19,7 +19,7 @@ use Rattle.judges.specs.declared.verdicts.Verdicts.{Verdicts}
 use Rattle.judges.specs.declared.verdicts.Judgement.{Judgement}
 use Rattle.judges.specs.declared.verdicts.Judgement.the-variants.{Judged, Refused}
 use Rattle.rewriting.specs.Answers.{answerOf as rewritten}
-use Rattle.rewriting.specs.declared.rewrite.Rewriting.{Rewriting}
+use Rattle.rewriting.specs.declared.Rewriting.{Rewriting}
 
 -- "the table, count and tops that a rewriting answered"
 abbrev pub tableBy : Rewriting → List ℕ → Table

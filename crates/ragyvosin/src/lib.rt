@@ -11,29 +11,31 @@ ghost use Rattle.definitions.specs.Operations.{readRuleAnswer, readRuleNodes, w
 ghost use Rattle.definitions.specs.Operations.{readJointHeading, readJointNodes, readJointMasks, readJointStates, readJointPart, projectAnswer, projectPlaces, judgeLocalAnswer};
 ghost use Rattle.definitions.specs.Operations.{evidenceAnswer, evidencePairs, rewriteAnswer, rewriteTable, judgeRecordingAnswer, judgeRecordingRows};
 ghost use Rattle.definitions.specs.OneLine.{readLineAnswer, readLineNodes};
-ghost use Rattle.formula_reader.specs.Reading.{readAnswer as ruleRead};
-ghost use Rattle.formula_writer.specs.Writing.{writeAnswer as ruleWritten};
-ghost use Rattle.trace_reader.specs.Reading.{readAnswer as recordingRead};
+ghost use Rattle.rule_reader.specs.Reading.{readAnswer as ruleRead};
+ghost use Rattle.rule_writer.specs.Writing.{writeAnswer as ruleWritten};
+ghost use Rattle.recording_reader.specs.Reading.{readAnswer as recordingRead};
 ghost use Rattle.projection.specs.Answers.{answerOf as projected};
 ghost use Rattle.judges.specs.Verdicts.{answerOf as judged};
 ghost use Rattle.evidence.specs.Answers.{answerOf as explained};
 ghost use Rattle.rewriting.specs.Answers.{answerOf as rewritten};
 ghost use Rattle.ragyvosin.specs.Parts.{placeIn, bytesIn};
-pub use evidence::evidence::Explanation;
-pub use formula_reader::RuleRead;
-pub use formula_writer::RuleWritten;
+pub use evidence::Explanation;
 pub use judges::verdicts::Judgement;
 pub use judges::verdicts::Verdicts;
-pub use projection::project::Projection;
-pub use rewriting::rewrite::Rewriting;
-pub use trace_reader::RecordingRead;
+pub use projection::Projection;
+pub use recording_reader::RecordingRead;
+use recordings::heading::RecordingHeading;
+pub use rewriting::Rewriting;
+pub use rule_reader::RuleRead;
+pub use rule_writer::RuleWritten;
+use rules::headings::TableHeading;
 
 // "read a rule (controller, count, nodes)"
 pub fn read_rule(text: &[u8], nodes: &mut [u32]) -> RuleRead
     ensures { λ r. ⌜ ruleRead r ≡ readRuleAnswer (now (text .entry)) (now (nodes .entry)) ⌝ }
     ensures { λ _. ⌜ now (nodes .exit) ≡ readRuleNodes (now (text .entry)) (now (nodes .entry)) ⌝ }
 {
-    formula_reader::read_rule(text, nodes)
+    rule_reader::read_rule(text, nodes)
 }
 
 // "Rules in one line": "the controller is given beside the line"; answers as reading a rule does
@@ -41,7 +43,7 @@ pub fn read_line(controller: usize, line: &[u8], nodes: &mut [u32]) -> RuleRead
     ensures { λ r. ⌜ ruleRead r ≡ readLineAnswer controller (now (line .entry)) (now (nodes .entry)) ⌝ }
     ensures { λ _. ⌜ now (nodes .exit) ≡ readLineNodes controller (now (line .entry)) (now (nodes .entry)) ⌝ }
 {
-    line_text::read::read_line(controller, line, nodes)
+    one_line::read_line(controller, line, nodes)
 }
 
 // "write one (length, text)"
@@ -49,7 +51,7 @@ pub fn write_rule(controller: usize, count: usize, nodes: &[u32], text: &mut [u8
     ensures { λ r. ⌜ ruleWritten r ≡ writeRuleAnswer (ruleOf controller count (now (nodes .entry))) (now (text .entry)) ⌝ }
     ensures { λ _. ⌜ now (text .exit) ≡ writeRuleText (ruleOf controller count (now (nodes .entry))) (now (text .entry)) ⌝ }
 {
-    formula_writer::write_rule(controller, count, nodes, text)
+    rule_writer::write_rule(controller, count, nodes, text)
 }
 
 // "read a recording (C, N, masks, states)"
@@ -58,7 +60,7 @@ pub fn read_recording(text: &[u8], masks: &mut [u32], states: &mut [u64]) -> Rec
     ensures { λ _. ⌜ now (masks .exit) ≡ readRecordingMasks (now (text .entry)) (now (masks .entry)) (now (states .entry)) ⌝ }
     ensures { λ _. ⌜ now (states .exit) ≡ readRecordingStates (now (text .entry)) (now (masks .entry)) (now (states .entry)) ⌝ }
 {
-    trace_reader::read_recording(text, masks, states)
+    recording_reader::read_recording(text, masks, states)
 }
 
 // "the joint reading": hands back the refused line; the heading is the number, controller, node count, C and N
@@ -77,7 +79,7 @@ pub fn read_joint<'a>(
     ensures { λ _. ⌜ now (masks .exit) ≡ readJointMasks (now (rule .entry)) (now (recording .entry)) (now (nodes .entry)) (now (masks .entry)) (now (states .entry)) ⌝ }
     ensures { λ _. ⌜ now (states .exit) ≡ readJointStates (now (rule .entry)) (now (recording .entry)) (now (nodes .entry)) (now (masks .entry)) (now (states .entry)) ⌝ }
 {
-    joint_text::joint::read_joint(rule, recording, nodes, masks, states, heading)
+    joint_reading::read_joint(rule, recording, nodes, masks, states, heading)
 }
 
 // "project (recording and c)": the length of the local trace, and its places
@@ -92,7 +94,7 @@ pub fn project(
     ensures { λ r. ⌜ projected r ≡ projectAnswer (recordingOf controllers count (now (masks .entry)) (now (states .entry))) c (now (places .entry)) ⌝ }
     ensures { λ _. ⌜ now (places .exit) ≡ projectPlaces (recordingOf controllers count (now (masks .entry)) (now (states .entry))) c (now (places .entry)) ⌝ }
 {
-    projection::project::project(controllers, count, masks, states, c, places)
+    projection::project(controllers, count, masks, states, c, places)
 }
 
 // "judge a rule on its local trace (rule and recording, for the rule's controller)": weak and strong verdict
@@ -107,7 +109,7 @@ pub fn judge_local(
 ) -> Judgement
     ensures { λ r. ⌜ judged r ≡ judgeLocalAnswer (ruleOf controller count (now (nodes .entry))) (recordingOf controllers «states_count» (now (masks .entry)) (now (states .entry))) ⌝ }
 {
-    local_judge::local::judge_local(
+    judges::local::judge_local(
         controller,
         count,
         nodes,
@@ -133,7 +135,7 @@ pub fn evidence(
     ensures { λ r. ⌜ explained r ≡ evidenceAnswer (ruleOf controller count (now (nodes .entry))) (recordingOf controllers «states_count» (now (masks .entry)) (now (states .entry))) weak (now (pairs .entry)) ⌝ }
     ensures { λ _. ⌜ now (pairs .exit) ≡ evidencePairs (ruleOf controller count (now (nodes .entry))) (recordingOf controllers «states_count» (now (masks .entry)) (now (states .entry))) weak (now (pairs .entry)) ⌝ }
 {
-    evidence::evidence::evidence(
+    evidence::evidence(
         controller,
         count,
         nodes,
@@ -157,7 +159,7 @@ pub fn rewrite_plain(
     ensures { λ r. ⌜ rewritten r ≡ rewriteAnswer false (ruleOf controller count (now (nodes .entry))) mask (now (table .entry)) ⌝ }
     ensures { λ _. ⌜ now (table .exit) ≡ rewriteTable false (ruleOf controller count (now (nodes .entry))) mask (now (table .entry)) ⌝ }
 {
-    rewriting::rewrite::rewrite_plain(controller, count, nodes, mask, table)
+    rewriting::rewrite_plain(controller, count, nodes, mask, table)
 }
 
 // "The short rewriting"
@@ -171,7 +173,7 @@ pub fn rewrite_short(
     ensures { λ r. ⌜ rewritten r ≡ rewriteAnswer true (ruleOf controller count (now (nodes .entry))) mask (now (table .entry)) ⌝ }
     ensures { λ _. ⌜ now (table .exit) ≡ rewriteTable true (ruleOf controller count (now (nodes .entry))) mask (now (table .entry)) ⌝ }
 {
-    rewriting::rewrite::rewrite_short(controller, count, nodes, mask, table)
+    rewriting::rewrite_short(controller, count, nodes, mask, table)
 }
 
 // "judge the whole recording": the verdicts at the tops, and "a weak and a strong row for each node"
@@ -190,16 +192,14 @@ pub fn judge_recording(
     ensures { λ r. ⌜ judged r ≡ judgeRecordingAnswer (tableOf count (now (nodes .entry)) «weak_top» «strong_top») (recordingOf controllers «states_count» (now (masks .entry)) (now (states .entry))) c (now (rows .entry)) ⌝ }
     ensures { λ _. ⌜ now (rows .exit) ≡ judgeRecordingRows (tableOf count (now (nodes .entry)) «weak_top» «strong_top») (recordingOf controllers «states_count» (now (masks .entry)) (now (states .entry))) c (now (rows .entry)) ⌝ }
 {
-    judges::whole::judge_recording(
-        count,
-        nodes,
-        weak_top,
-        strong_top,
-        controllers,
-        states_count,
-        masks,
-        states,
-        c,
-        rows,
-    )
+    let table = TableHeading {
+        count: count,
+        weak_top: weak_top,
+        strong_top: strong_top,
+    };
+    let recording = RecordingHeading {
+        controllers: controllers,
+        count: states_count,
+    };
+    judges::whole::judge_recording(table, nodes, recording, masks, states, c, rows)
 }

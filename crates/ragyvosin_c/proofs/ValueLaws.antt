@@ -5,18 +5,20 @@ use Prim.Native.Nat.{ℕ}
 use borrow.Author.Needs.{needs}
 use Rattle.definitions.specs.RecordingText.{Part}
 use Rattle.definitions.specs.Operations.{Answer, readJointHeading, readJointPart}
-use Rattle.joint_scan.specs.Scanning.{partOf}
-use Rattle.joint_text.specs.Joining.{headingOf, Joined}
-use Rattle.joint_scan.specs.declared.scan.Found.{Found}
-use Rattle.c_values.specs.Values.{heading, partValues}
+use Rattle.joint_reading.specs.Scanning.{partOf}
+use Rattle.joint_reading.specs.Joining.{headingOf, Joined}
+use Rattle.joint_reading.specs.declared.scan.Found.{Found}
+use Rattle.c_answers.specs.Values.{heading, partValues}
 
 -- ---- the operations: what was laid is the operation's answer
+-- each `rgv_` operation but `rgv_read_joint`: the values laid are `heading` of the operation's answer
 pub carried : (width : ℕ) (l : List ℕ) (a b : Answer) → l ≡ heading width a → a ≡ b → l ≡ heading width b
 carried width l a b e f = e ∙ ap (heading width) f
 
 pub ruleset operation-laws = (needs, carried)
 
 -- ---- the joint reading
+-- `rgv_read_joint`: the values laid are `readJointHeading` and `partValues` of `readJointPart`
 pub joint-laid : (rule recording nodes masks states : List ℕ) (f : Found) (nodes′ masks′ states′ l : List ℕ) →
     Joined rule recording nodes masks states f nodes′ masks′ states′ → l ≡ headingOf f ++ partValues (partOf f) →
     l ≡ readJointHeading rule recording nodes masks states ++ partValues (readJointPart rule recording nodes masks states)

@@ -8,16 +8,16 @@ ghost use Rattle.definitions.specs.Operations.{readRuleAnswer, readRuleNodes, w
 ghost use Rattle.definitions.specs.Operations.{readJointHeading, readJointNodes, readJointMasks, readJointStates, readJointPart, projectAnswer, projectPlaces, judgeLocalAnswer};
 ghost use Rattle.definitions.specs.Operations.{evidenceAnswer, evidencePairs, rewriteAnswer, rewriteTable, judgeRecordingAnswer, judgeRecordingRows};
 ghost use Rattle.definitions.specs.OneLine.{readLineAnswer, readLineNodes};
-ghost use Rattle.c_values.specs.Values.{heading, partValues, isSet};
-use c_values::values::of_explanation;
-use c_values::values::of_found;
-use c_values::values::of_judgement;
-use c_values::values::of_projection;
-use c_values::values::of_recording_read;
-use c_values::values::of_rewriting;
-use c_values::values::of_rule_read;
-use c_values::values::of_rule_written;
-use joint_text::joint::join;
+ghost use Rattle.c_answers.specs.Values.{heading, partValues, isSet};
+use c_answers::of_explanation;
+use c_answers::of_found;
+use c_answers::of_judgement;
+use c_answers::of_projection;
+use c_answers::of_recording_read;
+use c_answers::of_rewriting;
+use c_answers::of_rule_read;
+use c_answers::of_rule_written;
+use joint_reading::join;
 
 // Values: controller, node count.
 #[no_mangle]

@@ -4,24 +4,25 @@ use mathlib.Core.Bool.{true, false}
 use mathlib.Core.List.{List}
 use Prim.Native.Nat.{ℕ, _-_, _<_, _≤_}
 use native.Mathlib.Omega.{arith}
-use lib.ListN.{length, take, drop, getD, length-take, length-drop}
+use lib.ListN.{length, take, drop, getD}
 use borrow.Author.Needs.{needs}
 use borrow.Author.Tests.{ne-eqb, eq-eqb, lt-ltb, le-ltb}
 use Rattle.definitions.specs.Limits.{lentShort, maxInputBytes, maxRuleNodes, maxControllers, maxStates}
 use Rattle.definitions.specs.Bounded.{pick}
 use Rattle.definitions.specs.RecordingText.{jointNumber, jointPart}
 use Rattle.definitions.specs.Operations.{readJointNumber, readJointHeading, readJointPart}
-use Rattle.scanning.proofs.PartLaws.{part-to-end}
-use Rattle.joint_scan.specs.Scanning.{partOf}
-use Rattle.joint_text.specs.Joining.{Joined}
-use Rattle.joint_scan.specs.declared.scan.Found.{Found}
-use Rattle.input_split.specs.Splitting.{SplitAt}
-use Rattle.input_split.specs.declared.split.Parts.{Parts}
-use Rattle.program.proofs.OutputLaws.{joint-low, rule-counted}
+use Rattle.lines.proofs.PartLaws.{part-to-end}
+use Rattle.joint_reading.specs.Scanning.{partOf}
+use Rattle.joint_reading.specs.Joining.{Joined}
+use Rattle.joint_reading.specs.declared.scan.Found.{Found}
+use Rattle.program_input.specs.Splitting.{SplitAt}
+use Rattle.program_input.specs.declared.Parts.{Parts}
+use Rattle.program_input.proofs.SplitLaws.{rule-counted, texts-fit}
+use Rattle.report.proofs.ReadTableLaws.{joint-low}
 use Rattle.refused_line.specs.Numbering.{lineNumber, LineStart}
-use Rattle.refused_line.specs.Finding.{Texts, Readable, partLine, textsLine, inputLine}
-use Rattle.refused_line.specs.declared.find.Line.{Line}
-use Rattle.refused_line.specs.declared.find.Line.the-variants.{OfRule, OfRecording, Nowhere}
+use Rattle.refused_line.specs.Finding.{Readable, partLine, textsLine, inputLine}
+use Rattle.refused_line.specs.declared.Line.{Line}
+use Rattle.refused_line.specs.declared.Line.the-variants.{OfRule, OfRecording, Nowhere}
 
 -- ---- `in_tables`
 module _ (rule recording nodes masks states nodes′ masks′ states′ : List ℕ) (f : Found)
@@ -39,6 +40,7 @@ module _ (rule recording nodes masks states nodes′ masks′ states′ : List �
   unfolding readJointPart pick
   found-part = j .part ∙ rw (number-is, ne-eqb (jointNumber rule recording) lentShort (λ q. omega (arith, joint-low rule recording)))
 
+  -- `in_tables`, accepted: `textsLine` is nowhere
   pub accepted-nowhere : f .number ≡ 0 → Nowhere ≡ textsLine rule recording
   unfolding textsLine pick
   accepted-nowhere z = rw (eq-eqb (jointNumber rule recording) 0 (sym found-number ∙ z))
@@ -53,6 +55,7 @@ module _ (rule recording nodes masks states nodes′ masks′ states′ : List �
       unfolding pick
       rule-start = record { inside = omega (arith, rw o at (j .inside)); small = can .texts .ruleFits }
 
+      -- `in_tables`, the rule's text: `textsLine` is the number of its refused line
       pub rule-line : (n : ℕ) → n ≡ lineNumber (f .from) rule → OfRule n ≡ textsLine rule recording
       unfolding partLine pick
       rule-line n e = rw e (rw o at refused-part)
@@ -62,6 +65,7 @@ module _ (rule recording nodes masks states nodes′ masks′ states′ : List �
       unfolding pick
       recording-start = record { inside = omega (arith, rw o at (j .inside)); small = can .texts .recordingFits }
 
+      -- `in_tables`, the recording's text: `textsLine` is the number of its refused line
       pub recording-line : (n : ℕ) → n ≡ lineNumber (f .from) recording → OfRecording n ≡ textsLine rule recording
       unfolding partLine pick
       recording-line n e = rw e (rw o at refused-part)
@@ -70,17 +74,13 @@ pub ruleset table-laws = (needs, accepted-nowhere, rule-start, rule-line, record
 
 -- ---- `refused_line`
 module _ (input : List ℕ) where
+  -- `refused_line`, an input too long: `inputLine` is nowhere
   pub long-nowhere : maxInputBytes < length input → Nowhere ≡ inputLine input
   unfolding inputLine pick
   long-nowhere h = rw (lt-ltb maxInputBytes (length input) h)
 
   module _ (short : length input ≤ maxInputBytes) (s : Parts) (is : SplitAt input s) where
-    pub texts-fit : Texts (take (s .«rule_end») input) (take (length input - s .«recording_at») (drop (s .«recording_at») input))
-    texts-fit = record {
-      ruleFits = rw length-take (omega arith);
-      recordingFits = rw (part-to-end input (s .«recording_at»), length-drop) (omega arith);
-    }
-
+    -- `refused_line`, the input is split: `inputLine` is `textsLine` of its two texts
     pub texts-line : (r : Line) → r ≡ textsLine (take (s .«rule_end») input) (take (length input - s .«recording_at») (drop (s .«recording_at») input)) → r ≡ inputLine input
     unfolding inputLine pick
     texts-line r e = e ∙ rw (le-ltb maxInputBytes (length input) short, part-to-end input (s .«recording_at»), is .rule, is .recording)

@@ -15,9 +15,9 @@ use Rattle.definitions.specs.Bounded.{pick}
 use Rattle.definitions.specs.Lines.{isEmpty, restOf}
 use Rattle.theorems.proofs.Choice.{by-test}
 use Rattle.theorems.proofs.InputSplit.{rest-length}
-use Rattle.scanning.proofs.PartLaws.{part-to-end, empty-yes, empty-no}
+use Rattle.lines.proofs.PartLaws.{part-to-end, empty-yes, empty-no}
 use Rattle.lines.specs.Reading.{FirstLine}
-use Rattle.lines.specs.declared.next.Line.{Line}
+use Rattle.lines.specs.declared.Line.{Line}
 use Rattle.lines.proofs.LoopLaws.{after-line, line-inside}
 use Rattle.refused_line.specs.Numbering.{lineCount, LinesCounted, lineNumber, LineStart}
 
@@ -48,10 +48,12 @@ pub record Counted (text : List ℕ) (at count : ℕ) : Type 0 where
   pub few : count ≤ at
   pub left : lineCount (length text) text ≡ count + lineCount (length text) (drop at text)
 
+-- `line_count`, before the first turn: all of `lineCount` is left
 pub counted-none : (text : List ℕ) → Counted text 0 0
 counted-none text = record { within = omega arith; few = omega arith; left = omega arith }
 
 module _ (text : List ℕ) (at count : ℕ) (inv : Counted text at count) where
+  -- `line_count`, no byte is left: the count is `lineCount`
   pub counted-end : length text ≤ at → LinesCounted text count
   counted-end h =
       let z = count-none (length text) (drop at text) (empty-yes (drop at text) (omega (arith, length-drop at text))) in
@@ -87,6 +89,7 @@ module _ (text : List ℕ) (at count : ℕ) (inv : Counted text at count) where
     pub counted-one-fits : length text < 2 ^ 64 → Fits w64 (count + 1)
     counted-one-fits g = record { fits = omega (arith, inv .few) }
 
+    -- `line_count`, a turn: one line more of `lineCount` is counted
     pub counted-next : Counted text (at + l .next) (count + 1)
     counted-next = record { within = next-inside; few = omega (arith, inv .few, some); left = omega (arith, inv .left, one) }
 
@@ -107,6 +110,7 @@ module _ (from : ℕ) (text : List ℕ) (start : LineStart from text) where
     pub number-fits : Fits w32 (n + 1)
     number-fits = record { fits = omega (arith, small) }
 
+    -- `line_number`: the lines before it and one are `lineNumber`
     pub number-is : n + 1 ≡ lineNumber from text
     unfolding lineNumber
     number-is = rw (is .count, ← start-counts)

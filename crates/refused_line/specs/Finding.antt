@@ -1,23 +1,19 @@
 -- The refused line of an input: of which text it is, and its number there.
-use Prim.Native.Nat.{ℕ, _≤_}
+use Prim.Native.Nat.{ℕ}
 use mathlib.Core.List.{List}
 use lib.Dec.{eqb, ltb}
 use lib.ListN.{length}
 use Rattle.definitions.specs.Limits.{accepted, maxInputBytes}
 use Rattle.definitions.specs.Bounded.{pick}
 use Rattle.definitions.specs.RecordingText.{Part, jointNumber, jointPart}
-use Rattle.definitions.specs.Program.{ruleIn, recordingIn}
-use Rattle.joint_space.specs.Room.{Room}
+use Rattle.definitions.specs.Program.{ruleTextIn, recordingTextIn}
+use Rattle.program_input.specs.Splitting.{Texts}
+use Rattle.joint_reading.specs.Room.{Room}
 use Rattle.refused_line.specs.Numbering.{lineNumber}
-use Rattle.refused_line.specs.declared.find.Line.{Line}
-use Rattle.refused_line.specs.declared.find.Line.the-variants.{OfRule, OfRecording, Nowhere}
+use Rattle.refused_line.specs.declared.Line.{Line}
+use Rattle.refused_line.specs.declared.Line.the-variants.{OfRule, OfRecording, Nowhere}
 
--- two texts of one input
-pub record Texts (rule recording : List ℕ) : Type 0 where
-  pub ruleFits : length rule ≤ maxInputBytes
-  pub recordingFits : length recording ≤ maxInputBytes
-
--- with lent space of full size for what is read of them
+-- two texts of one input, with lent space of full size for what is read of them
 pub record Readable (rule recording nodes masks states : List ℕ) : Type 0 where
   pub texts : Texts rule recording
   pub room : Room nodes masks states
@@ -32,4 +28,4 @@ textsLine rule recording = pick (eqb (jointNumber rule recording) accepted) Nowh
 
 -- that of the input's two texts; an input over 16,384 bytes has no refused line
 unfoldable pub inputLine : List ℕ → Line
-inputLine input = pick (ltb maxInputBytes (length input)) Nowhere (textsLine (ruleIn input) (recordingIn input))
+inputLine input = pick (ltb maxInputBytes (length input)) Nowhere (textsLine (ruleTextIn input) (recordingTextIn input))

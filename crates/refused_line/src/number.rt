@@ -1,7 +1,7 @@
 // The number of a line in its text.
 ghost use mathlib.Core.Path.{_≡_};
 ghost use Rattle.refused_line.specs.Numbering.{LinesCounted, lineNumber, LineStart};
-use lines::next::first_line;
+use lines::first_line;
 
 // How many lines a text has, the last one closed or not.
 fn line_count(text: &[u8]) -> usize

@@ -1,1 +1,4 @@
 pub mod ReportLaws
+pub mod TableLaws
+pub mod ReadTableLaws
+pub mod RecordingAccepted

@@ -7,31 +7,18 @@ use native.Mathlib.Omega.{arith}
 use lib.ListN.{length, take, length-append}
 use lib.Seq.{length-take-le}
 use borrow.Author.Needs.{needs}
+use Rattle.definitions.specs.Limits.{maxInputBytes}
 use Rattle.definitions.specs.Lines.{bytes, tab, newline, digits}
 use Rattle.definitions.specs.Program.{yesNo, refusedWord, localWord, ownWord, plainWord, shortWord, localText, refusedText}
 use Rattle.theorems.proofs.Choice.{by-test}
-use Rattle.printing.specs.Printing.{Printed}
-use Rattle.printing.proofs.PrintLaws.{printed-seq}
+use Rattle.printing.specs.Printing.{Printed, countedLine}
+use Rattle.printing.proofs.PrintLaws.{digits-fit}
+use Rattle.printing.proofs.LineLaws.{first-room, rest-room, both}
 use Rattle.judges.specs.declared.verdicts.Verdicts.{Verdicts}
-use Rattle.judging.specs.declared.rewritten.Rewritten.{Rewritten}
-use Rattle.report.specs.Reporting.{verdictsEnd, Ends, countedLine, ownLine, rewrittenLine, reportText}
+use Rattle.rewritten_judge.specs.declared.Rewritten.{Rewritten}
+use Rattle.report.specs.Reporting.{maxOutputBytes, verdictsEnd, Ends, ownLine, rewrittenLine, reportText}
 use Rattle.report.specs.declared.Report.{Report}
 use Rattle.report.specs.declared.Ending.{Ending}
-
--- ---- two parts, one after the other
-module _ (xs ys o : List ℕ) (at : ℕ) (room : at + length (xs ++ ys) ≤ length o) where
-  sizes : length (xs ++ ys) ≡ length xs + length ys
-  sizes = length-append xs ys
-
-  pub first-room : at + length xs ≤ length o
-  first-room = omega (arith, sizes)
-
-  module _ (o′ : List ℕ) (r : ℕ) (first : Printed xs o at r o′) where
-    pub rest-room : length o′ ≡ length o → r + length ys ≤ length o′
-    rest-room kept = omega (arith, sizes, first .next)
-
-    pub both : (o″ : List ℕ) (q : ℕ) → Printed ys o′ r q o″ → Printed (xs ++ ys) o at q o″
-    both o″ q rest = printed-seq xs ys o o′ o″ at r q first-room first rest
 
 -- ---- `end_of`
 module _ (v : Verdicts) (bs : List ℕ) (n : ℕ) (there : n ≤ length bs) where
@@ -40,17 +27,21 @@ module _ (v : Verdicts) (bs : List ℕ) (n : ℕ) (there : n ≤ length bs) wher
   unfolding verdictsEnd
   ends w s p q t = record { there = there; same = rw (p, q) t }
 
+  -- `end_of`, both yes: the ending is `verdictsEnd`
   pub yes-yes : (v .weak && v .strong) ≡ true → take n bs ≡ bytes "\tyes\tyes\n" → Ends (verdictsEnd v) (record { bytes = bs; count = n })
   yes-yes e t = by-test (v .weak)
       (λ p. ends true true p (rw p at e) t)
       (λ p. absurd (true≢false (sym (rw p at e))))
 
+  -- `end_of`, weak yes and strong no: the ending is `verdictsEnd`
   pub yes-no : v .weak ≡ true → (v .weak && v .strong) ≡ false → take n bs ≡ bytes "\tyes\tno\n" → Ends (verdictsEnd v) (record { bytes = bs; count = n })
   yes-no p e t = ends true false p (rw p at e) t
 
+  -- `end_of`, weak no and strong yes: the ending is `verdictsEnd`
   pub no-yes : v .weak ≡ false → v .strong ≡ true → take n bs ≡ bytes "\tno\tyes\n" → Ends (verdictsEnd v) (record { bytes = bs; count = n })
   no-yes p q t = ends false true p q t
 
+  -- `end_of`, both no: the ending is `verdictsEnd`
   pub no-no : v .weak ≡ false → v .strong ≡ false → take n bs ≡ bytes "\tno\tno\n" → Ends (verdictsEnd v) (record { bytes = bs; count = n })
   no-no p q t = ends false false p q t
 
@@ -59,32 +50,6 @@ pub ruleset ending-laws = (needs, yes-yes, yes-no, no-yes, no-no)
 -- the bytes of an ending are as many as it says
 pub ending-counted : (l : List ℕ) (e : Ending) → Ends l e → e .count ≡ length (take (e .count) (e .bytes))
 ending-counted l e h = sym (length-take-le (e .count) (e .bytes) (h .there))
-
--- ---- `put_line`
-module _ (word : List ℕ) (n : ℕ) (end o : List ℕ) (at : ℕ) (room : at + length (countedLine word n end) ≤ length o) where
-  line-parts : at + length (word ++ ((tab ∷ digits n) ++ end)) ≤ length o
-  unfolding countedLine
-  line-parts = room
-
-  pub word-room : at + length word ≤ length o
-  word-room = first-room word ((tab ∷ digits n) ++ end) o at line-parts
-
-  module _ (o′ : List ℕ) (p : ℕ) (first : Printed word o at p o′) (kept : length o′ ≡ length o) where
-    line-left : p + length ((tab ∷ digits n) ++ end) ≤ length o′
-    line-left = rest-room word ((tab ∷ digits n) ++ end) o at line-parts o′ p first kept
-
-    pub number-room : p + length (tab ∷ digits n) ≤ length o′
-    number-room = first-room (tab ∷ digits n) end o′ p line-left
-
-    module _ (o″ : List ℕ) (q : ℕ) (number : Printed (tab ∷ digits n) o′ p q o″) where
-      pub end-room : length o″ ≡ length o′ → q + length end ≤ length o″
-      end-room held = rest-room (tab ∷ digits n) end o′ p line-left o″ q number held
-
-      pub line-written : (o‴ : List ℕ) (e : ℕ) → Printed end o″ q e o‴ → Printed (countedLine word n end) o at e o‴
-      unfolding countedLine
-      line-written o‴ e last = both word ((tab ∷ digits n) ++ end) o at line-parts o′ p first o‴ e (both (tab ∷ digits n) end o′ p line-left o″ q number o‴ e last)
-
-pub ruleset line-laws = (needs, word-room, number-room, end-room, line-written)
 
 -- ---- `put_own`
 module _ (v : Verdicts) (o : List ℕ) (at : ℕ) (room : at + length (ownLine v) ≤ length o) where
@@ -99,6 +64,7 @@ module _ (v : Verdicts) (o : List ℕ) (at : ℕ) (room : at + length (ownLine v
     pub own-end : length o′ ≡ length o → p + length (take (e .count) (e .bytes)) ≤ length o′
     own-end kept = rw (ended .same) (rest-room ownWord (verdictsEnd v) o at own-parts o′ p word kept)
 
+    -- `put_own`: the word and the ending are `ownLine`
     pub own-written : (o″ : List ℕ) (q : ℕ) → Printed (take (e .count) (e .bytes)) o′ p q o″ → Printed (ownLine v) o at q o″
     unfolding ownLine
     own-written o″ q last = both ownWord (verdictsEnd v) o at own-parts o′ p word o″ q (rw (ended .same) at last)
@@ -111,6 +77,7 @@ module _ (word : List ℕ) (r : Rewritten) (e : Ending) (ended : Ends (verdictsE
   unfolding rewrittenLine
   rewritten-room room = rw (ended .same) room
 
+  -- `put_rewritten`: the word, the count and the ending are `rewrittenLine`
   pub rewritten-written : (o′ : List ℕ) (q : ℕ) → Printed (countedLine word (r .count) (take (e .count) (e .bytes))) o at q o′ → Printed (rewrittenLine word r) o at q o′
   unfolding rewrittenLine
   rewritten-written o′ q p = rw (ended .same) at p
@@ -151,6 +118,7 @@ module _ (v : Report) (o : List ℕ) (room : length (reportText v) ≤ length o)
         pub report-short : length o₃ ≡ length o₂ → r + length (rewrittenLine shortWord (v .short)) ≤ length o₃
         report-short kept₃ = rest-room (rewrittenLine plainWord (v .plain)) (rewrittenLine shortWord (v .short)) o₂ q report-last o₃ r three kept₃
 
+        -- `put_report`: the four lines are `reportText`
         pub report-written : (o₄ : List ℕ) (e : ℕ) → Printed (rewrittenLine shortWord (v .short)) o₃ r e o₄ → Printed (reportText v) o 0 e o₄
         unfolding reportText
         report-written o₄ e four =
@@ -183,9 +151,22 @@ module _ (n : ℕ) (line o : List ℕ) (room : length (refusedText n line) ≤ l
       pub refused-end : length o₂ ≡ length o₁ → q < length o₂
       refused-end kept₂ = omega (arith, rest-room line (newline ∷ []) o₁ p refused-left o₂ q two kept₂)
 
+      -- `put_refused`: the number, the line and the end of line are `refusedText`
       pub refused-written : (o₃ : List ℕ) (e : ℕ) → Printed (newline ∷ []) o₂ q e o₃ → Printed (refusedText n line) o 0 e o₃
       refused-written o₃ e three =
           rw refused-is (both (countedLine refusedWord n (tab ∷ [])) (line ++ (newline ∷ [])) o 0 refused-parts o₁ p one o₃ e
           (both line (newline ∷ []) o₁ p refused-left o₂ q two o₃ e three))
 
 pub ruleset refused-laws = (needs, refused-number, refused-line, refused-end, refused-written)
+
+-- ---- how long a refusal is
+pub refused-length : (n : ℕ) (line : List ℕ) → n < 100 → length line ≤ maxInputBytes → length (refusedText n line) ≤ maxOutputBytes
+unfolding refusedText
+refused-length n line h l =
+    omega (
+      arith,
+      length-append refusedWord (tab ∷ (digits n ++ (tab ∷ (line ++ (newline ∷ []))))),
+      length-append (digits n) (tab ∷ (line ++ (newline ∷ []))),
+      length-append line (newline ∷ []),
+      digits-fit 1 n (omega arith),
+    )

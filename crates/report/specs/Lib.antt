@@ -1,1 +1,3 @@
 pub mod Reporting
+pub mod Judged
+pub mod ReadTables

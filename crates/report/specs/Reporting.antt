@@ -4,11 +4,12 @@ use mathlib.Core.Path.{_≡_}
 use mathlib.Core.List.{List, _∷_, _++_}
 use lib.ListN.{length, take}
 use Rattle.definitions.specs.Limits.{maxInputBytes}
-use Rattle.definitions.specs.Lines.{tab, digits}
+use Rattle.definitions.specs.Lines.{tab}
 use Rattle.definitions.specs.Program.{ownWord, plainWord, shortWord, localText, verdictsText}
+use Rattle.printing.specs.Printing.{countedLine}
 use Rattle.judges.specs.Verdicts.{meant}
 use Rattle.judges.specs.declared.verdicts.Verdicts.{Verdicts}
-use Rattle.judging.specs.declared.rewritten.Rewritten.{Rewritten}
+use Rattle.rewritten_judge.specs.declared.Rewritten.{Rewritten}
 use Rattle.report.specs.declared.Report.{Report}
 use Rattle.report.specs.declared.Ending.{Ending}
 
@@ -24,10 +25,6 @@ verdictsEnd v = tab ∷ verdictsText (meant v)
 pub record Ends (end : List ℕ) (e : Ending) : Type 0 where
   pub there : e .count ≤ length (e .bytes)
   pub same : take (e .count) (e .bytes) ≡ end
-
--- a word, a number, and how the line ends
-unfoldable pub countedLine : List ℕ → ℕ → List ℕ → List ℕ
-countedLine word number end = word ++ (tab ∷ (digits number ++ end))
 
 -- "`own yes no`"
 unfoldable pub ownLine : Verdicts → List ℕ

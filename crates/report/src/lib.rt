@@ -1,15 +1,20 @@
-// What the program prints, line by line: of a refusal, and of an accepted rule and recording. Nothing is decided here.
+// What the program `judge` prints, line by line: of a refusal, and of an accepted rule and recording. `tables`: these judged in each way.
+pub mod tables;
+
 ghost use Prim.Native.Nat.{_+_, _≤_};
 ghost use lib.ListN.{length};
 ghost use Rattle.definitions.specs.Program.{refusedText};
 ghost use Rattle.printing.specs.Printing.{Printed};
-ghost use Rattle.report.specs.Reporting.{verdictsEnd, Ends, countedLine, ownLine, rewrittenLine, reportText};
+ghost use Rattle.report.specs.Reporting.{verdictsEnd, Ends, ownLine, rewrittenLine, reportText};
 use judges::verdicts::Verdicts;
-use judging::rewritten::Rewritten;
+use lines::scan;
 use printing::put;
 use printing::put_byte;
-use printing::put_field;
-use scanning::scan;
+use printing::put_line;
+use rewritten_judge::Rewritten;
+
+// The first byte of what is printed of a refusal, and of nothing else that a program prints.
+pub const REFUSED: u8 = b'r';
 
 // All that is printed of an accepted rule and recording.
 pub struct Report {
@@ -59,16 +64,6 @@ fn end_of(v: Verdicts) -> Ending
         return NO_YES;
     }
     NO_NO
-}
-
-// A word, a number and how the line ends.
-pub fn put_line(word: &[u8], number: u32, end: &[u8], at: usize, text: &mut [u8]) -> usize
-    requires { ⌜ at + length (countedLine (now word) number (now end)) ≤ length (now text) ⌝ }
-    ensures { λ r. ⌜ Printed (countedLine (now (word .entry)) number (now (end .entry))) (now (text .entry)) at r (now (text .exit)) ⌝ }
-{
-    let after_word = put(word, at, text);
-    let after_number = put_field(number, after_word, text);
-    put(end, after_number, text)
 }
 
 // "`own yes no` (weak, strong on the local trace)"

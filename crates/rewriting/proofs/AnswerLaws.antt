@@ -21,24 +21,26 @@ use Rattle.theorems.proofs.RuleNodes.{rule-some, rule-few}
 use Rattle.theorems.proofs.RefusalBounds.{rule-low}
 use Rattle.theorems.proofs.LentSpace.{left-short, left-accepted, left-refused}
 use Rattle.lent.specs.Space.{cleared}
-use Rattle.drafts.specs.declared.drafts.Draft.{Draft}
-use Rattle.rewriting.specs.declared.rewrite.Rewriting.the-variants.{Rewritten, Refused}
-use Rattle.images.specs.declared.image.Tops.{Tops}
+use Rattle.rewriting.specs.declared.drafts.Draft.{Draft}
+use Rattle.rewriting.specs.declared.Rewriting.the-variants.{Rewritten, Refused}
+use Rattle.images.specs.declared.Tops.{Tops}
 use Rattle.images.specs.Images.{meant, ClosedBy}
-use Rattle.drafts.specs.Drafts.{Ruled, Drawn, draftOf}
+use Rattle.rewriting.specs.Drafts.{Ruled, Drawn, draftOf}
 use Rattle.rewriting.specs.Answers.{Tabled, TableOf, Rewrote}
-use Rattle.blocks.proofs.EmitLaws.{emit-append, holds-more, map-length, seam-take, seam-drop}
+use Rattle.images.proofs.EmitLaws.{emit-append, holds-more, map-length, seam-take, seam-drop}
 
 module _ (short : Bool) (mask count : ℕ) (ws o : List ℕ) (d : Draft) (o′ : List ℕ) (w : Drawn short mask count ws o d o′) where
   is-closed : rewriting short mask (nodesIn count ws) ≡ closed (short && d .last .tolerant) ((draftOf short mask count ws) .nodes) (meant (d .last))
   unfolding rewriting
   is-closed = ap (λ (i : table.Image). closed (short && i .tolerant) ((draftOf short mask count ws) .nodes) i) (sym (w .last))
 
+  -- `tabled`, a tolerant rule rewritten short: the draft, without a closing, is `rewriting` (`Tabled`)
   pub tabled-open : (short && d .last .tolerant) ≡ true → Tabled short mask count ws o (record { count = d .at; weak = d .last .weak; strong = d .last .strong }) o′
   tabled-open e =
       let c : rewriting short mask (nodesIn count ws) ≡ closed true ((draftOf short mask count ws) .nodes) (meant (d .last)) = rw e at is-closed in
       record { holds = rw c (w .holds); weak = rw c; strong = rw c; low = omega (arith, w .low) }
 
+  -- `tabled`, another rule: the draft and its closing are `rewriting` (`Tabled`)
   pub tabled-closed : (o″ : List ℕ) (t : Tops) → (short && d .last .tolerant) ≡ false → ClosedBy (meant (d .last)) o′ (d .at) t o″ → Tabled short mask count ws o t o″
   tabled-closed o″ t e p =
       let T = (draftOf short mask count ws) .nodes in
@@ -62,6 +64,7 @@ ruled controller count ws k e z =
     record { some = rule-some r h; few = rule-few r h; fine = (accepted-rule r h) .1 }
 
 -- the rest of the table is cleared
+-- `rewrite_accepted`: the table holds the rewritten nodes and then zeros (`TableOf`)
 pub table-of : (short : Bool) (mask count : ℕ) (ws o : List ℕ) (t : Tops) (o′ o″ : List ℕ) → maxTableNodes ≤ length o → Tabled short mask count ws o t o′ →
     o″ ≡ cleared o′ (t .count) maxTableNodes → TableOf (rewriting short mask (nodesIn count ws)) o t o″
 unfolding cleared
@@ -95,10 +98,12 @@ module _ (short : Bool) (controller count : ℕ) (ws : List ℕ) (mask : ℕ) (o
   unfolding rewriteNumber pick
   number-long h = rw (le-ltb (length o) maxTableNodes h)
 
+  -- `rewrite`, too little is lent: `rewriteAnswer` is 13, `rewriteTable` what was lent
   pub rewrote-short : length o < maxTableNodes → Rewrote short controller count ws mask o (Refused 13) o
   unfolding rewriteAnswer rewriteTable answer pick
   rewrote-short h = record { answered = rw (number-short h); table = rw (number-short h) (sym (left-short maxTableNodes _ o)) }
 
+  -- `rewrite`, a refused rule: `rewriteAnswer` is its number, `rewriteTable` is zero over its full size
   pub rewrote-refused : (k : ℕ) (o′ : List ℕ) → maxTableNodes ≤ length o → k ≡ ruleRefusal R → (k ≡ 0 → ⊥) → o′ ≡ cleared o 0 maxTableNodes →
       Rewrote short controller count ws mask o (Refused k) o′
   unfolding rewriteAnswer rewriteTable answer pick cleared
@@ -110,6 +115,7 @@ module _ (short : Bool) (controller count : ℕ) (ws : List ℕ) (mask : ℕ) (o
         table = c ∙ rw n (sym (left-refused k maxTableNodes _ o z (omega arith)));
       }
 
+  -- `rewrite`, an accepted rule: `rewriteAnswer` is the count and the tops, `rewriteTable` the rewritten nodes
   pub rewrote-done : (k : ℕ) (t : Tops) (o′ : List ℕ) → maxTableNodes ≤ length o → k ≡ ruleRefusal R → k ≡ 0 →
       TableOf (rewriting short mask (nodesIn count ws)) o t o′ → Rewrote short controller count ws mask o (Rewritten (t .count) (t .weak) (t .strong)) o′
   unfolding rewriteAnswer rewriteTable answer pick

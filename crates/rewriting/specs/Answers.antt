@@ -10,10 +10,10 @@ use Rattle.definitions.specs.Nodes.{nodeWord}
 use Rattle.definitions.specs.Rewriting as table
 use Rattle.definitions.specs.Rewriting.{rewriting}
 use Rattle.definitions.specs.Operations.{Answer, left, rewriteAnswer, rewriteTable}
-use Rattle.rewriting.specs.declared.rewrite.Rewriting.{Rewriting}
-use Rattle.rewriting.specs.declared.rewrite.Rewriting.the-variants.{Rewritten, Refused}
-use Rattle.images.specs.declared.image.Tops.{Tops}
-use Rattle.blocks.specs.Emission.{Holds}
+use Rattle.rewriting.specs.declared.Rewriting.{Rewriting}
+use Rattle.rewriting.specs.declared.Rewriting.the-variants.{Rewritten, Refused}
+use Rattle.images.specs.declared.Tops.{Tops}
+use Rattle.images.specs.Emission.{Holds}
 
 -- document 01's number and values for each case
 abbrev pub answerOf : Rewriting → Answer

@@ -1,2 +1,4 @@
 pub mod PackedLaws
 pub mod RowLaws
+pub mod StoredLaws
+pub mod PairLaws

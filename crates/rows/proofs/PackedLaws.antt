@@ -23,7 +23,7 @@ use Rattle.mark_words.specs.Lists.{lastOnly}
 use Rattle.mark_words.specs.Words.{gathered}
 use Rattle.mark_words.proofs.OperatorLaws.{lt-or-le, same-list, only-length, only-none}
 use Rattle.mark_words.proofs.WordLaws.{word-bit, ones-word, or-cons, last-none, last-one}
-use Rattle.rows.specs.declared.row.Row.{Row}
+use Rattle.rows.specs.declared.Row.{Row}
 use Rattle.rows.specs.Marks.{bitAt, marks, packed, lowWord, highWord, Whole, Made}
 
 -- ---- the marks of a row

@@ -17,7 +17,7 @@ use Rattle.mark_words.specs.Marks.{markAt, lastAt}
 use Rattle.mark_words.specs.Lists.{headD, zip, lastOnly, nextRow, untilRow, prevRow, sinceRow}
 use Rattle.mark_words.proofs.OperatorLaws.{lt-or-le, same-list, until-length, until-is, since-length, since-is, prev-length, prev-is, next-length, next-is, not-is, zip-length, zip-is, only-length, only-at}
 use Rattle.mark_words.proofs.WordLaws.{half, word-digit, word-fits, last-none, last-one, take-zip, drop-zip, word-and, word-or, word-not, and-cut, or-cons, and-cons}
-use Rattle.rows.specs.declared.row.Row.{Row}
+use Rattle.rows.specs.declared.Row.{Row}
 use Rattle.rows.specs.Marks.{marks, lowWord, highWord, Whole, Made}
 use Rattle.rows.proofs.PackedLaws.{marks-length, few-marks, as-long, of-words, as-tabulated, retold, packed-laws}
 
@@ -143,6 +143,7 @@ drop-prev zero c (p ∷ l) = refl
 drop-prev (suc n) c (p ∷ l) = drop-prev n p l
 
 module _ (s f : Row) (w : Whole s) (m : Made f (s .count) (tabulate (s .count) (λ k. true))) where
+  -- `Row::prev`: both words one place up, cut at the last place, are the row of `prevAt`
   pub prev-made : (a b c d : ℕ) → a ≡ lowWord s → b ≡ highWord s → c ≡ lowWord f → d ≡ highWord f
       → Made (record { words = bitAnd (a * 2 % 2 ^ 64) c ∷ bitAnd (bitOr (b * 2 % 2 ^ 64) (a / 2 ^ 63)) d ∷ []; count = s .count }) (s .count) (tabulate (s .count) (prevAt (markAt (marks s))))
   prev-made a b c d ea eb ec ed =
@@ -179,6 +180,7 @@ drop-since (suc n) c (p ∷ ps) (q ∷ qs) = drop-since n (q || (p && c)) ps qs
 abbrev pub SinceWord : ℕ → ℕ → ℕ → ℕ → Type 0
 SinceWord p q c r = (ps qs : List Bool) (b : Bool) → p ≡ marksWord ps → q ≡ marksWord qs → c ≡ bit b → length ps ≡ length qs → r ≡ marksWord (sinceRow b ps qs)
 
+-- `Row::since`: both words, the last place of the low one carried, are the row of `sinceAt`
 pub since-made : (s t : Row) (a b c d lo hi : ℕ) → Whole s → Whole t → s .count ≡ t .count → a ≡ lowWord s → b ≡ lowWord t → c ≡ highWord s → d ≡ highWord t
     → SinceWord a b 0 lo → SinceWord c d (lo / 2 ^ 63) hi
     → Made (record { words = lo ∷ hi ∷ []; count = s .count }) (s .count) (tabulate (s .count) (sinceAt (markAt (marks s)) (markAt (marks t))))
@@ -299,6 +301,7 @@ moved-made s a b w ea eb =
 pub moved-whole : (s : Row) (a b : ℕ) → Whole s → a ≡ lowWord s → b ≡ highWord s → Whole (record { words = bitOr (a / 2) (b * 2 ^ 63 % 2 ^ 64) ∷ b / 2 ∷ []; count = s .count })
 moved-whole s a b w ea eb = (moved-made s a b w ea eb) .whole
 
+-- `Row::next`: the row one place on with its ending is the row of `nextAt`
 pub next-made : (s t r : Row) (a b : ℕ) (w : Bool) → Whole s → a ≡ lowWord s → b ≡ highWord s → Made t (s .count) (lastOnly w (s .count))
     → Made r (s .count) (tabulate (s .count) (λ k. markAt (marks (record { words = bitOr (a / 2) (b * 2 ^ 63 % 2 ^ 64) ∷ b / 2 ∷ []; count = s .count })) k || markAt (marks t) k))
     → Made r (s .count) (tabulate (s .count) (nextAt w (s .count) (markAt (marks s))))
@@ -323,6 +326,7 @@ cut-and-put false w true = refl
 cut-and-put true w false = refl
 cut-and-put false w false = refl
 
+-- `Row::with_last`: the row with its last mark put is the row of `lastAt`
 pub last-made : (s e b c t r : Row) (w : Bool) → Whole s → Made e (s .count) (lastOnly true (s .count)) → Made b (e .count) (tabulate (e .count) (λ k. not (markAt (marks e) k)))
     → Made c (s .count) (tabulate (s .count) (λ k. markAt (marks s) k && markAt (marks b) k)) → Made t (s .count) (lastOnly w (s .count))
     → Made r (c .count) (tabulate (c .count) (λ k. markAt (marks c) k || markAt (marks t) k)) → Made r (s .count) (tabulate (s .count) (lastAt w (s .count) (markAt (marks s))))
@@ -418,6 +422,7 @@ module _ (s t k b e : Row) (w : Bool) (v : Whole s) (u : Whole t) (n : s .count 
       let hb : length qs ≡ length (zip _&&_ ps (lastOnly w (length ps))) = sym h ∙ sym (zip-length _&&_ ps (lastOnly w (length ps)) hk) in
       ee .marked ∙ ap₂ (λ (m : ℕ) (bs : List Bool). tabulate m (λ i. markAt qs i || markAt bs i)) d mb ∙ sym (zip-is _||_ qs (zip _&&_ ps (lastOnly w (length ps))) hb)
 
+  -- `Row::until`: both words, with the ending at the last place, are the row of `untilAt`
   pub until-made : (p c q d lo hi : ℕ) → p ≡ lowWord s → c ≡ highWord s → q ≡ lowWord e → d ≡ highWord e
       → UntilWord c d hi → UntilWord p (bitOr q (bitAnd p (hi * 2 ^ 63 % 2 ^ 64))) lo
       → Made (record { words = lo ∷ hi ∷ []; count = s .count }) (s .count) (tabulate (s .count) (untilAt w (s .count) (markAt (marks s)) (markAt (marks t))))

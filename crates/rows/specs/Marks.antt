@@ -7,7 +7,7 @@ use lib.ListN.{length, take, drop, getD}
 use Rattle.definitions.specs.Limits.{maxStates, wordMarks}
 use Rattle.definitions.specs.Bounded.{bitOf, tabulate}
 use Rattle.definitions.specs.Readings.{marksWord}
-use Rattle.rows.specs.declared.row.Row.{Row}
+use Rattle.rows.specs.declared.Row.{Row}
 
 -- the mark at place k of a row's words
 abbrev pub bitAt : List ℕ → ℕ → Bool

@@ -1,10 +1,10 @@
 // Makes a rule text of the controller and the rule in one line on standard input, and prints it to standard output.
 // On standard error it says what could not be read or written.
-use formulas::limits::Limits;
 use libc::STDOUT_FILENO;
+use line_programs::typed;
+use rules::limits::Limits;
 use standard_streams::failures;
 use standard_streams::input::read_input;
-use typed_rule::print;
 
 fn main() {
     // One byte more than the limit tells an input that is too long.
@@ -16,7 +16,7 @@ fn main() {
     }
     let length = input.count;
     let mut output = [0u8; Limits::RULE_BYTES];
-    let printed = print::print_rule(&space[..length], &mut output);
+    let printed = typed::print_rule(&space[..length], &mut output);
     if !io::write_all(STDOUT_FILENO, &output[..printed]) {
         failures::say_unwritten(b"rule");
     }

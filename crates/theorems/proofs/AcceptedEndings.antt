@@ -84,8 +84,8 @@ module _ (b : ℕ) (low : b < 48) where
         let r = parsed-must (formed x) (g (after tab s)) malformed _ (l .gives) (never-formed x) in
         tabbed (upTo tab s) (after tab s) s (join tab s (p .0)) (first (l .value) (upTo tab s) (l .read)) (second (r .value) (after tab s) (r .read))
 
--- ---- the lines of a recording text
-heading-plain : (s : List ℕ) (h : Heading) → recordingHeading s ≡ formed h → Without carriageReturn s
+-- ---- the lines of a recording text: of its form, a line holds no byte 13
+pub heading-plain : (s : List ℕ) (h : Heading) → recordingHeading s ≡ formed h → Without carriageReturn s
 unfolding headingForm before pick
 heading-plain s h e =
     let w = worded-back recordingWord _ h s e in
@@ -93,13 +93,13 @@ heading-plain s h e =
     let d = decimal-plain carriageReturn (omega arith) in
     tabbed carriageReturn (omega arith) o recordingWord (after tab s) s (w .0) refl (two-plain carriageReturn (omega arith) o decimal decimal _ h (after tab s) d d (w .1))
 
-mask-plain : (s : List ℕ) (v : ℕ) → maskForm s ≡ formed v → Without carriageReturn s
+pub mask-plain : (s : List ℕ) (v : ℕ) → maskForm s ≡ formed v → Without carriageReturn s
 unfolding maskForm before pick
 mask-plain s v e =
     let w = worded-back ownsWord _ v s e in
     tabbed carriageReturn (omega arith) (λ q. omega arith) ownsWord (after tab s) s (w .0) refl (hex-plain carriageReturn (omega arith) wordDigits v (after tab s) (w .1))
 
-state-plain : (C : ℕ) (s : List ℕ) (v : ℕ) → stateForm C s ≡ formed v → Without carriageReturn s
+pub state-plain : (C : ℕ) (s : List ℕ) (v : ℕ) → stateForm C s ≡ formed v → Without carriageReturn s
 unfolding stateForm before pick
 state-plain C s v e =
     let w = worded-back atWord _ v s e in

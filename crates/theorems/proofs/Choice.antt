@@ -1,9 +1,9 @@
 -- Laws of choice by a test, of refusals in order, and of the bounded quantifiers.
-use mathlib.Core.Path.{_≡_, refl, sym}
+use mathlib.Core.Path.{_≡_, refl, sym, _∙_}
 use Prim.Native.Nat.{ℕ, zero, suc, _+_, _≤_, _<_}
 use native.Mathlib.Omega.{arith}
 use native.Mathlib.Decide.{ℕ-discrete}
-use mathlib.Core.Bool.{Bool, true, false, _&&_, _||_, true≢false}
+use mathlib.Core.Bool.{Bool, true, false, _&&_, _||_, or-true, true≢false}
 use lib.Dec.{eqb}
 use borrow.Author.Tests.{eqb-true, eqb-false, eq-eqb}
 use Rattle.definitions.specs.Bounded.{pick, bit, orElse, someOf, everyOf}
@@ -12,6 +12,15 @@ use Rattle.definitions.specs.Bounded.{pick, bit, orElse, someOf, everyOf}
 pub by-test : {P : Type 0} (z : Bool) → (z ≡ true → P) → (z ≡ false → P) → P
 by-test true f g = f refl
 by-test false f g = g refl
+
+-- no test answers both
+pub clash : {A : Type 0} {x : Bool} → x ≡ true → x ≡ false → A
+clash e f = absurd (true≢false (sym e ∙ f))
+
+-- one of two that is yes
+pub either-yes : (f : Bool → Bool) (d : Bool) → f d ≡ true → (f true || f false) ≡ true
+either-yes f true e = rw e
+either-yes f false e = rw (e, or-true)
 
 pub both-true : (a b : Bool) → (a && b) ≡ true → (a ≡ true) × (b ≡ true)
 both-true true b e = (refl, e)

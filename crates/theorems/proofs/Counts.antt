@@ -6,8 +6,8 @@ use mathlib.Core.Bool.{Bool, true, false, _&&_}
 use mathlib.Core.List.{List, [], _∷_}
 use lib.ListN.{length, length-append}
 use Rattle.definitions.specs.Bounded.{pick, bitOf}
-use Rattle.definitions.specs.Nodes.{Kind, True, Atom, Not, Or, Next, Until, Prev, Since, Run, End, Unknown, Node}
-use Rattle.definitions.specs.Rewriting.{Emit, emitted, emit, opening, itself, foreignAtom, plainNext, plainUntil, plainSince, shortNext, shortUntil, shortSince, Image, image, tolerantAt, part, Draft, step, steps, closing, closed, lastImage, rewriting}
+use Rattle.definitions.specs.Nodes.{Kind, True, Atom, Not, Or, Next, Until, Prev, Since, Run, End, Unknown, Node, node}
+use Rattle.definitions.specs.Rewriting.{Emit, emitted, emit, opening, itself, foreignAtom, plainNext, plainUntil, plainSince, shortNext, shortUntil, shortSince, Image, image, tolerantAt, meaningsOf, part, Draft, step, steps, closing, closed, lastImage, rewriting}
 use Rattle.definitions.specs.Longest.{mostNodes}
 use Rattle.theorems.proofs.RuleNodes.{RuleNode, RuleNodes}
 
@@ -34,7 +34,7 @@ cost short mask is Unknown a b = 0
 
 -- both images of a node, by its bracketed number
 pub part-count : (short : Bool) (mask : ℕ) (is : List Image) (x g h : ℕ) (k : Kind) (a b : ℕ) →
-    length (part short mask is x g true k a b) + length (part short mask is x h false k a b) ≡ cost short mask is k a b
+    length (part short true k (meaningsOf mask is (node k a b) true x g)) + length (part short false k (meaningsOf mask is (node k a b) false x h)) ≡ cost short mask is k a b
 unfolding pick
 part-count short mask is x g h True a b = refl
 part-count short mask is x g h Atom a b = go (bitOf mask a)
@@ -71,9 +71,9 @@ pub step-count : (short : Bool) (mask : ℕ) (D : Draft) (n : Node) →
     length ((step short mask D n) .nodes) ≡ length (D .nodes) + cost short mask (D .images) (n .kind) (n .first) (n .second)
 step-count short mask D n =
     let x : ℕ = length (D .nodes) in
-    let w : List Emit = part short mask (D .images) x x true (n .kind) (n .first) (n .second) in
+    let w : List Emit = part short true (n .kind) (meaningsOf mask (D .images) n true x x) in
     let T : List Node = emit (D .nodes) w in
-    let s : List Emit = part short mask (D .images) x (length T) false (n .kind) (n .first) (n .second) in
+    let s : List Emit = part short false (n .kind) (meaningsOf mask (D .images) n false x (length T)) in
     omega (arith, emit-count (D .nodes) w, emit-count T s, part-count short mask (D .images) x x (length T) (n .kind) (n .first) (n .second))
 
 -- the costs of a rule's nodes in turn

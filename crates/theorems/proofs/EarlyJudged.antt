@@ -9,12 +9,12 @@ use lib.Dec.{ltb}
 use borrow.Author.Tests.{ltb-true, not-true}
 use Rattle.definitions.specs.Limits.{accepted}
 use Rattle.definitions.specs.Bounded.{pick, bit, bitOf}
-use Rattle.definitions.specs.Nodes.{Node}
+use Rattle.definitions.specs.Nodes.{Node, nodeAt}
 use Rattle.definitions.specs.Tables.{Rule, nodesIn, isAtom}
 use Rattle.definitions.specs.Recordings.{Recording, firstStates, maskOf}
 use Rattle.definitions.specs.Projection.{localTrace}
 use Rattle.definitions.specs.Readings.{local, readFrom, verdict, Verdicts, localVerdicts}
-use Rattle.definitions.specs.Evidence.{nodeAt, wantedRows, decides, evidence}
+use Rattle.definitions.specs.Evidence.{wantedRows, decides, evidence}
 use Rattle.definitions.specs.Early.{begins, beginsFor, announced}
 use Rattle.definitions.specs.Operations.{answer, verdictValues, judgeLocalAnswer, evidenceOf}
 use Rattle.theorems.proofs.Choice.{by-test, both-true, bit-injective}

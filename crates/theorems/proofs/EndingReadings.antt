@@ -64,13 +64,13 @@ module _ (t : List ℕ) where
   pub closed-closed : isClosed t ≡ true → isClosed (withNewlines t) ≡ true
   closed-closed c = rw (with-line t c) (split-found newline (withNewlines (restOf t)) (lineOf t) (line-without t))
 
-  closed-same : isClosed (withNewlines t) ≡ isClosed t
+  pub closed-same : isClosed (withNewlines t) ≡ isClosed t
   closed-same = by-test (isClosed t) (λ c. closed-closed c ∙ sym c) (λ c. ap isClosed (open-same t c))
 
   closed-full : (u rest line : List ℕ) → u ≡ line ++ (newline ∷ rest) → isEmpty u ≡ false
   closed-full u rest line e = ne-eqb (length u) 0 (λ q. omega (arith, ap length e, length-append line (newline ∷ rest)))
 
-  empty-same : isEmpty (withNewlines t) ≡ isEmpty t
+  pub empty-same : isEmpty (withNewlines t) ≡ isEmpty t
   empty-same =
       by-test (isClosed t)
       (λ c. closed-full (withNewlines t) (withNewlines (restOf t)) (lineOf t) (with-line t c)

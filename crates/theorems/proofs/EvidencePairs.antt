@@ -10,10 +10,10 @@ use lib.Dec.{eqb, ltb, leb}
 use borrow.Author.Tests.{lt-ltb, ltb-true, le-leb, leb-true, eq-eqb, eqb-true}
 use Rattle.definitions.specs.Limits.{maxRuleNodes}
 use Rattle.definitions.specs.Bounded.{pick}
-use Rattle.definitions.specs.Nodes.{Node}
+use Rattle.definitions.specs.Nodes.{Node, nodeAt}
 use Rattle.definitions.specs.Tables.{isAtom}
 use Rattle.definitions.specs.Readings.{local}
-use Rattle.definitions.specs.Evidence.{wantedRows, nodeAt, Found, found, decides, foundAt, foundFrom, evidence, pairWord}
+use Rattle.definitions.specs.Evidence.{wantedRows, Found, found, decides, foundAt, foundFrom, evidence, pairWord}
 use Rattle.theorems.proofs.Choice.{by-test, both-true}
 
 -- P of each place and node

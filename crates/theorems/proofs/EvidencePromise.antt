@@ -10,14 +10,14 @@ use lib.ListN.{length, getD}
 use lib.Dec.{ltb}
 use borrow.Author.Tests.{lt-ltb, le-ltb, ltb-true, ltb-false, eq-eqb}
 use Rattle.definitions.specs.Bounded.{pick, bitOf}
-use Rattle.definitions.specs.Nodes.{Kind, True, Atom, Not, Or, Next, Until, Prev, Since, Run, End, Unknown, Node}
+use Rattle.definitions.specs.Nodes.{Kind, True, Atom, Not, Or, Next, Until, Prev, Since, Run, End, Unknown, Node, nodeAt}
 use Rattle.definitions.specs.Tables.{isAtom}
 use Rattle.definitions.specs.Readings.{Trace, localAtom, local, untilAt, prevAt, reading, readFrom, rowsOf, verdict}
-use Rattle.theorems.proofs.Choice.{by-test}
+use Rattle.theorems.proofs.Choice.{by-test, either-yes}
 use Rattle.theorems.proofs.Recursions.{prev-recursion}
 use Rattle.theorems.proofs.RuleNodes.{RuleNode, RuleNodes}
 use Rattle.theorems.proofs.Semantics.{Row}
-use Rattle.definitions.specs.Evidence.{takesFirst, takesSecond, under, wantedRows, nodeAt, Found, decides, evidence}
+use Rattle.definitions.specs.Evidence.{takesFirst, takesSecond, under, wantedRows, Found, decides, evidence}
 use Rattle.theorems.proofs.EvidenceSteps.{until-same, since-same}
 use Rattle.theorems.proofs.NodeReadings.{rule-at, reading-of}
 use Rattle.theorems.proofs.EvidencePairs.{Each, each-from}
@@ -136,10 +136,6 @@ module _ (mask : ℕ) (ws us : List ℕ) (ns : List Node) (weak : Bool) (nodes :
   bit-same j k l b e =
       each-from (SameBit ns ws us) (decides mask ws ns (wantedRows (local mask ws) ns weak)) j k e (length ns) l (length ws) 0 (omega arith) (omega arith) bits
 
-  either : (f : Bool → Bool) (d : Bool) → f d ≡ true → (f true || f false) ≡ true
-  either f true e = rw e
-  either f false e = rw (e, or-true)
-
   atoms-same : (m : ℕ) (d : Bool) (i : ℕ) → m < length ns → i < length ws → readFrom (wantedRows (local mask ws) ns weak) m d i ≡ true →
       isAtom ((nodeAt ns m) .kind) ≡ true → (grew ≡ true → localAtom mask ws ((nodeAt ns m) .first) d i ≡ not d) →
       localAtom mask us ((nodeAt ns m) .first) d i ≡ localAtom mask ws ((nodeAt ns m) .first) d i
@@ -154,7 +150,7 @@ module _ (mask : ℕ) (ws us : List ℕ) (ns : List Node) (weak : Bool) (nodes :
       rw (o, c, le-ltb (suc i) (length us) (omega arith))))
     where
       wanted : (readFrom (wantedRows (local mask ws) ns weak) m true i || readFrom (wantedRows (local mask ws) ns weak) m false i) ≡ true
-      wanted = either (λ d. readFrom (wantedRows (local mask ws) ns weak) m d i) d w
+      wanted = either-yes (λ d. readFrom (wantedRows (local mask ws) ns weak) m d i) d w
 
   -- every node that the walk comes to, at each place and in each reading, has the same value on both
   pub local-reached-same : (m : ℕ) (d : Bool) (i : ℕ) → m < length ns → i < length ws → readFrom (wantedRows (local mask ws) ns weak) m d i ≡ true →

@@ -192,6 +192,8 @@ module _ (d : Bool) (L : ℕ) (p q : ℕ → Bool) where
           (λ z. rw (guard, value-yes z, some-yes (fits p q i) (k - i) i (F .place) (F .from) (omega (arith, before)) (fits-stop z), and-false))
           (λ z. rw (guard, value-no z, every-fails p (k - i) i (F .place) (F .from) (omega (arith, before)) (p-stop z)))
 
+    -- "q at the first fitting k and p before it", and so where it is no: what an until takes is where the walk came to and what stops it there (in code
+    -- `until_step`, by `until-step` of `walk`; in plain words `TakenPlaces`)
     pub first-from : untilFirst d L p q i k ≡ (every i k (goesOn p q) && pHere (untilAt d L p q) p q k)
     first-from = by-test (every i k (goesOn p q)) (λ z. first-came z ∙ rw z) (λ z. first-stopped (first-no (goesOn p q) (k - i) i z) ∙ rw z)
 

@@ -27,6 +27,10 @@ some-none f (suc n) k h = rw (h k (omega arith) (omega arith)) (some-none f n (s
 pub every-fails : (f : ℕ → Bool) (n k j : ℕ) → k ≤ j → j < k + n → f j ≡ false → everyOf n k f ≡ false
 every-fails f n k j a b e = by-test (everyOf n k f) (λ z. absurd (true≢false (sym (every-at f n k j z a b) ∙ e))) (λ z. z)
 
+-- k is from i on, below L
+pub range-yes : (L i k : ℕ) → i ≤ k → k < L → (leb i k && ltb k L) ≡ true
+range-yes L i k a b = rw (le-leb i k a, lt-ltb k L b)
+
 -- the first place of a range where f is x
 pub record First (f : ℕ → Bool) (x : Bool) (n k : ℕ) : Type 0 where
   pub place : ℕ
@@ -66,9 +70,6 @@ and-true-no false z = z
 -- An until on a trace of L places, and one on a trace of M places, no fewer. What the first one takes has its value; if it has this value on the
 -- second trace too, so has the until. Only where the end decided must M be L.
 module _ (weak : Bool) (L M i : ℕ) (p q p′ q′ : ℕ → Bool) (inside : i < L) (longer : L ≤ M) where
-  within : (k : ℕ) → i ≤ k → k < L → (leb i k && ltb k L) ≡ true
-  within k a b = rw (le-leb i k a, lt-ltb k L b)
-
   every-to : (f : ℕ → Bool) (k : ℕ) → ((j : ℕ) → i ≤ j → j < k → f j ≡ true) → every i k f ≡ true
   every-to f k h = every-yes f (k - i) i (λ j a b. h j a (omega arith))
 
@@ -80,11 +81,11 @@ module _ (weak : Bool) (L M i : ℕ) (p q p′ q′ : ℕ → Bool) (inside : i 
       (second : (k : ℕ) → i ≤ k → k < L → untilSecond weak L p q i k ≡ true → q k ≡ true → q′ k ≡ true) where
     yes-first : (k : ℕ) → i ≤ k → k < L → some i (suc k) (fits p q i) ≡ false → p k ≡ true → p′ k ≡ true
     unfolding pick
-    yes-first k a b n e = first k a b (rw (within k a b, is, n)) e
+    yes-first k a b n e = first k a b (rw (range-yes L i k a b, is, n)) e
 
     yes-second : (k : ℕ) → i ≤ k → k < L → fits p q i k ≡ true → some i k (fits p q i) ≡ false → q′ k ≡ true
     unfolding pick
-    yes-second k a b f n = second k a b (rw (within k a b, is, f, n)) ((both-true (q k) (every i k p) f) .0)
+    yes-second k a b f n = second k a b (rw (range-yes L i k a b, is, f, n)) ((both-true (q k) (every i k p) f) .0)
 
     yes-fit : First (fits p q i) true (L - i) i → untilAt weak M p′ q′ i ≡ true
     yes-fit F =
@@ -118,14 +119,14 @@ module _ (weak : Bool) (L M i : ℕ) (p q p′ q′ : ℕ → Bool) (inside : i 
     unfolding pick
     no-second k a b e =
         let n : (q k && every i k p) ≡ false = some-no (fits p q i) (L - i) i k (parts .0) a (omega arith) in
-        second k a b (rw (within k a b, is, e)) (and-true-no (q k) (rw e at n))
+        second k a b (rw (range-yes L i k a b, is, e)) (and-true-no (q k) (rw e at n))
 
     no-fail : First p false (L - i) i → untilAt weak M p′ q′ i ≡ false
     unfolding pick
     no-fail F =
         let f : ℕ = F .place in
         let b : f < L = omega (arith, F .below) in
-        let here′ : p′ f ≡ false = first f (F .from) b (rw (within f (F .from) b, is, F .here, every-to p f (F .earlier))) (F .here) in
+        let here′ : p′ f ≡ false = first f (F .from) b (rw (range-yes L i f (F .from) b, is, F .here, every-to p f (F .earlier))) (F .here) in
         let all′ : every i M p′ ≡ false = every-fails p′ (M - i) i f (F .from) (omega arith) here′ in
         let none′ : some i M (fits p′ q′ i) ≡ false = none-to (fits p′ q′ i) M (λ j a c. go f (F .from) b here′ (F .earlier) j a (decLt f j)) in
         rw (none′, all′, and-false)

@@ -9,12 +9,12 @@ use lib.Dec.{eqb, ltb}
 use lib.ListN.{length}
 use borrow.Author.Tests.{lt-ltb, eqb-true}
 use Rattle.definitions.specs.Bounded.{some}
-use Rattle.definitions.specs.Nodes.{Kind, True, Atom, Not, Or, Next, Until, Prev, Since, Run, End, Unknown, Node}
+use Rattle.definitions.specs.Nodes.{Kind, True, Atom, Not, Or, Next, Until, Prev, Since, Run, End, Unknown, Node, nodeAt}
 use Rattle.definitions.specs.Readings.{Trace, reading, Rows, readFrom, rowsOf}
 use Rattle.theorems.proofs.Choice.{by-test, both-true}
 use Rattle.theorems.proofs.RuleNodes.{RuleNode, RuleNodes}
 use Rattle.theorems.proofs.Semantics.{Row}
-use Rattle.definitions.specs.Evidence.{takesFirst, takesSecond, under, takes, walkNode, nodeAt}
+use Rattle.definitions.specs.Evidence.{takesFirst, takesSecond, under, takes, walkNode}
 use Rattle.theorems.proofs.NodeReadings.{rule-at, reading-of}
 use Rattle.theorems.proofs.EvidenceSteps.{some-yes, first-yes}
 use Rattle.theorems.proofs.EvidenceWalk.{read-by}

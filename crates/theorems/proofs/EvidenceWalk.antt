@@ -9,12 +9,12 @@ use lib.ListN.{length, getD}
 use lib.Dec.{eqb, ltb}
 use borrow.Author.Tests.{lt-ltb, le-ltb, ltb-true, eq-eqb, eqb-true}
 use Rattle.definitions.specs.Bounded.{tabulate}
-use Rattle.definitions.specs.Nodes.{Kind, True, Atom, Not, Or, Next, Until, Prev, Since, Run, End, Unknown, Node}
+use Rattle.definitions.specs.Nodes.{Kind, True, Atom, Not, Or, Next, Until, Prev, Since, Run, End, Unknown, Node, nodeAt}
 use Rattle.definitions.specs.Readings.{Trace, Rows, noRows, rowOf, readFrom, rowsOf}
 use Rattle.theorems.proofs.Choice.{by-test, both-true}
 use Rattle.theorems.proofs.Tabulations.{tabulate-at}
 use Rattle.theorems.proofs.Semantics.{Row}
-use Rattle.definitions.specs.Evidence.{takesFirst, takesSecond, under, rowsBy, takes, walkNode, walkNodes, sameReading, startRows, wantedRows, nodeAt}
+use Rattle.definitions.specs.Evidence.{takesFirst, takesSecond, under, rowsBy, takes, walkNode, walkNodes, sameReading, startRows, wantedRows}
 use Rattle.theorems.proofs.EvidenceSteps.{some-yes, first-yes}
 
 abbrev pub tabulated : ℕ → Row → Rows

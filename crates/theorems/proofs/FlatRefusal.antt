@@ -12,7 +12,7 @@ use Rattle.definitions.specs.Bounded.{pick}
 use Rattle.definitions.specs.Lines.{onParsed}
 use Rattle.definitions.specs.OneLineSigns.{Sign}
 use Rattle.definitions.specs.OneLineGrammar.{Tree, Sentence, openAtOnce}
-use Rattle.definitions.specs.OneLineNodes.{formulaOf, nodesOf, largestAtom}
+use Rattle.definitions.specs.OneLineNodes.{ruleTreeOf, nodesOf, largestAtom}
 use Rattle.definitions.specs.OneLineReading.{treeOf}
 use Rattle.definitions.specs.OneLine.{sentenceRefusal}
 use Rattle.theorems.proofs.Choice.{by-test}
@@ -31,7 +31,7 @@ flatRefusal controller s =
 -- as many nodes as the signs add
 pub sentence-weight : (s : List Sign) (t : Tree) → Sentence s t → length (nodesOf t) ≡ weight s
 unfolding weight
-sentence-weight s t x = nodes-size (formulaOf t) 0 ∙ (sym (omega arith) ∙ phrase-weight x)
+sentence-weight s t x = nodes-size (ruleTreeOf t) 0 ∙ (sym (omega arith) ∙ phrase-weight x)
 
 -- no atom is above the limit where none of the signs is
 pub sentence-low : (s : List Sign) (t : Tree) → Sentence s t → lowAtoms s ≡ ltb (largestAtom t) atomCount

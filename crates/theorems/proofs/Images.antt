@@ -6,8 +6,8 @@ use mathlib.Core.Bool.{Bool, true, false, not, _&&_}
 use mathlib.Core.List.{List, [], _∷_, _++_}
 use lib.ListN.{length}
 use Rattle.definitions.specs.Bounded.{pick, bitOf}
-use Rattle.definitions.specs.Nodes.{Kind, True, Atom, Not, Or, Next, Until, Prev, Since, Run, End, Unknown, Node}
-use Rattle.definitions.specs.Rewriting.{emitted, emit, itself, foreignAtom, plainNext, plainUntil, plainSince, shortNext, shortUntil, shortSince, closing, Image, image, tolerantAt, tolerantOf, part, Draft, step, Rewritten, closed}
+use Rattle.definitions.specs.Nodes.{Kind, True, Atom, Not, Or, Next, Until, Prev, Since, Run, End, Unknown, Node, node}
+use Rattle.definitions.specs.Rewriting.{emitted, emit, itself, foreignAtom, plainNext, plainUntil, plainSince, shortNext, shortUntil, shortSince, closing, Image, image, tolerantAt, tolerantOf, meaningsOf, part, Draft, step, Rewritten, closed}
 use Rattle.theorems.proofs.RuleNodes.{RuleNode}
 use Rattle.theorems.proofs.Terms.{Term, ref, yes₀, atom₀, one, two, not₁, next₁, prev₁, or₂, until₂, since₂, comp, top, size, code, comp-size, top-last, comp-code}
 
@@ -109,7 +109,7 @@ module _ (j n : ℕ) where
   closing-code false a = refl
 
   part-code : (short : Bool) (mask : ℕ) (is : List Image) (x : ℕ) (d : Bool) (k : Kind) (a b : ℕ) →
-      emitted j n (part short mask is x n d k a b) ≡ code (termOf short mask is x d k a b) n
+      emitted j n (part short d k (meaningsOf mask is (node k a b) d x n)) ≡ code (termOf short mask is x d k a b) n
   part-code short mask is x d True a b = itself-code d x
   part-code short mask is x d Atom a b = atom-code (bitOf mask a) d x a
   part-code short mask is x d Not a b = refl
@@ -124,7 +124,7 @@ module _ (j n : ℕ) where
 
 -- a part emitted is its term written out
 pub emit-part : (T : List Node) (short : Bool) (mask : ℕ) (is : List Image) (x : ℕ) (d : Bool) (k : Kind) (a b : ℕ) →
-    emit T (part short mask is x (length T) d k a b) ≡ comp (termOf short mask is x d k a b) T
+    emit T (part short d k (meaningsOf mask is (node k a b) d x (length T))) ≡ comp (termOf short mask is x d k a b) T
 emit-part T short mask is x d k a b =
     rw (part-code (length T - 1) (length T) short mask is x d k a b) (sym (comp-code (termOf short mask is x d k a b) T))
 
@@ -225,7 +225,7 @@ step-terms short mask n D m r =
     let a : ℕ = m .first in
     let b : ℕ = m .second in
     let w : Term = termOf short mask is (length T) true k a b in
-    let ew : emit T (part short mask is (length T) (length T) true k a b) ≡ comp w T = emit-part T short mask is (length T) true k a b in
+    let ew : emit T (part short true k (meaningsOf mask is (node k a b) true (length T) (length T))) ≡ comp w T = emit-part T short mask is (length T) true k a b in
     rw (
       ew,
       emit-part (comp w T) short mask is (length T) false k a b,

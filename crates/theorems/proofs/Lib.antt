@@ -31,7 +31,11 @@ pub mod EvidenceSteps
 pub mod EvidenceWalk
 pub mod EvidenceRows
 pub mod EvidenceTurns
+pub mod TakenPlaces
+pub mod MirroredPlaces
+pub mod ReachedWanted
 pub mod EvidencePairs
+pub mod EvidenceBehind
 pub mod EvidencePromise
 pub mod EvidenceJudged
 pub mod Early
@@ -51,8 +55,11 @@ pub mod Longest
 pub mod TextEnds
 pub mod EndingReadings
 pub mod AcceptedEndings
+pub mod ReturnsElsewhere
 pub mod InputSplit
 pub mod ProgramEndings
+pub mod PartEndings
+pub mod OtherProgramEndings
 pub mod TextBeginnings
 pub mod Phrases
 pub mod PhraseUnique
@@ -62,6 +69,7 @@ pub mod OneLineMeaning
 pub mod OneLineTables
 pub mod OneLineAnswers
 pub mod FlatRefusal
+pub mod NumbersGone
 pub mod SessionChecks
 pub mod Sessions
 pub mod SessionCalls

@@ -10,10 +10,10 @@ use borrow.Author.Tests.{lt-ltb}
 use Rattle.definitions.specs.Limits.{maxStates}
 use Rattle.definitions.specs.Bounded.{pick}
 use Rattle.definitions.specs.Recordings.{recordingRefusal}
-use Rattle.definitions.specs.Sessions.{Space, Held, recordingHeld, image, openNumber, opened, Call, Open, Arrive, leavesAll, withStates, takes, afterAll, Sound, Made}
+use Rattle.definitions.specs.Sessions.{Space, Held, recordingHeld, spaceOf, openNumber, opened, Call, Open, Arrive, leavesAll, withStates, admits, heldAfterAll, Sound, Made}
 use Rattle.theorems.proofs.Beginnings.{Beginning, beginnings-accepted}
 use Rattle.theorems.proofs.SessionChecks.{few-states, opened-sound}
-use Rattle.theorems.proofs.SessionCalls.{accepted-leaves, open-number, taken-after, calls-image, held-same}
+use Rattle.theorems.proofs.SessionCalls.{accepted-leaves, open-number, taken-after, calls-space, held-same}
 
 -- the opening and the arrivals
 abbrev pub ownCalls : Held → List Call
@@ -21,9 +21,9 @@ ownCalls a = Open (length (a .masks)) (a .masks) (a .rule) ∷ map Arrive (a .st
 
 module _ (a : Held) (k : Sound a) where
   -- each state of what is held is taken after those before it
-  takes-next : (done later : List ℕ) (s : ℕ) → done ++ (s ∷ later) ≡ a .states → takes s (withStates a done) ≡ true
-  unfolding takes pick
-  takes-next done later s e =
+  admits-next : (done later : List ℕ) (s : ℕ) → done ++ (s ∷ later) ≡ a .states → admits s (withStates a done) ≡ true
+  unfolding admits pick
+  admits-next done later s e =
       let ss : List ℕ = done ++ (s ∷ []) in
       let j : ss ++ later ≡ a .states = append-assoc done (s ∷ []) later ∙ e in
       let n : length ss ≡ length done + 1 = length-append done (s ∷ []) in
@@ -41,12 +41,12 @@ module _ (a : Held) (k : Sound a) where
       = beginnings-accepted (recordingHeld (withStates a ss)) (recordingHeld a) B (k .states (omega arith)) in
       rw (lt-ltb (length done) maxStates (omega (arith, few-states a k)), z)
 
-  takes-all : (done later : List ℕ) → done ++ later ≡ a .states → afterAll (map Arrive later) (withStates a done) ≡ withStates a (a .states)
-  unfolding afterAll
-  takes-all done [] e = ap (withStates a) (sym (append-nil done) ∙ e)
-  takes-all done (s ∷ later) e =
-      ap (afterAll (map Arrive later)) (taken-after s (withStates a done) (takes-next done later s e))
-      ∙ takes-all (done ++ (s ∷ [])) later (append-assoc done (s ∷ []) later ∙ e)
+  admits-all : (done later : List ℕ) → done ++ later ≡ a .states → heldAfterAll (map Arrive later) (withStates a done) ≡ withStates a (a .states)
+  unfolding heldAfterAll
+  admits-all done [] e = ap (withStates a) (sym (append-nil done) ∙ e)
+  admits-all done (s ∷ later) e =
+      ap (heldAfterAll (map Arrive later)) (taken-after s (withStates a done) (admits-next done later s e))
+      ∙ admits-all (done ++ (s ∷ [])) later (append-assoc done (s ∷ []) later ∙ e)
 
   opened-empty : opened (length (a .masks)) (a .masks) (a .rule) ≡ withStates a []
   opened-empty =
@@ -64,5 +64,5 @@ made-by-its-own-calls h m =
     = ap (openNumber C (a .masks) (a .rule)) (m .is) ∙ (open-number a h k (m .full) C (a .masks) (a .rule) ∙ k .opens) in
     let arrivals : List Call = map Arrive (a .states) in
     ap (leavesAll arrivals) (accepted-leaves (Open C (a .masks) (a .rule)) h z)
-    ∙ (calls-image arrivals (opened C (a .masks) (a .rule)) h (opened-sound C (a .masks) (a .rule) (k .opens)) (m .full)
-    ∙ (ap (λ (x : Held). image x h) (ap (afterAll arrivals) (opened-empty a k) ∙ takes-all a k [] (a .states) refl) ∙ (held-same a h ∙ sym (m .is))))
+    ∙ (calls-space arrivals (opened C (a .masks) (a .rule)) h (opened-sound C (a .masks) (a .rule) (k .opens)) (m .full)
+    ∙ (ap (λ (x : Held). spaceOf x h) (ap (heldAfterAll arrivals) (opened-empty a k) ∙ admits-all a k [] (a .states) refl) ∙ (held-same a h ∙ sym (m .is))))

@@ -7,11 +7,10 @@ use mathlib.Core.Bool.{Bool, false}
 use mathlib.Core.List.{List, [], _∷_, _++_}
 use lib.ListN.{length, getD, length-append, List·getD-append}
 use lib.Seq.{getD-at}
-use Rattle.definitions.specs.Nodes.{Kind, True, Atom, Not, Or, Next, Until, Prev, Since, Run, End, Unknown, Node}
+use Rattle.definitions.specs.Nodes.{Kind, True, Atom, Not, Or, Next, Until, Prev, Since, Run, End, Unknown, Node, nodeAt}
 use Rattle.definitions.specs.Readings.{Trace, reading, Rows, noRows, rowOf, readFrom, nodeRows, rowsAfter, rowsOf}
 use Rattle.theorems.proofs.RuleNodes.{RuleNode, RuleNodes}
 use Rattle.theorems.proofs.Semantics.{Row, row-at}
-use Rattle.definitions.specs.Evidence.{nodeAt}
 
 pub rule-at : (m : ℕ) (ns : List Node) → RuleNodes m ns → (j : ℕ) → j < length ns → RuleNode (m + j) ((nodeAt ns j) .kind) ((nodeAt ns j) .first) ((nodeAt ns j) .second)
 rule-at m [] r j l = absurd (omega arith)

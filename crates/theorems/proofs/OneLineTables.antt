@@ -14,7 +14,7 @@ use Rattle.definitions.specs.Tables.{isRewritten, nodeRefusal, nodesRefusal, ru
 use Rattle.definitions.specs.OneLineSigns as sign
 use Rattle.definitions.specs.OneLineGrammar as tree
 use Rattle.definitions.specs.OneLineGrammar.{Tree}
-use Rattle.definitions.specs.OneLineNodes.{Formula, leaf, unary, binary, formulaOf, size, nodesFrom, nodesOf, largestAtom}
+use Rattle.definitions.specs.OneLineNodes.{RuleTree, atomic, unary, binary, ruleTreeOf, size, nodesFrom, nodesOf, largestAtom}
 use Rattle.theorems.proofs.Choice.{pick-true, none-or-else}
 use Rattle.theorems.proofs.NodeWords.{node-of-word, AllHeld}
 use Rattle.theorems.proofs.TableNodes.{TableNodes, nodes-append, nodes-held, node-accepted}
@@ -23,9 +23,9 @@ use Rattle.theorems.proofs.Phrases.{larger-second, larger-first}
 use Rattle.theorems.proofs.OneLineMeaning.{Writes, writes-true, writes-atom, writes-one, writes-two, tree-writes}
 
 -- as many nodes come out as the size says
-pub nodes-size : (f : Formula) (b : ℕ) → length (nodesFrom b f) ≡ size f
+pub nodes-size : (f : RuleTree) (b : ℕ) → length (nodesFrom b f) ≡ size f
 unfolding nodesFrom size
-nodes-size (leaf k n) b = refl
+nodes-size (atomic k n) b = refl
 nodes-size (unary k p) b = omega (arith, length-append (nodesFrom b p) (node k (b + size p - 1) 0 ∷ []), nodes-size p b)
 nodes-size (binary k p q) b =
     let last = node k (b + size p - 1) (b + size p + size q - 1) ∷ [] in
@@ -37,32 +37,32 @@ nodes-size (binary k p q) b =
       nodes-size q (b + size p),
     )
 
-pub size-some : (f : Formula) → 0 < size f
+pub size-some : (f : RuleTree) → 0 < size f
 unfolding size
-size-some (leaf k n) = omega arith
+size-some (atomic k n) = omega arith
 size-some (unary k p) = omega arith
 size-some (binary k p q) = omega arith
 
 -- each atom is below m
-abbrev AtomsBelow : ℕ → Formula → Type 0
-AtomsBelow m (leaf k n) = n < m
+abbrev AtomsBelow : ℕ → RuleTree → Type 0
+AtomsBelow m (atomic k n) = n < m
 AtomsBelow m (unary k p) = AtomsBelow m p
 AtomsBelow m (binary k p q) = AtomsBelow m p × AtomsBelow m q
 
-tree-atoms : (m : ℕ) (t : Tree) → largestAtom t < m → AtomsBelow m (formulaOf t)
-unfolding formulaOf largestAtom
-tree-atoms m tree.always h = h
-tree-atoms m (tree.reading n) h = h
-tree-atoms m (tree.one sign.Not p) h = tree-atoms m p h
-tree-atoms m (tree.one sign.Next p) h = tree-atoms m p h
-tree-atoms m (tree.one sign.Prev p) h = tree-atoms m p h
-tree-atoms m (tree.one sign.Future p) h = (omega arith, tree-atoms m p h)
-tree-atoms m (tree.one sign.Always p) h = (omega arith, tree-atoms m p h)
-tree-atoms m (tree.two sign.Implies p q) h = (tree-atoms m p (omega (arith, larger-first (largestAtom p) (largestAtom q))), tree-atoms m q (omega (arith, larger-second (largestAtom p) (largestAtom q))))
-tree-atoms m (tree.two sign.Or p q) h = (tree-atoms m p (omega (arith, larger-first (largestAtom p) (largestAtom q))), tree-atoms m q (omega (arith, larger-second (largestAtom p) (largestAtom q))))
-tree-atoms m (tree.two sign.And p q) h = (tree-atoms m p (omega (arith, larger-first (largestAtom p) (largestAtom q))), tree-atoms m q (omega (arith, larger-second (largestAtom p) (largestAtom q))))
-tree-atoms m (tree.two sign.Until p q) h = (tree-atoms m p (omega (arith, larger-first (largestAtom p) (largestAtom q))), tree-atoms m q (omega (arith, larger-second (largestAtom p) (largestAtom q))))
-tree-atoms m (tree.two sign.Since p q) h = (tree-atoms m p (omega (arith, larger-first (largestAtom p) (largestAtom q))), tree-atoms m q (omega (arith, larger-second (largestAtom p) (largestAtom q))))
+tree-atoms : (m : ℕ) (t : Tree) → largestAtom t < m → AtomsBelow m (ruleTreeOf t)
+unfolding ruleTreeOf largestAtom
+tree-atoms m tree.truth h = h
+tree-atoms m (tree.atom n) h = h
+tree-atoms m (tree.prefixed sign.Not p) h = tree-atoms m p h
+tree-atoms m (tree.prefixed sign.Next p) h = tree-atoms m p h
+tree-atoms m (tree.prefixed sign.Prev p) h = tree-atoms m p h
+tree-atoms m (tree.prefixed sign.Future p) h = (omega arith, tree-atoms m p h)
+tree-atoms m (tree.prefixed sign.Always p) h = (omega arith, tree-atoms m p h)
+tree-atoms m (tree.joined sign.Implies p q) h = (tree-atoms m p (omega (arith, larger-first (largestAtom p) (largestAtom q))), tree-atoms m q (omega (arith, larger-second (largestAtom p) (largestAtom q))))
+tree-atoms m (tree.joined sign.Or p q) h = (tree-atoms m p (omega (arith, larger-first (largestAtom p) (largestAtom q))), tree-atoms m q (omega (arith, larger-second (largestAtom p) (largestAtom q))))
+tree-atoms m (tree.joined sign.And p q) h = (tree-atoms m p (omega (arith, larger-first (largestAtom p) (largestAtom q))), tree-atoms m q (omega (arith, larger-second (largestAtom p) (largestAtom q))))
+tree-atoms m (tree.joined sign.Until p q) h = (tree-atoms m p (omega (arith, larger-first (largestAtom p) (largestAtom q))), tree-atoms m q (omega (arith, larger-second (largestAtom p) (largestAtom q))))
+tree-atoms m (tree.joined sign.Since p q) h = (tree-atoms m p (omega (arith, larger-first (largestAtom p) (largestAtom q))), tree-atoms m q (omega (arith, larger-second (largestAtom p) (largestAtom q))))
 
 -- no kind that only rewritten tables have
 abbrev RuleKinds : List Node → Type 0
@@ -83,7 +83,7 @@ binary-kind or₂ = refl
 binary-kind until₂ = refl
 binary-kind since₂ = refl
 
-rule-kinds : {f : Formula} {x : Term} → Writes f x → (b : ℕ) → RuleKinds (nodesFrom b f)
+rule-kinds : {f : RuleTree} {x : Term} → Writes f x → (b : ℕ) → RuleKinds (nodesFrom b f)
 unfolding nodesFrom
 rule-kinds writes-true b = (refl, tt)
 rule-kinds (writes-atom n) b = (refl, tt)
@@ -102,7 +102,7 @@ binary-node or₂ i a b h k = ((h, k), tt)
 binary-node until₂ i a b h k = ((h, k), tt)
 binary-node since₂ i a b h k = ((h, k), tt)
 
-rule-nodes : {f : Formula} {x : Term} → Writes f x → (b : ℕ) → AtomsBelow atomCount f → TableNodes b (nodesFrom b f)
+rule-nodes : {f : RuleTree} {x : Term} → Writes f x → (b : ℕ) → AtomsBelow atomCount f → TableNodes b (nodesFrom b f)
 unfolding nodesFrom
 rule-nodes writes-true b a = ((refl, refl), tt)
 rule-nodes (writes-atom n) b a = ((a, refl), tt)
@@ -132,7 +132,7 @@ pub tree-accepted : (controller : ℕ) (t : Tree) (more : List ℕ) → length (
 unfolding ruleRefusal ruleHeadingRefusal
 tree-accepted controller t more few low c =
     let w = tree-writes t in
-    let n : 1 ≤ length (nodesOf t) = omega (arith, nodes-size (formulaOf t) 0, size-some (formulaOf t)) in
+    let n : 1 ≤ length (nodesOf t) = omega (arith, nodes-size (ruleTreeOf t) 0, size-some (ruleTreeOf t)) in
     let nodes = rule-nodes w 0 (tree-atoms atomCount t low) in
     let held = nodes-held 0 (nodesOf t) (omega arith) nodes in
     none-or-else _ _

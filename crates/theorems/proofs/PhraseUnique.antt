@@ -3,8 +3,8 @@ use mathlib.Core.Path.{_≡_, refl}
 use Prim.Native.Nat.{ℕ, _<_}
 use native.Mathlib.Omega.{arith}
 use mathlib.Core.List.{List, _∷_}
-use Rattle.definitions.specs.OneLineSigns.{Sign, truth, atom, before, between, opening, closing, Prefix, Implies, Or, And, Until, Since}
-use Rattle.definitions.specs.OneLineGrammar.{Tree, always, reading, one, two, Level, Arrows, Ors, Ands, Untils, Prefixes, Primaries, Phrase, arrow, noArrow, or, noOr, and, noAnd, until, since, noUntil, prefix, noPrefix, isTrue, isAtom, bracketed, Sentence}
+use Rattle.definitions.specs.OneLineSigns.{Sign, trueSign, atomSign, prefixSign, infixSign, openBracket, closeBracket, Prefix, Implies, Or, And, Until, Since}
+use Rattle.definitions.specs.OneLineGrammar.{Tree, truth, atom, prefixed, joined, Level, Arrows, Ors, Ands, Untils, Prefixes, Primaries, Phrase, arrow, noArrow, or, noOr, and, noAnd, until, since, noUntil, prefix, noPrefix, truthAlone, atomAlone, bracketed, Sentence}
 use Rattle.theorems.proofs.Phrases.{tight}
 
 -- what a reader is about: a phrase, or what may come after a first operand that it has read
@@ -15,22 +15,22 @@ data Goal : Type 0 where
 -- the reader's steps
 data Read : Goal → List Sign → List Sign → Tree → Type 0 where
   r-arrows : {s v u : List Sign} {p t : Tree} → Read ors s v p → Read (arrows-after p) v u t → Read arrows s u t
-  r-arrow : {v u : List Sign} {p q : Tree} → Read arrows v u q → Read (arrows-after p) (between Implies ∷ v) u (two Implies p q)
+  r-arrow : {v u : List Sign} {p q : Tree} → Read arrows v u q → Read (arrows-after p) (infixSign Implies ∷ v) u (joined Implies p q)
   r-arrow-stop : {u : List Sign} {p : Tree} → tight u < 1 → Read (arrows-after p) u u p
   r-ors : {s v u : List Sign} {p t : Tree} → Read ands s v p → Read (ors-after p) v u t → Read ors s u t
-  r-or : {v w u : List Sign} {p q t : Tree} → Read ands v w q → Read (ors-after (two Or p q)) w u t → Read (ors-after p) (between Or ∷ v) u t
+  r-or : {v w u : List Sign} {p q t : Tree} → Read ands v w q → Read (ors-after (joined Or p q)) w u t → Read (ors-after p) (infixSign Or ∷ v) u t
   r-or-stop : {u : List Sign} {p : Tree} → tight u < 2 → Read (ors-after p) u u p
   r-ands : {s v u : List Sign} {p t : Tree} → Read untils s v p → Read (ands-after p) v u t → Read ands s u t
-  r-and : {v w u : List Sign} {p q t : Tree} → Read untils v w q → Read (ands-after (two And p q)) w u t → Read (ands-after p) (between And ∷ v) u t
+  r-and : {v w u : List Sign} {p q t : Tree} → Read untils v w q → Read (ands-after (joined And p q)) w u t → Read (ands-after p) (infixSign And ∷ v) u t
   r-and-stop : {u : List Sign} {p : Tree} → tight u < 3 → Read (ands-after p) u u p
   r-untils : {s v u : List Sign} {p t : Tree} → Read operand s v p → Read (untils-after p) v u t → Read untils s u t
-  r-until : {v u : List Sign} {p q : Tree} → Read untils v u q → Read (untils-after p) (between Until ∷ v) u (two Until p q)
-  r-since : {v u : List Sign} {p q : Tree} → Read untils v u q → Read (untils-after p) (between Since ∷ v) u (two Since p q)
+  r-until : {v u : List Sign} {p q : Tree} → Read untils v u q → Read (untils-after p) (infixSign Until ∷ v) u (joined Until p q)
+  r-since : {v u : List Sign} {p q : Tree} → Read untils v u q → Read (untils-after p) (infixSign Since ∷ v) u (joined Since p q)
   r-until-stop : {u : List Sign} {p : Tree} → tight u < 4 → Read (untils-after p) u u p
-  r-prefix : {s u : List Sign} {p : Tree} (x : Prefix) → Read operand s u p → Read operand (before x ∷ s) u (one x p)
-  r-true : {u : List Sign} → Read operand (truth ∷ u) u always
-  r-atom : {u : List Sign} (n : ℕ) → Read operand (atom n ∷ u) u (reading n)
-  r-brackets : {s u : List Sign} {p : Tree} → Read arrows s (closing ∷ u) p → Read operand (opening ∷ s) u p
+  r-prefix : {s u : List Sign} {p : Tree} (x : Prefix) → Read operand s u p → Read operand (prefixSign x ∷ s) u (prefixed x p)
+  r-true : {u : List Sign} → Read operand (trueSign ∷ u) u truth
+  r-atom : {u : List Sign} (n : ℕ) → Read operand (atomSign n ∷ u) u (atom n)
+  r-brackets : {s u : List Sign} {p : Tree} → Read arrows s (closeBracket ∷ u) p → Read operand (openBracket ∷ s) u p
 
 -- what following a phrase of a level means; to the left, a reader goes on with what it has read
 abbrev Follows : Level → List Sign → List Sign → Tree → Type 0
@@ -53,8 +53,8 @@ follow (since x y) = λ h. r-untils (follow x) (r-since (follow y h))
 follow (noUntil x) = λ h. r-untils (follow x) (r-until-stop h)
 follow (prefix x y) = r-prefix x (follow y)
 follow (noPrefix x) = follow x
-follow isTrue = r-true
-follow (isAtom n) = r-atom n
+follow truthAlone = r-true
+follow (atomAlone n) = r-atom n
 follow (bracketed x) = r-brackets (follow x (omega arith))
 
 -- two readings are one

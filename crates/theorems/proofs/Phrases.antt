@@ -10,9 +10,9 @@ use lib.Dec.{ltb}
 use borrow.Author.Tests.{lt-ltb, ltb-true, ltb-false}
 use Rattle.definitions.specs.Limits.{atomCount}
 use Rattle.definitions.specs.Bounded.{pick}
-use Rattle.definitions.specs.OneLineSigns.{Sign, truth, atom, before, between, opening, closing, Prefix, Not, Next, Prev, Future, Always, Infix, Implies, Or, And, Until, Since}
-use Rattle.definitions.specs.OneLineGrammar.{Tree, one, two, Level, Phrase, arrow, noArrow, or, noOr, and, noAnd, until, since, noUntil, prefix, noPrefix, isTrue, isAtom, bracketed, larger, mostOpen}
-use Rattle.definitions.specs.OneLineNodes.{formulaOf, size, largestAtom}
+use Rattle.definitions.specs.OneLineSigns.{Sign, trueSign, atomSign, prefixSign, infixSign, openBracket, closeBracket, Prefix, Not, Next, Prev, Future, Always, Infix, Implies, Or, And, Until, Since}
+use Rattle.definitions.specs.OneLineGrammar.{Tree, prefixed, joined, Level, Phrase, arrow, noArrow, or, noOr, and, noAnd, until, since, noUntil, prefix, noPrefix, truthAlone, atomAlone, bracketed, larger, mostOpen}
+use Rattle.definitions.specs.OneLineNodes.{ruleTreeOf, size, largestAtom}
 use Rattle.definitions.specs.OneLineReading.{strength}
 use Rattle.theorems.proofs.Choice.{by-test}
 
@@ -25,28 +25,28 @@ unfoldable pub flat : List Sign → Due → ℕ → Bool
 flat [] operand k = false
 flat [] operator zero = true
 flat [] operator (suc k) = false
-flat (truth ∷ s) operand k = flat s operator k
-flat (truth ∷ s) operator k = false
-flat (atom n ∷ s) operand k = flat s operator k
-flat (atom n ∷ s) operator k = false
-flat (before x ∷ s) operand k = flat s operand k
-flat (before x ∷ s) operator k = false
-flat (between x ∷ s) operand k = false
-flat (between x ∷ s) operator k = flat s operand k
-flat (opening ∷ s) operand k = flat s operand (suc k)
-flat (opening ∷ s) operator k = false
-flat (closing ∷ s) operand k = false
-flat (closing ∷ s) operator zero = false
-flat (closing ∷ s) operator (suc k) = flat s operator k
+flat (trueSign ∷ s) operand k = flat s operator k
+flat (trueSign ∷ s) operator k = false
+flat (atomSign n ∷ s) operand k = flat s operator k
+flat (atomSign n ∷ s) operator k = false
+flat (prefixSign x ∷ s) operand k = flat s operand k
+flat (prefixSign x ∷ s) operator k = false
+flat (infixSign x ∷ s) operand k = false
+flat (infixSign x ∷ s) operator k = flat s operand k
+flat (openBracket ∷ s) operand k = flat s operand (suc k)
+flat (openBracket ∷ s) operator k = false
+flat (closeBracket ∷ s) operand k = false
+flat (closeBracket ∷ s) operator zero = false
+flat (closeBracket ∷ s) operator (suc k) = flat s operator k
 
 -- how tightly a sign binds, 0 where it stands between no operands
 abbrev pub signStrength : Sign → ℕ
-signStrength truth = 0
-signStrength (atom n) = 0
-signStrength (before x) = 0
-signStrength (between x) = strength x
-signStrength opening = 0
-signStrength closing = 0
+signStrength trueSign = 0
+signStrength (atomSign n) = 0
+signStrength (prefixSign x) = 0
+signStrength (infixSign x) = strength x
+signStrength openBracket = 0
+signStrength closeBracket = 0
 
 -- how tightly the first sign binds
 abbrev pub tight : List Sign → ℕ
@@ -69,12 +69,12 @@ infixNodes Until = 1
 infixNodes Since = 1
 
 unfoldable pub signNodes : Sign → ℕ
-signNodes truth = 1
-signNodes (atom n) = 1
-signNodes (before x) = prefixNodes x
-signNodes (between x) = infixNodes x
-signNodes opening = 0
-signNodes closing = 0
+signNodes trueSign = 1
+signNodes (atomSign n) = 1
+signNodes (prefixSign x) = prefixNodes x
+signNodes (infixSign x) = infixNodes x
+signNodes openBracket = 0
+signNodes closeBracket = 0
 
 -- how many nodes the signs add
 unfoldable pub weight : List Sign → ℕ
@@ -83,12 +83,12 @@ weight (x ∷ s) = signNodes x + weight s
 
 -- each atom is below the limit
 unfoldable pub signLow : Sign → Bool
-signLow truth = true
-signLow (atom n) = ltb n atomCount
-signLow (before x) = true
-signLow (between x) = true
-signLow opening = true
-signLow closing = true
+signLow trueSign = true
+signLow (atomSign n) = ltb n atomCount
+signLow (prefixSign x) = true
+signLow (infixSign x) = true
+signLow openBracket = true
+signLow closeBracket = true
 
 unfoldable pub lowAtoms : List Sign → Bool
 lowAtoms [] = true
@@ -96,16 +96,16 @@ lowAtoms (x ∷ s) = signLow x && lowAtoms s
 
 pub tight-most : (u : List Sign) → tight u < 5
 tight-most [] = omega arith
-tight-most (truth ∷ u) = omega arith
-tight-most (atom n ∷ u) = omega arith
-tight-most (before x ∷ u) = omega arith
-tight-most (between Implies ∷ u) = omega arith
-tight-most (between Or ∷ u) = omega arith
-tight-most (between And ∷ u) = omega arith
-tight-most (between Until ∷ u) = omega arith
-tight-most (between Since ∷ u) = omega arith
-tight-most (opening ∷ u) = omega arith
-tight-most (closing ∷ u) = omega arith
+tight-most (trueSign ∷ u) = omega arith
+tight-most (atomSign n ∷ u) = omega arith
+tight-most (prefixSign x ∷ u) = omega arith
+tight-most (infixSign Implies ∷ u) = omega arith
+tight-most (infixSign Or ∷ u) = omega arith
+tight-most (infixSign And ∷ u) = omega arith
+tight-most (infixSign Until ∷ u) = omega arith
+tight-most (infixSign Since ∷ u) = omega arith
+tight-most (openBracket ∷ u) = omega arith
+tight-most (closeBracket ∷ u) = omega arith
 
 -- an operand was due, and then an operator is
 pub phrase-flat : {l : Level} {s u : List Sign} {t : Tree} → Phrase l s u t → (k : ℕ) → flat s operand k ≡ flat u operator k
@@ -121,8 +121,8 @@ phrase-flat (since x y) k = phrase-flat x k ∙ phrase-flat y k
 phrase-flat (noUntil x) k = phrase-flat x k
 phrase-flat (prefix x y) k = phrase-flat y k
 phrase-flat (noPrefix x) k = phrase-flat x k
-phrase-flat isTrue k = refl
-phrase-flat (isAtom n) k = refl
+phrase-flat truthAlone k = refl
+phrase-flat (atomAlone n) k = refl
 phrase-flat (bracketed x) k = phrase-flat x (suc k)
 
 pub phrase-shorter : {l : Level} {s u : List Sign} {t : Tree} → Phrase l s u t → length u < length s
@@ -137,21 +137,21 @@ phrase-shorter (since x y) = omega (arith, phrase-shorter x, phrase-shorter y)
 phrase-shorter (noUntil x) = phrase-shorter x
 phrase-shorter (prefix x y) = omega (arith, phrase-shorter y)
 phrase-shorter (noPrefix x) = phrase-shorter x
-phrase-shorter isTrue = omega arith
-phrase-shorter (isAtom n) = omega arith
+phrase-shorter truthAlone = omega arith
+phrase-shorter (atomAlone n) = omega arith
 phrase-shorter (bracketed x) = omega (arith, phrase-shorter x)
 
 -- a prefix and an infix sign add so many nodes
-pub prefix-size : (x : Prefix) (p : Tree) → size (formulaOf (one x p)) ≡ size (formulaOf p) + prefixNodes x
-unfolding size formulaOf prefixNodes
+pub prefix-size : (x : Prefix) (p : Tree) → size (ruleTreeOf (prefixed x p)) ≡ size (ruleTreeOf p) + prefixNodes x
+unfolding size ruleTreeOf prefixNodes
 prefix-size Not p = refl
 prefix-size Next p = refl
 prefix-size Prev p = refl
 prefix-size Future p = omega arith
 prefix-size Always p = omega arith
 
-pub infix-size : (x : Infix) (p q : Tree) → size (formulaOf (two x p q)) ≡ size (formulaOf p) + (size (formulaOf q) + infixNodes x)
-unfolding size formulaOf infixNodes
+pub infix-size : (x : Infix) (p q : Tree) → size (ruleTreeOf (joined x p q)) ≡ size (ruleTreeOf p) + (size (ruleTreeOf q) + infixNodes x)
+unfolding size ruleTreeOf infixNodes
 infix-size Implies p q = omega arith
 infix-size Or p q = refl
 infix-size And p q = omega arith
@@ -159,8 +159,8 @@ infix-size Until p q = refl
 infix-size Since p q = refl
 
 -- the nodes of a phrase are those that its signs add
-pub phrase-weight : {l : Level} {s u : List Sign} {t : Tree} → Phrase l s u t → size (formulaOf t) + weight u ≡ weight s
-unfolding size formulaOf weight signNodes
+pub phrase-weight : {l : Level} {s u : List Sign} {t : Tree} → Phrase l s u t → size (ruleTreeOf t) + weight u ≡ weight s
+unfolding size ruleTreeOf weight signNodes
 phrase-weight (arrow {p = p} {q = q} x y) = omega (arith, phrase-weight x, phrase-weight y, infix-size Implies p q)
 phrase-weight (noArrow x) = phrase-weight x
 phrase-weight (or {p = p} {q = q} x y) = omega (arith, phrase-weight x, phrase-weight y, infix-size Or p q)
@@ -172,8 +172,8 @@ phrase-weight (since {p = p} {q = q} x y) = omega (arith, phrase-weight x, phras
 phrase-weight (noUntil x) = phrase-weight x
 phrase-weight (prefix {p = p} x y) = omega (arith, phrase-weight y, prefix-size x p)
 phrase-weight (noPrefix x) = phrase-weight x
-phrase-weight isTrue = refl
-phrase-weight (isAtom n) = refl
+phrase-weight truthAlone = refl
+phrase-weight (atomAlone n) = refl
 phrase-weight (bracketed x) = omega (arith, phrase-weight x)
 
 pub larger-low : (m n k : ℕ) → ltb (larger m n) k ≡ (ltb m k && ltb n k)
@@ -212,8 +212,8 @@ phrase-low (since {p = p} {q = q} x y) = low-two p q _ _ _ (phrase-low x) (phras
 phrase-low (noUntil x) = phrase-low x
 phrase-low (prefix x y) = phrase-low y
 phrase-low (noPrefix x) = phrase-low x
-phrase-low isTrue = refl
-phrase-low (isAtom n) = refl
+phrase-low truthAlone = refl
+phrase-low (atomAlone n) = refl
 phrase-low (bracketed x) = phrase-low x
 
 pub larger-first : (m n : ℕ) → m ≤ larger m n
@@ -228,12 +228,12 @@ larger-second m n = by-test (ltb m n) (λ e. rw e (omega arith)) (λ e. rw e (om
 pub most-grows : (most k : ℕ) (s : List Sign) → most ≤ mostOpen most k s
 unfolding mostOpen
 most-grows most k [] = omega arith
-most-grows most k (truth ∷ s) = most-grows most k s
-most-grows most k (atom n ∷ s) = most-grows most k s
-most-grows most k (before x ∷ s) = most-grows most k s
-most-grows most k (between x ∷ s) = most-grows most k s
-most-grows most k (opening ∷ s) = omega (arith, larger-first most (k + 1), most-grows (larger most (k + 1)) (k + 1) s)
-most-grows most k (closing ∷ s) = most-grows most (k - 1) s
+most-grows most k (trueSign ∷ s) = most-grows most k s
+most-grows most k (atomSign n ∷ s) = most-grows most k s
+most-grows most k (prefixSign x ∷ s) = most-grows most k s
+most-grows most k (infixSign x ∷ s) = most-grows most k s
+most-grows most k (openBracket ∷ s) = omega (arith, larger-first most (k + 1), most-grows (larger most (k + 1)) (k + 1) s)
+most-grows most k (closeBracket ∷ s) = most-grows most (k - 1) s
 
 -- as many brackets are open after a phrase as before it
 pub record Opened (most k : ℕ) (s u : List Sign) : Type 0 where
@@ -241,13 +241,13 @@ pub record Opened (most k : ℕ) (s u : List Sign) : Type 0 where
   pub grows : most ≤ more
   pub on : mostOpen most k s ≡ mostOpen more k u
 
-opened-two : {most k : ℕ} {s v u : List Sign} (x : Infix) → Opened most k s (between x ∷ v) → ((m : ℕ) → Opened m k v u) → Opened most k s u
+opened-two : {most k : ℕ} {s v u : List Sign} (x : Infix) → Opened most k s (infixSign x ∷ v) → ((m : ℕ) → Opened m k v u) → Opened most k s u
 unfolding mostOpen
 opened-two x e f =
     let g = f (e .more) in
     record { more = g .more; grows = omega (arith, e .grows, g .grows); on = e .on ∙ g .on }
 
-opened-in : (most k : ℕ) (s u : List Sign) → Opened (larger most (k + 1)) (k + 1) s (closing ∷ u) → Opened most k (opening ∷ s) u
+opened-in : (most k : ℕ) (s u : List Sign) → Opened (larger most (k + 1)) (k + 1) s (closeBracket ∷ u) → Opened most k (openBracket ∷ s) u
 unfolding mostOpen
 opened-in most k s u e =
     let z : k + 1 - 1 ≡ k = omega arith in
@@ -269,6 +269,6 @@ phrase-opened (since x y) most k = opened-two Since (phrase-opened x most k) (λ
 phrase-opened (noUntil x) most k = phrase-opened x most k
 phrase-opened (prefix x y) most k = let e = phrase-opened y most k in record { more = e .more; grows = e .grows; on = e .on }
 phrase-opened (noPrefix x) most k = phrase-opened x most k
-phrase-opened (isTrue {u = u}) most k = opened-none most k (truth ∷ u) u refl
-phrase-opened (isAtom {u = u} n) most k = opened-none most k (atom n ∷ u) u refl
+phrase-opened (truthAlone {u = u}) most k = opened-none most k (trueSign ∷ u) u refl
+phrase-opened (atomAlone {u = u} n) most k = opened-none most k (atomSign n ∷ u) u refl
 phrase-opened (bracketed {s = s} {u = u} x) most k = opened-in most k s u (phrase-opened x (larger most (k + 1)) (k + 1))

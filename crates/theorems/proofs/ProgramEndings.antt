@@ -11,7 +11,7 @@ use borrow.Author.Tests.{ltb-true, le-ltb}
 use Rattle.definitions.specs.Limits.{maxInputBytes}
 use Rattle.definitions.specs.Bounded.{pick}
 use Rattle.definitions.specs.Lines.{newline, before, upTo, isClosed, lineOf, restAt, restOf, withNewlines, same}
-use Rattle.definitions.specs.Program.{splitLine, ruleLength, ruleIn, recordingIn, textsOutput, programOutput}
+use Rattle.definitions.specs.Program.{splitLine, ruleLength, ruleTextIn, recordingTextIn, textsOutput, programOutput}
 use Rattle.theorems.proofs.Choice.{by-test}
 use Rattle.theorems.proofs.SplitLaws.{found-byte}
 use Rattle.theorems.proofs.EndingLaws.{with-front, with-short, open-same}
@@ -101,19 +101,19 @@ module _ (input : List ℕ) (p : Settled input) where
   fuel : ruleLength (length (withNewlines input)) (withNewlines input) ≡ ruleLength (length input) (withNewlines input)
   fuel = split-enough (length (withNewlines input)) (length input) (withNewlines input) (omega arith) (with-short input)
 
-  pub rule-split : ruleIn (withNewlines input) ≡ withNewlines (ruleIn input)
+  pub rule-split : ruleTextIn (withNewlines input) ≡ withNewlines (ruleTextIn input)
   rule-split = ap (λ (k : ℕ). take k (withNewlines input)) fuel ∙ rule-part (length input) input p
 
-  pub recording-split : recordingIn (withNewlines input) ≡ withNewlines (recordingIn input)
+  pub recording-split : recordingTextIn (withNewlines input) ≡ withNewlines (recordingTextIn input)
   recording-split = ap (λ (k : ℕ). restOf (drop k (withNewlines input))) fuel ∙ recording-part (length input) input p
 
-rule-settled : (input : List ℕ) → Settled input → Settled (ruleIn input)
+pub rule-settled : (input : List ℕ) → Settled input → Settled (ruleTextIn input)
 rule-settled input p =
-    ap withNewlines (sym (rule-split input p)) ∙ (sym (rule-split (withNewlines input) (ap withNewlines p)) ∙ (ap ruleIn p ∙ rule-split input p))
+    ap withNewlines (sym (rule-split input p)) ∙ (sym (rule-split (withNewlines input) (ap withNewlines p)) ∙ (ap ruleTextIn p ∙ rule-split input p))
 
-recording-settled : (input : List ℕ) → Settled input → Settled (recordingIn input)
+pub recording-settled : (input : List ℕ) → Settled input → Settled (recordingTextIn input)
 recording-settled input p =
-    ap withNewlines (sym (recording-split input p)) ∙ (sym (recording-split (withNewlines input) (ap withNewlines p)) ∙ (ap recordingIn p ∙ recording-split input p))
+    ap withNewlines (sym (recording-split input p)) ∙ (sym (recording-split (withNewlines input) (ap withNewlines p)) ∙ (ap recordingTextIn p ∙ recording-split input p))
 
 -- ---- what is printed
 texts-same : (rule recording : List ℕ) → Settled rule → Settled recording → textsOutput (withNewlines rule) (withNewlines recording) ≡ textsOutput rule recording
@@ -127,4 +127,4 @@ unfolding programOutput
 program-same input p h =
     let few : length (withNewlines input) ≤ maxInputBytes = omega (arith, with-short input) in
     rw (le-ltb maxInputBytes (length input) h, le-ltb maxInputBytes (length (withNewlines input)) few, rule-split input p, recording-split input p)
-    (ap (pick false _) (texts-same (ruleIn input) (recordingIn input) (rule-settled input p) (recording-settled input p)))
+    (ap (pick false _) (texts-same (ruleTextIn input) (recordingTextIn input) (rule-settled input p) (recording-settled input p)))

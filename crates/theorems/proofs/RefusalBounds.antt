@@ -11,12 +11,12 @@ use Rattle.definitions.specs.Nodes.{Node, nodeOf}
 use Rattle.definitions.specs.Tables.{Rule, Table, nodeRefusal, nodesRefusal, ruleHeadingRefusal, ruleRefusal, topsRefusal, tableRefusal}
 use Rattle.definitions.specs.Recordings.{Recording, masksOf, statesOf, stateRefusal, recordingHeadingRefusal, maskRefusal, masksRefusal, statesRefusal, recordingLinesRefusal, recordingRefusal, controllerRefusal}
 
-pick-of : (P : ℕ → Type 0) (z : Bool) (a b : ℕ) → P a → P b → P (pick z a b)
+pub pick-of : (P : ℕ → Type 0) (z : Bool) (a b : ℕ) → P a → P b → P (pick z a b)
 unfolding pick
 pick-of P true a b p q = p
 pick-of P false a b p q = q
 
-or-else-of : (P : ℕ → Type 0) (a b : ℕ) → P a → P b → P (orElse a b)
+pub or-else-of : (P : ℕ → Type 0) (a b : ℕ) → P a → P b → P (orElse a b)
 unfolding orElse
 or-else-of P a b p q = pick-of P (eqb a 0) b a q p
 

@@ -11,9 +11,9 @@ use lib.Seq.{getD-at}
 use borrow.Author.Tests.{lt-ltb, le-leb}
 use Rattle.definitions.specs.Limits.{atomCount, maxTableNodes}
 use Rattle.definitions.specs.Bounded.{pick, orElse, bitOf}
-use Rattle.definitions.specs.Nodes.{Kind, True, Atom, Not, Or, Next, Until, Prev, Since, Run, End, Unknown, Node, nodeWord}
+use Rattle.definitions.specs.Nodes.{Kind, True, Atom, Not, Or, Next, Until, Prev, Since, Run, End, Unknown, Node, nodeWord, node}
 use Rattle.definitions.specs.Tables.{Rule, ruleRefusal, topsRefusal, tableRefusal, nodesIn}
-use Rattle.definitions.specs.Rewriting.{Emit, emitted, emit, itself, foreignAtom, plainNext, plainUntil, plainSince, shortNext, shortUntil, shortSince, Image, noImage, imageOf, image, tolerantAt, tolerantOf, part, Draft, step, steps, Rewritten, closing, closed, lastImage, rewriting}
+use Rattle.definitions.specs.Rewriting.{Emit, emitted, emit, itself, foreignAtom, plainNext, plainUntil, plainSince, shortNext, shortUntil, shortSince, Image, noImage, imageOf, image, tolerantAt, tolerantOf, meaningsOf, part, Draft, step, steps, Rewritten, closing, closed, lastImage, rewriting}
 use Rattle.definitions.specs.Operations.{rewrittenOf}
 use Rattle.definitions.specs.Longest.{mostNodes}
 use Rattle.theorems.proofs.NodeWords.{AllHeld, nodes-words}
@@ -56,7 +56,7 @@ module _ (j m : ℕ) (big : 11 ≤ m) (just : j < m) where
 
   module _ (k : ℕ) (is : List Image) (low : (weak : Bool) (a : ℕ) → a < k → image weak is a < m) where
     part-nodes : (short : Bool) (mask x : ℕ) (weak : Bool) → (weak ≡ false → x < m) → (K : Kind) (a b : ℕ) → RuleNode k K a b →
-        TableNodes m (emitted j m (part short mask is x m weak K a b))
+        TableNodes m (emitted j m (part short weak K (meaningsOf mask is (node K a b) weak x m)))
     part-nodes short mask x true f True a b r = search arith
     part-nodes short mask x false f True a b r = tt
     part-nodes short mask x weak f Atom a b r = atom-nodes (bitOf mask a) weak x a f r
@@ -93,7 +93,7 @@ some-pick true es fs p q = p
 some-pick false es fs p q = q
 
 -- a weak image emits a node at least
-weak-some : (short : Bool) (mask : ℕ) (is : List Image) (k x g : ℕ) (K : Kind) (a b : ℕ) → RuleNode k K a b → 0 < length (part short mask is x g true K a b)
+weak-some : (short : Bool) (mask : ℕ) (is : List Image) (k x g : ℕ) (K : Kind) (a b : ℕ) → RuleNode k K a b → 0 < length (part short true K (meaningsOf mask is (node K a b) true x g))
 weak-some short mask is k x g True a b r = omega arith
 weak-some short mask is k x g Atom a b r = some-pick (bitOf mask a) (itself true Atom a) (foreignAtom true x a) (omega arith) (omega arith)
 weak-some short mask is k x g Not a b r = omega arith
@@ -116,9 +116,9 @@ pub step-drafted : (short : Bool) (mask k : ℕ) (D : Draft) (n : Node) → Draf
 step-drafted short mask k D n d r =
     let is : List Image = D .images in
     let x : ℕ = length (D .nodes) in
-    let w : List Emit = part short mask is x x true (n .kind) (n .first) (n .second) in
+    let w : List Emit = part short true (n .kind) (meaningsOf mask is n true x x) in
     let T : List Node = emit (D .nodes) w in
-    let s : List Emit = part short mask is x (length T) false (n .kind) (n .first) (n .second) in
+    let s : List Emit = part short false (n .kind) (meaningsOf mask is n false x (length T)) in
     let U : List Node = emit T s in
     let i : Image = record { weak = length T - 1; strong = length U - 1; tolerant = tolerantOf mask is (n .kind) (n .first) (n .second) } in
     let t : length T ≡ x + length w = emit-count (D .nodes) w in

@@ -27,7 +27,7 @@ use Rattle.theorems.proofs.RuleTextSteps.{text-none, text-one, text-two
 
 -- a line of a known kind word is the text of its node
 module _ (k : Kind) (s : List ℕ) (word : kindWord k ≡ upTo tab s) (n : Node) where
-  operands-back : operandsForm k s ≡ formed n → nodeText n ≡ s
+  pub operands-back : operandsForm k s ≡ formed n → nodeText n ≡ s
   unfolding operandsForm
   operands-back e =
       by-test (eqb (operands k) 0)
@@ -127,7 +127,7 @@ pub record FirstLine (t : List ℕ) : Type 0 where
   pub scan : scanRule t ≡ ruleNodes heading (scanNodes (heading .second) 0 (restOf t))
 
 -- a first line is the text of its heading
-heading-back : (s : List ℕ) (h : Heading) → ruleHeading s ≡ formed h → headingText (h .first) (h .second) ≡ s
+pub heading-back : (s : List ℕ) (h : Heading) → ruleHeading s ≡ formed h → headingText (h .first) (h .second) ≡ s
 unfolding headingForm headingText
 heading-back s h e =
     let w = worded-back ruleWord _ h s e in

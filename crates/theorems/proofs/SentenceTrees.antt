@@ -9,9 +9,9 @@ use lib.Dec.{leb}
 use borrow.Author.Tests.{leb-true, leb-false, ne-eqb}
 use Rattle.definitions.specs.Bounded.{pick}
 use Rattle.definitions.specs.Lines.{Parsed, formed, malformed, onParsed}
-use Rattle.definitions.specs.OneLineSigns.{Sign, truth, atom, before, between, opening, closing, Infix, Implies, Or, And, Until, Since}
-use Rattle.definitions.specs.OneLineGrammar.{Tree, always, reading, one, two, Level, Arrows, Ors, Ands, Untils, Prefixes, Phrase, arrow, noArrow, or, noOr, and, noAnd, until, since, noUntil, prefix, noPrefix, isTrue, isAtom, bracketed, Sentence}
-use Rattle.definitions.specs.OneLineReading.{Grown, grown, strength, rightStrength, closed, operandBy, ruleBy, ruleOn, whole, treeOf}
+use Rattle.definitions.specs.OneLineSigns.{Sign, trueSign, atomSign, prefixSign, infixSign, openBracket, closeBracket, Infix, Implies, Or, And, Until, Since}
+use Rattle.definitions.specs.OneLineGrammar.{Tree, truth, atom, prefixed, joined, Level, Arrows, Ors, Ands, Untils, Prefixes, Phrase, arrow, noArrow, or, noOr, and, noAnd, until, since, noUntil, prefix, noPrefix, truthAlone, atomAlone, bracketed, Sentence}
+use Rattle.definitions.specs.OneLineReading.{Grown, grown, strength, rightStrength, bracketClosed, operandBy, ruleBy, ruleOn, treeAtEnd, treeOf}
 use Rattle.theorems.proofs.Choice.{by-test}
 use Rattle.theorems.proofs.Inversions.{never-formed, formed-same}
 use Rattle.theorems.proofs.Phrases.{flat, operand, operator, tight, tight-most, phrase-flat, phrase-shorter}
@@ -89,8 +89,8 @@ held-stop least-4 (ors x e) h = absurd (omega arith)
 held-stop least-4 (arrows x e) h = absurd (omega arith)
 
 -- a sign joins them to its right operand
-held-join : {s v w : List Sign} {p q : Tree} {r : ℕ} (x : Infix) → Held s (between x ∷ v) p r → Phrase (rightLevel x) v w q → tight w < rightStrength x
-    → Held s w (two x p q) (strength x)
+held-join : {s v w : List Sign} {p q : Tree} {r : ℕ} (x : Infix) → Held s (infixSign x ∷ v) p r → Phrase (rightLevel x) v w q → tight w < rightStrength x
+    → Held s w (joined x p q) (strength x)
 unfolding rightLevel
 held-join Implies (operands x) y h = arrows (arrow (noOr (noAnd (noUntil x))) y) h
 held-join Implies (untils x e) y h = arrows (arrow (noOr (noAnd x)) y) h
@@ -119,34 +119,34 @@ held-join Since (ors x e) y h = absurd (omega arith)
 held-join Since (arrows x e) y h = absurd (omega arith)
 
 -- a bracketed rule, or no bracket closes it
-bracket : {s : List Sign} {t : Tree} (u : List Sign) → Phrase Arrows s u t → tight u < 1 → Result 5 Prefixes (opening ∷ s) (closed t u)
-unfolding closed flat
+bracket : {s : List Sign} {t : Tree} (u : List Sign) → Phrase Arrows s u t → tight u < 1 → Result 5 Prefixes (openBracket ∷ s) (bracketClosed t u)
+unfolding bracketClosed flat
 bracket [] x h = nothing (λ k. phrase-flat x (suc k))
-bracket (truth ∷ u) x h = nothing (λ k. phrase-flat x (suc k))
-bracket (atom n ∷ u) x h = nothing (λ k. phrase-flat x (suc k))
-bracket (before y ∷ u) x h = nothing (λ k. phrase-flat x (suc k))
-bracket (between Implies ∷ u) x h = absurd (omega arith)
-bracket (between Or ∷ u) x h = absurd (omega arith)
-bracket (between And ∷ u) x h = absurd (omega arith)
-bracket (between Until ∷ u) x h = absurd (omega arith)
-bracket (between Since ∷ u) x h = absurd (omega arith)
-bracket (opening ∷ u) x h = nothing (λ k. phrase-flat x (suc k))
-bracket {t = t} (closing ∷ u) x h = found t u (noPrefix (bracketed x)) (tight-most u)
+bracket (trueSign ∷ u) x h = nothing (λ k. phrase-flat x (suc k))
+bracket (atomSign n ∷ u) x h = nothing (λ k. phrase-flat x (suc k))
+bracket (prefixSign y ∷ u) x h = nothing (λ k. phrase-flat x (suc k))
+bracket (infixSign Implies ∷ u) x h = absurd (omega arith)
+bracket (infixSign Or ∷ u) x h = absurd (omega arith)
+bracket (infixSign And ∷ u) x h = absurd (omega arith)
+bracket (infixSign Until ∷ u) x h = absurd (omega arith)
+bracket (infixSign Since ∷ u) x h = absurd (omega arith)
+bracket (openBracket ∷ u) x h = nothing (λ k. phrase-flat x (suc k))
+bracket {t = t} (closeBracket ∷ u) x h = found t u (noPrefix (bracketed x)) (tight-most u)
 
 -- after a sentence comes nothing
 pub ends : (u : List Sign) → flat u operator zero ≡ true → tight u < 1 → u ≡ []
 unfolding flat
 ends [] e h = refl
-ends (truth ∷ u) e h = absurd (true≢false (sym e))
-ends (atom n ∷ u) e h = absurd (true≢false (sym e))
-ends (before x ∷ u) e h = absurd (true≢false (sym e))
-ends (between Implies ∷ u) e h = absurd (omega arith)
-ends (between Or ∷ u) e h = absurd (omega arith)
-ends (between And ∷ u) e h = absurd (omega arith)
-ends (between Until ∷ u) e h = absurd (omega arith)
-ends (between Since ∷ u) e h = absurd (omega arith)
-ends (opening ∷ u) e h = absurd (true≢false (sym e))
-ends (closing ∷ u) e h = absurd (true≢false (sym e))
+ends (trueSign ∷ u) e h = absurd (true≢false (sym e))
+ends (atomSign n ∷ u) e h = absurd (true≢false (sym e))
+ends (prefixSign x ∷ u) e h = absurd (true≢false (sym e))
+ends (infixSign Implies ∷ u) e h = absurd (omega arith)
+ends (infixSign Or ∷ u) e h = absurd (omega arith)
+ends (infixSign And ∷ u) e h = absurd (omega arith)
+ends (infixSign Until ∷ u) e h = absurd (omega arith)
+ends (infixSign Since ∷ u) e h = absurd (omega arith)
+ends (openBracket ∷ u) e h = absurd (true≢false (sym e))
+ends (closeBracket ∷ u) e h = absurd (true≢false (sym e))
 
 least-some : {least : ℕ} {l : Level} → Least least l → (0 < least) × (least ≤ 5)
 least-some least-1 = (omega arith, omega arith)
@@ -160,12 +160,12 @@ mutual
   operand-right zero [] h = nothing (λ k. refl)
   operand-right zero (x ∷ s) h = absurd (omega arith)
   operand-right (suc n) [] h = nothing (λ k. refl)
-  operand-right (suc n) (truth ∷ s) h = found always s (noPrefix isTrue) (tight-most s)
-  operand-right (suc n) (atom m ∷ s) h = found (reading m) s (noPrefix (isAtom m)) (tight-most s)
-  operand-right (suc n) (before x ∷ s) h = then (operandBy n s) (λ g. grown (one x (g .tree)) (g .rest)) (operand-right n s (omega arith)) (λ t u y k. found (one x t) u (prefix x y) k) (λ e. e)
-  operand-right (suc n) (between x ∷ s) h = nothing (λ k. refl)
-  operand-right (suc n) (opening ∷ s) h = then (ruleBy n 1 s) (λ g. closed (g .tree) (g .rest)) (rule-right n 1 Arrows least-1 s (omega arith)) (λ t u y k. bracket u y k) (λ e k. e (suc k))
-  operand-right (suc n) (closing ∷ s) h = nothing (λ k. refl)
+  operand-right (suc n) (trueSign ∷ s) h = found truth s (noPrefix truthAlone) (tight-most s)
+  operand-right (suc n) (atomSign m ∷ s) h = found (atom m) s (noPrefix (atomAlone m)) (tight-most s)
+  operand-right (suc n) (prefixSign x ∷ s) h = then (operandBy n s) (λ g. grown (prefixed x (g .tree)) (g .rest)) (operand-right n s (omega arith)) (λ t u y k. found (prefixed x t) u (prefix x y) k) (λ e. e)
+  operand-right (suc n) (infixSign x ∷ s) h = nothing (λ k. refl)
+  operand-right (suc n) (openBracket ∷ s) h = then (ruleBy n 1 s) (λ g. bracketClosed (g .tree) (g .rest)) (rule-right n 1 Arrows least-1 s (omega arith)) (λ t u y k. bracket u y k) (λ e k. e (suc k))
+  operand-right (suc n) (closeBracket ∷ s) h = nothing (λ k. refl)
 
   rule-right : (n least : ℕ) (l : Level) → Least least l → (s : List Sign) → length s * 2 + 1 ≤ n → Result least l s (ruleBy n least s)
   rule-right zero least l a s h = absurd (omega arith)
@@ -178,17 +178,17 @@ mutual
       → Result least l s (ruleOn n least p u)
   on-right zero least l a s u p r held le h = absurd (omega arith)
   on-right (suc n) least l a s [] p r held le h = found p [] (held-stop a held le) (least-some a .0)
-  on-right (suc n) least l a s (truth ∷ u) p r held le h = found p (truth ∷ u) (held-stop a held le) (least-some a .0)
-  on-right (suc n) least l a s (atom m ∷ u) p r held le h = found p (atom m ∷ u) (held-stop a held le) (least-some a .0)
-  on-right (suc n) least l a s (before x ∷ u) p r held le h = found p (before x ∷ u) (held-stop a held le) (least-some a .0)
-  on-right (suc n) least l a s (between x ∷ u) p r held le h =
+  on-right (suc n) least l a s (trueSign ∷ u) p r held le h = found p (trueSign ∷ u) (held-stop a held le) (least-some a .0)
+  on-right (suc n) least l a s (atomSign m ∷ u) p r held le h = found p (atomSign m ∷ u) (held-stop a held le) (least-some a .0)
+  on-right (suc n) least l a s (prefixSign x ∷ u) p r held le h = found p (prefixSign x ∷ u) (held-stop a held le) (least-some a .0)
+  on-right (suc n) least l a s (infixSign x ∷ u) p r held le h =
       by-test (leb least (strength x))
-      (λ e. rw e (then (ruleBy n (rightStrength x) u) (λ g. ruleOn n least (two x p (g .tree)) (g .rest)) (rule-right n (rightStrength x) (rightLevel x) (right-least x) u (omega arith))
-      (λ t w y k. on-right n least l a s w (two x p t) (strength x) (held-join x held y k) (leb-true least (strength x) e) (omega (arith, phrase-shorter y)))
+      (λ e. rw e (then (ruleBy n (rightStrength x) u) (λ g. ruleOn n least (joined x p (g .tree)) (g .rest)) (rule-right n (rightStrength x) (rightLevel x) (right-least x) u (omega arith))
+      (λ t w y k. on-right n least l a s w (joined x p t) (strength x) (held-join x held y k) (leb-true least (strength x) e) (omega (arith, phrase-shorter y)))
       (λ f k. held-flat held k ∙ f k)))
-      (λ e. rw e (found p (between x ∷ u) (held-stop a held le) (leb-false least (strength x) e)))
-  on-right (suc n) least l a s (opening ∷ u) p r held le h = found p (opening ∷ u) (held-stop a held le) (least-some a .0)
-  on-right (suc n) least l a s (closing ∷ u) p r held le h = found p (closing ∷ u) (held-stop a held le) (least-some a .0)
+      (λ e. rw e (found p (infixSign x ∷ u) (held-stop a held le) (leb-false least (strength x) e)))
+  on-right (suc n) least l a s (openBracket ∷ u) p r held le h = found p (openBracket ∷ u) (held-stop a held le) (least-some a .0)
+  on-right (suc n) least l a s (closeBracket ∷ u) p r held le h = found p (closeBracket ∷ u) (held-stop a held le) (least-some a .0)
 
 -- a sentence is read flat
 pub sentence-flat : {s : List Sign} {t : Tree} → Sentence s t → flat s operand 0 ≡ true
@@ -200,8 +200,8 @@ data TreeIs (s : List Sign) : Parsed Tree → Type 0 where
   tree : (t : Tree) → Sentence s t → TreeIs s (formed t)
   none : flat s operand 0 ≡ false → TreeIs s malformed
 
-whole-right : {s : List Sign} {t : Tree} (u : List Sign) → Phrase Arrows s u t → tight u < 1 → TreeIs s (whole (record { tree = t; rest = u }))
-unfolding whole pick
+whole-right : {s : List Sign} {t : Tree} (u : List Sign) → Phrase Arrows s u t → tight u < 1 → TreeIs s (treeAtEnd (record { tree = t; rest = u }))
+unfolding treeAtEnd pick
 whole-right {t = t} [] x h = tree t x
 whole-right {s = s} (y ∷ u) x h =
     let e : flat s operand 0 ≡ false =
@@ -210,7 +210,7 @@ whole-right {s = s} (y ∷ u) x h =
     (λ e. e) in
     rw (ne-eqb (suc (length u)) 0 (λ q. omega arith)) (none e)
 
-whole-of : (s : List Sign) (f : Parsed Grown) → Result 1 Arrows s f → TreeIs s (onParsed f malformed whole)
+whole-of : (s : List Sign) (f : Parsed Grown) → Result 1 Arrows s f → TreeIs s (onParsed f malformed treeAtEnd)
 unfolding onParsed
 whole-of s f (found t u x h) = whole-right u x h
 whole-of s f (nothing e) = none (e 0)

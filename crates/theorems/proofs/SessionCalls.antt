@@ -14,11 +14,11 @@ use Rattle.definitions.specs.Bounded.{pick}
 use Rattle.definitions.specs.Tables.{Rule}
 use Rattle.definitions.specs.Recordings.{stateRefusal, recordingRefusal}
 use Rattle.definitions.specs.Operations.{tooShort}
-use Rattle.definitions.specs.Sessions.{headingSize, Space, Held, recordingHeld, image, controllersRefusal, openRefusal, openNumber, arrivalRefusal, arriveNumber, withdrawalRefusal, withdrawNumber, opened, arrived, withdrawn, Call, Open, Arrive, Withdraw, numberOf, acceptedLeaves, leaves, leavesAll, withStates, oneMore, oneLess, takes, after, afterAll, Sound, Full, Made}
+use Rattle.definitions.specs.Sessions.{headingSize, Space, Held, recordingHeld, spaceOf, controllersRefusal, openRefusal, openNumber, arrivalRefusal, arriveNumber, withdrawalRefusal, withdrawNumber, opened, arrived, withdrawn, Call, Open, Arrive, Withdraw, numberOf, acceptedLeaves, leaves, leavesAll, withStates, oneMore, oneLess, admits, heldAfter, heldAfterAll, Sound, Full, Made}
 use Rattle.theorems.proofs.Choice.{both-false, pick-true, pick-false, pick-must, pick-other}
 use Rattle.theorems.proofs.Inversions.{first-accepted}
 use Rattle.theorems.proofs.SessionChecks.{held-limits, few-states, first-state, recording-more, opened-sound, less-sound}
-use Rattle.theorems.proofs.Sessions.{image-controllers, image-held, image-masks, image-last, image-full, image-over, image-arrived, image-withdrawn}
+use Rattle.theorems.proofs.Sessions.{space-controllers, space-held, space-masks, space-last, space-full, space-over, space-arrived, space-withdrawn}
 
 -- "A refused call, the opening too, changes nothing, lent space included": on any contents
 pub refused-changes-nothing : (c : Call) (h : Space) → (numberOf c h ≡ 0 → ⊥) → leaves c h ≡ h
@@ -31,68 +31,68 @@ accepted-leaves c h e = pick-true (eqb (numberOf c h) accepted) (acceptedLeaves 
 
 -- ---- the numbers that a session's calls answer
 module _ (a : Held) (h : Space) (k : Sound a) (f : Full h) where
-  full : Full (image a h)
-  full = image-full a h k f
+  full : Full (spaceOf a h)
+  full = space-full a h k f
 
-  enough-heading : tooShort headingSize ((image a h) .heading) ≡ false
-  enough-heading = le-ltb (length ((image a h) .heading)) headingSize (full .heading)
+  enough-heading : tooShort headingSize ((spaceOf a h) .heading) ≡ false
+  enough-heading = le-ltb (length ((spaceOf a h) .heading)) headingSize (full .heading)
 
-  enough-masks : tooShort maxControllers ((image a h) .masks) ≡ false
-  enough-masks = le-ltb (length ((image a h) .masks)) maxControllers (full .masks)
+  enough-masks : tooShort maxControllers ((spaceOf a h) .masks) ≡ false
+  enough-masks = le-ltb (length ((spaceOf a h) .masks)) maxControllers (full .masks)
 
-  enough-nodes : tooShort maxRuleNodes ((image a h) .nodes) ≡ false
-  enough-nodes = le-ltb (length ((image a h) .nodes)) maxRuleNodes (full .nodes)
+  enough-nodes : tooShort maxRuleNodes ((spaceOf a h) .nodes) ≡ false
+  enough-nodes = le-ltb (length ((spaceOf a h) .nodes)) maxRuleNodes (full .nodes)
 
-  enough-states : tooShort maxStates ((image a h) .states) ≡ false
-  enough-states = le-ltb (length ((image a h) .states)) maxStates (full .states)
+  enough-states : tooShort maxStates ((spaceOf a h) .states) ≡ false
+  enough-states = le-ltb (length ((spaceOf a h) .states)) maxStates (full .states)
 
   -- an opening over a session
-  pub open-number : (C : ℕ) (masks : List ℕ) (r : Rule) → openNumber C masks r (image a h) ≡ openRefusal C masks r
+  pub open-number : (C : ℕ) (masks : List ℕ) (r : Rule) → openNumber C masks r (spaceOf a h) ≡ openRefusal C masks r
   unfolding openNumber pick
   open-number C masks r = rw (enough-heading, enough-masks, enough-nodes, enough-states)
 
   -- the state before an arrival
   state-before : (s : ℕ) →
-      stateRefusal (length (a .masks)) (a .masks) (length (a .states)) (getD ((image a h) .states) (length (a .states) - 1) 0) s
+      stateRefusal (length (a .masks)) (a .masks) (length (a .states)) (getD ((spaceOf a h) .states) (length (a .states) - 1) 0) s
       ≡ stateRefusal (length (a .masks)) (a .masks) (length (a .states)) (getD (a .states) (length (a .states) - 1) 0) s
   state-before s = go (decLt 0 (length (a .states)))
     where
       go : Dec (0 < length (a .states)) →
-          stateRefusal (length (a .masks)) (a .masks) (length (a .states)) (getD ((image a h) .states) (length (a .states) - 1) 0) s
+          stateRefusal (length (a .masks)) (a .masks) (length (a .states)) (getD ((spaceOf a h) .states) (length (a .states) - 1) 0) s
           ≡ stateRefusal (length (a .masks)) (a .masks) (length (a .states)) (getD (a .states) (length (a .states) - 1) 0) s
-      go (yes p) = rw (image-last a h p)
+      go (yes p) = rw (space-last a h p)
       go (no p) =
           let z : length (a .states) ≡ 0 = omega arith in
-          rw z (first-state (length (a .masks)) (a .masks) (getD ((image a h) .states) (0 - 1) 0) (getD (a .states) (0 - 1) 0) s)
+          rw z (first-state (length (a .masks)) (a .masks) (getD ((spaceOf a h) .states) (0 - 1) 0) (getD (a .states) (0 - 1) 0) s)
 
   -- with under 128 states an arrival is refused exactly as the recording with it is
-  pub arrive-number : (s : ℕ) → length (a .states) < maxStates → arriveNumber s (image a h) ≡ recordingRefusal (recordingHeld (oneMore s a))
+  pub arrive-number : (s : ℕ) → length (a .states) < maxStates → arriveNumber s (spaceOf a h) ≡ recordingRefusal (recordingHeld (oneMore s a))
   unfolding arriveNumber arrivalRefusal pick
   arrive-number s l =
-      rw (enough-heading, enough-states, image-held a h, image-controllers a h, image-masks a h, lt-leb maxStates (length (a .states)) l)
+      rw (enough-heading, enough-states, space-held a h, space-controllers a h, space-masks a h, lt-leb maxStates (length (a .states)) l)
       (first-accepted (controllersRefusal (length (a .masks))) _ (held-limits a k) ∙ (state-before s ∙ sym (recording-more a s k l)))
 
   -- "17, an arrival when 128 states are held", whatever arrives
-  pub arrive-full : (s : ℕ) → length (a .states) ≡ maxStates → arriveNumber s (image a h) ≡ sessionFull
+  pub arrive-full : (s : ℕ) → length (a .states) ≡ maxStates → arriveNumber s (spaceOf a h) ≡ sessionFull
   unfolding arriveNumber arrivalRefusal pick
-  arrive-full s e = rw (enough-heading, enough-states, image-held a h, e)
+  arrive-full s e = rw (enough-heading, enough-states, space-held a h, e)
 
-  pub withdraw-number : 0 < length (a .states) → withdrawNumber (image a h) ≡ 0
+  pub withdraw-number : 0 < length (a .states) → withdrawNumber (spaceOf a h) ≡ 0
   unfolding withdrawNumber withdrawalRefusal pick
   withdraw-number p =
-      rw (enough-heading, enough-states, image-held a h, ne-eqb (length (a .states)) 0 (λ e. omega arith), le-ltb maxStates (length (a .states)) (few-states a k))
+      rw (enough-heading, enough-states, space-held a h, ne-eqb (length (a .states)) 0 (λ e. omega arith), le-ltb maxStates (length (a .states)) (few-states a k))
 
   -- "18, a withdrawal from an empty session"
-  pub withdraw-empty : length (a .states) ≡ 0 → withdrawNumber (image a h) ≡ sessionEmpty
+  pub withdraw-empty : length (a .states) ≡ 0 → withdrawNumber (spaceOf a h) ≡ sessionEmpty
   unfolding withdrawNumber withdrawalRefusal pick
-  withdraw-empty z = rw (enough-heading, enough-states, image-held a h, z)
+  withdraw-empty z = rw (enough-heading, enough-states, space-held a h, z)
 
-  pub arrive-takes : (s : ℕ) → eqb (arriveNumber s (image a h)) accepted ≡ takes s a
-  unfolding takes pick
-  arrive-takes s = go (decLt (length (a .states)) maxStates)
+  pub arrive-admits : (s : ℕ) → eqb (arriveNumber s (spaceOf a h)) accepted ≡ admits s a
+  unfolding admits pick
+  arrive-admits s = go (decLt (length (a .states)) maxStates)
     where
       go : Dec (length (a .states) < maxStates) →
-          eqb (arriveNumber s (image a h)) accepted ≡ pick (ltb (length (a .states)) maxStates) (eqb (recordingRefusal (recordingHeld (oneMore s a))) accepted) false
+          eqb (arriveNumber s (spaceOf a h)) accepted ≡ pick (ltb (length (a .states)) maxStates) (eqb (recordingRefusal (recordingHeld (oneMore s a))) accepted) false
       go (yes l) = rw (arrive-number s l, lt-ltb (length (a .states)) maxStates l)
       go (no l) = rw (arrive-full s (omega (arith, few-states a k)), le-ltb (length (a .states)) maxStates (omega arith))
 
@@ -103,67 +103,67 @@ unfolding pick
 sound-pick true a b f g = f refl
 sound-pick false a b f g = g
 
-takes-parts : (s : ℕ) (a : Held) → takes s a ≡ true → (length (a .states) < maxStates) × (recordingRefusal (recordingHeld (oneMore s a)) ≡ 0)
-unfolding takes
-takes-parts s a t =
+admits-parts : (s : ℕ) (a : Held) → admits s a ≡ true → (length (a .states) < maxStates) × (recordingRefusal (recordingHeld (oneMore s a)) ≡ 0)
+unfolding admits
+admits-parts s a t =
     let (z, e) = pick-must true (ltb (length (a .states)) maxStates) (eqb (recordingRefusal (recordingHeld (oneMore s a))) accepted) false t (λ q. true≢false (sym q)) in
     (ltb-true (length (a .states)) maxStates z, eqb-true (recordingRefusal (recordingHeld (oneMore s a))) accepted e)
 
-more-sound : (a : Held) (s : ℕ) → Sound a → takes s a ≡ true → Sound (oneMore s a)
-more-sound a s k t = record { opens = k .opens; nodes = k .nodes; states = λ p. (takes-parts s a t) .1 }
+more-sound : (a : Held) (s : ℕ) → Sound a → admits s a ≡ true → Sound (oneMore s a)
+more-sound a s k t = record { opens = k .opens; nodes = k .nodes; states = λ p. (admits-parts s a t) .1 }
 
-pub after-sound : (c : Call) (a : Held) → Sound a → Sound (after c a)
-unfolding after
+pub after-sound : (c : Call) (a : Held) → Sound a → Sound (heldAfter c a)
+unfolding heldAfter
 after-sound (Open C masks r) a k =
     sound-pick (eqb (openRefusal C masks r) accepted) (opened C masks r) a (λ t. opened-sound C masks r (eqb-true (openRefusal C masks r) accepted t)) k
-after-sound (Arrive s) a k = sound-pick (takes s a) (oneMore s a) a (more-sound a s k) k
+after-sound (Arrive s) a k = sound-pick (admits s a) (oneMore s a) a (more-sound a s k) k
 after-sound Withdraw a k = less-sound a k
 
 -- ---- and is what lent space holds
 
-pick-image : (t u : Bool) (x : Space) (a b : Held) (h : Space) → t ≡ u → (u ≡ true → x ≡ image a h) → pick t x (image b h) ≡ image (pick u a b) h
+pick-space : (t u : Bool) (x : Space) (a b : Held) (h : Space) → t ≡ u → (u ≡ true → x ≡ spaceOf a h) → pick t x (spaceOf b h) ≡ spaceOf (pick u a b) h
 unfolding pick
-pick-image t true x a b h e f = rw e (f refl)
-pick-image t false x a b h e f = rw e
+pick-space t true x a b h e f = rw e (f refl)
+pick-space t false x a b h e f = rw e
 
 -- of no states all but the last are these
 none-less : (ss : List ℕ) → length ss ≡ 0 → take (length ss - 1) ss ≡ ss
 none-less [] z = refl
 none-less (s ∷ ss) z = absurd (omega arith)
 
-pub held-same : (a : Held) (h : Space) → image (withStates a (a .states)) h ≡ image a h
-unfolding image
+pub held-same : (a : Held) (h : Space) → spaceOf (withStates a (a .states)) h ≡ spaceOf a h
+unfolding spaceOf
 held-same a h = refl
 
-withdrawal-image : (a : Held) (h : Space) → Sound a → Full h → Dec (0 < length (a .states)) →
-    pick (eqb (withdrawNumber (image a h)) accepted) (withdrawn (image a h)) (image a h) ≡ image (oneLess a) h
+withdrawal-space : (a : Held) (h : Space) → Sound a → Full h → Dec (0 < length (a .states)) →
+    pick (eqb (withdrawNumber (spaceOf a h)) accepted) (withdrawn (spaceOf a h)) (spaceOf a h) ≡ spaceOf (oneLess a) h
 unfolding pick
-withdrawal-image a h k f (yes p) = rw (withdraw-number a h k f p) (image-withdrawn a h k p)
-withdrawal-image a h k f (no p) =
+withdrawal-space a h k f (yes p) = rw (withdraw-number a h k f p) (space-withdrawn a h k p)
+withdrawal-space a h k f (no p) =
     let z : length (a .states) ≡ 0 = omega arith in
     rw (withdraw-empty a h k f z, none-less (a .states) z) (sym (held-same a h))
 
-pub leaves-image : (c : Call) (a : Held) (h : Space) → Sound a → Full h → leaves c (image a h) ≡ image (after c a) h
-unfolding leaves after
-leaves-image (Open C masks r) a h k f =
-    pick-image (eqb (openNumber C masks r (image a h)) accepted) (eqb (openRefusal C masks r) accepted) (image (opened C masks r) (image a h)) (opened C masks r) a h
-    (rw (open-number a h k f C masks r)) (λ t. image-over a h k (opened C masks r))
-leaves-image (Arrive s) a h k f =
-    pick-image (eqb (arriveNumber s (image a h)) accepted) (takes s a) (arrived s (image a h)) (oneMore s a) a h
-    (arrive-takes a h k f s) (λ t. image-arrived a h k s ((takes-parts s a t) .0))
-leaves-image Withdraw a h k f = withdrawal-image a h k f (decLt 0 (length (a .states)))
+pub leaves-space : (c : Call) (a : Held) (h : Space) → Sound a → Full h → leaves c (spaceOf a h) ≡ spaceOf (heldAfter c a) h
+unfolding leaves heldAfter
+leaves-space (Open C masks r) a h k f =
+    pick-space (eqb (openNumber C masks r (spaceOf a h)) accepted) (eqb (openRefusal C masks r) accepted) (spaceOf (opened C masks r) (spaceOf a h)) (opened C masks r) a h
+    (rw (open-number a h k f C masks r)) (λ t. space-over a h k (opened C masks r))
+leaves-space (Arrive s) a h k f =
+    pick-space (eqb (arriveNumber s (spaceOf a h)) accepted) (admits s a) (arrived s (spaceOf a h)) (oneMore s a) a h
+    (arrive-admits a h k f s) (λ t. space-arrived a h k s ((admits-parts s a t) .0))
+leaves-space Withdraw a h k f = withdrawal-space a h k f (decLt 0 (length (a .states)))
 
 -- ---- a list of calls
 
-pub calls-sound : (cs : List Call) (a : Held) → Sound a → Sound (afterAll cs a)
-unfolding afterAll
+pub calls-sound : (cs : List Call) (a : Held) → Sound a → Sound (heldAfterAll cs a)
+unfolding heldAfterAll
 calls-sound [] a k = k
-calls-sound (c ∷ cs) a k = calls-sound cs (after c a) (after-sound c a k)
+calls-sound (c ∷ cs) a k = calls-sound cs (heldAfter c a) (after-sound c a k)
 
-pub calls-image : (cs : List Call) (a : Held) (h : Space) → Sound a → Full h → leavesAll cs (image a h) ≡ image (afterAll cs a) h
-unfolding afterAll leavesAll
-calls-image [] a h k f = refl
-calls-image (c ∷ cs) a h k f = ap (leavesAll cs) (leaves-image c a h k f) ∙ calls-image cs (after c a) h (after-sound c a k) f
+pub calls-space : (cs : List Call) (a : Held) (h : Space) → Sound a → Full h → leavesAll cs (spaceOf a h) ≡ spaceOf (heldAfterAll cs a) h
+unfolding heldAfterAll leavesAll
+calls-space [] a h k f = refl
+calls-space (c ∷ cs) a h k f = ap (leavesAll cs) (leaves-space c a h k f) ∙ calls-space cs (heldAfter c a) h (after-sound c a k) f
 
 -- arrivals and withdrawals
 abbrev pub Steps : List Call → Type 0
@@ -179,17 +179,17 @@ pick-same f false a b e = refl
 
 -- keep what is neither an opening's nor theirs
 module _ {A : Type 0} (f : Held → A) (kept : (a : Held) (ss : List ℕ) → f (withStates a ss) ≡ f a) where
-  steps-keep : (cs : List Call) → Steps cs → (a : Held) → f (afterAll cs a) ≡ f a
-  unfolding afterAll after
+  steps-keep : (cs : List Call) → Steps cs → (a : Held) → f (heldAfterAll cs a) ≡ f a
+  unfolding heldAfterAll heldAfter
   steps-keep [] t a = refl
   steps-keep (Open C masks r ∷ cs) t a = absurd t
-  steps-keep (Arrive s ∷ cs) t a = steps-keep cs t (pick (takes s a) (oneMore s a) a) ∙ pick-same f (takes s a) (oneMore s a) a (kept a (a .states ++ (s ∷ [])))
+  steps-keep (Arrive s ∷ cs) t a = steps-keep cs t (pick (admits s a) (oneMore s a) a) ∙ pick-same f (admits s a) (oneMore s a) a (kept a (a .states ++ (s ∷ [])))
   steps-keep (Withdraw ∷ cs) t a = steps-keep cs t (oneLess a) ∙ kept a (take (length (a .states) - 1) (a .states))
 
-pub steps-masks : (cs : List Call) → Steps cs → (a : Held) → (afterAll cs a) .masks ≡ a .masks
+pub steps-masks : (cs : List Call) → Steps cs → (a : Held) → (heldAfterAll cs a) .masks ≡ a .masks
 steps-masks cs t a = steps-keep (λ x. x .masks) (λ x ss. refl) cs t a
 
-pub steps-rule : (cs : List Call) → Steps cs → (a : Held) → (afterAll cs a) .rule ≡ a .rule
+pub steps-rule : (cs : List Call) → Steps cs → (a : Held) → (heldAfterAll cs a) .rule ≡ a .rule
 steps-rule cs t a = steps-keep (λ x. x .rule) (λ x ss. refl) cs t a
 
 -- ---- an opening is accepted where every slice has its full size and its masks and rule are accepted
@@ -220,17 +220,17 @@ more-less ss s =
     let e : length ss ≡ length (ss ++ (s ∷ [])) - 1 = omega (arith, length-append ss (s ∷ [])) in
     take-at ss (s ∷ []) (length (ss ++ (s ∷ [])) - 1) e
 
-pub taken-after : (s : ℕ) (a : Held) → takes s a ≡ true → after (Arrive s) a ≡ oneMore s a
-unfolding after
-taken-after s a t = pick-true (takes s a) (oneMore s a) a t
+pub taken-after : (s : ℕ) (a : Held) → admits s a ≡ true → heldAfter (Arrive s) a ≡ oneMore s a
+unfolding heldAfter
+taken-after s a t = pick-true (admits s a) (oneMore s a) a t
 
-withdrawn-after : (a : Held) → after Withdraw a ≡ oneLess a
-unfolding after
+withdrawn-after : (a : Held) → heldAfter Withdraw a ≡ oneLess a
+unfolding heldAfter
 withdrawn-after a = refl
 
-arrive-withdraw : (s : ℕ) (a : Held) → takes s a ≡ true → afterAll (Arrive s ∷ Withdraw ∷ []) a ≡ oneLess (oneMore s a)
-unfolding afterAll
-arrive-withdraw s a t = ap (after Withdraw) (taken-after s a t) ∙ withdrawn-after (oneMore s a)
+arrive-withdraw : (s : ℕ) (a : Held) → admits s a ≡ true → heldAfterAll (Arrive s ∷ Withdraw ∷ []) a ≡ oneLess (oneMore s a)
+unfolding heldAfterAll
+arrive-withdraw s a t = ap (heldAfter Withdraw) (taken-after s a t) ∙ withdrawn-after (oneMore s a)
 
 -- leaves every entry as it was
 pub withdrawal-undoes : (s : ℕ) (h : Space) → Made h → arriveNumber s h ≡ 0 → leavesAll (Arrive s ∷ Withdraw ∷ []) h ≡ h
@@ -238,8 +238,8 @@ withdrawal-undoes s h m e =
     let a : Held = m .held in
     let k = m .sound in
     let f = m .full in
-    let t : takes s a ≡ true = sym (arrive-takes a h k f s) ∙ eq-eqb (arriveNumber s (image a h)) 0 (ap (arriveNumber s) (sym (m .is)) ∙ e) in
+    let t : admits s a ≡ true = sym (arrive-admits a h k f s) ∙ eq-eqb (arriveNumber s (spaceOf a h)) 0 (ap (arriveNumber s) (sym (m .is)) ∙ e) in
     ap (leavesAll (Arrive s ∷ Withdraw ∷ [])) (m .is)
-    ∙ (calls-image (Arrive s ∷ Withdraw ∷ []) a h k f
-    ∙ (ap (λ (x : Held). image x h) (arrive-withdraw s a t)
-    ∙ (ap (λ (x : List ℕ). image (withStates a x) h) (more-less (a .states) s) ∙ (held-same a h ∙ sym (m .is)))))
+    ∙ (calls-space (Arrive s ∷ Withdraw ∷ []) a h k f
+    ∙ (ap (λ (x : Held). spaceOf x h) (arrive-withdraw s a t)
+    ∙ (ap (λ (x : List ℕ). spaceOf (withStates a x) h) (more-less (a .states) s) ∙ (held-same a h ∙ sym (m .is)))))

@@ -17,15 +17,15 @@ use Rattle.definitions.specs.Recordings.{Recording, recordingOf, atomsOf, marke
 use Rattle.definitions.specs.Projection.{runStates, placesOf}
 use Rattle.definitions.specs.Readings.{localVerdicts}
 use Rattle.definitions.specs.Operations.{Answer, answer, left, verdictValues, judgeLocalNumber, judgeLocalAnswer}
-use Rattle.definitions.specs.Sessions.{Space, Held, recordingHeld, image, heldIn, ruleIn, recordingIn, openNumber, ruleRead, opened, Call, Open, leaves, leavesAll, verdictsAnswer, afterAll, Sound, Made}
+use Rattle.definitions.specs.Sessions.{Space, Held, recordingHeld, spaceOf, heldIn, sessionRule, sessionRecording, openNumber, ruleRead, opened, Call, Open, leaves, leavesAll, verdictsAnswer, heldAfterAll, Sound, Made}
 use Rattle.theorems.proofs.Choice.{pick-false}
 use Rattle.theorems.proofs.RecordingLaws.{checked}
 use Rattle.theorems.proofs.Beginnings.{Beginning, beginnings-accepted}
 use Rattle.theorems.proofs.ScheduleIndependence.{Accepted, local-accepted, local-judging}
 use Rattle.theorems.proofs.RoundTrips.{same-accepted}
 use Rattle.theorems.proofs.SessionChecks.{oneState, open-accepts, held-rule, held-controller, opened-sound}
-use Rattle.theorems.proofs.Sessions.{image-held, image-masks, image-nodes, image-states, image-made}
-use Rattle.theorems.proofs.SessionCalls.{accepted-leaves, calls-sound, calls-image, open-parts, Steps, steps-masks, steps-rule}
+use Rattle.theorems.proofs.Sessions.{space-held, space-masks, space-nodes, space-states, space-made}
+use Rattle.theorems.proofs.SessionCalls.{accepted-leaves, calls-sound, calls-space, open-parts, Steps, steps-masks, steps-rule}
 
 -- an accepted rule and recording are judged by their entries up to the counts
 unfoldable judgedOn : (c : ℕ) (nodes masks states : List ℕ) (N : ℕ) → Answer
@@ -44,24 +44,24 @@ same-judged : (r q : Rule) (R S : Recording) → Accepted r R → Accepted q S �
     judgeLocalAnswer r R ≡ judgeLocalAnswer q S
 same-judged r q R S A B c ns n ms ss = rw (judged-on r R A, judged-on q S B, c, ns, ms, ss, n)
 
-verdicts-some : (h : Space) → eqb (heldIn h) 0 ≡ false → verdictsAnswer h ≡ judgeLocalAnswer (ruleIn h) (recordingIn h)
+verdicts-some : (h : Space) → eqb (heldIn h) 0 ≡ false → verdictsAnswer h ≡ judgeLocalAnswer (sessionRule h) (sessionRecording h)
 unfolding verdictsAnswer
-verdicts-some h e = pick-false (eqb (heldIn h) 0) (answer accepted []) (judgeLocalAnswer (ruleIn h) (recordingIn h)) e
+verdicts-some h e = pick-false (eqb (heldIn h) 0) (answer accepted []) (judgeLocalAnswer (sessionRule h) (sessionRecording h)) e
 
 module _ (a : Held) (h : Space) (k : Sound a) where
   -- the rule and the recording that the contents are
   abbrev ruleThere : Rule
-  ruleThere = ruleOf (a .rule .controller) (a .rule .count) ((image a h) .nodes)
+  ruleThere = ruleOf (a .rule .controller) (a .rule .count) ((spaceOf a h) .nodes)
 
   abbrev recordingThere : Recording
-  recordingThere = recordingOf (length (a .masks)) (length (a .states)) ((image a h) .masks) ((image a h) .states)
+  recordingThere = recordingOf (length (a .masks)) (length (a .states)) ((spaceOf a h) .masks) ((spaceOf a h) .states)
 
-  rule-there : ruleIn (image a h) ≡ ruleThere
-  unfolding image left pick
+  rule-there : sessionRule (spaceOf a h) ≡ ruleThere
+  unfolding spaceOf left pick
   rule-there = refl
 
-  recording-there : recordingIn (image a h) ≡ recordingThere
-  unfolding image left pick
+  recording-there : sessionRecording (spaceOf a h) ≡ recordingThere
+  unfolding spaceOf left pick
   recording-there = refl
 
   module _ (p : 0 < length (a .states)) where
@@ -70,15 +70,15 @@ module _ (a : Held) (h : Space) (k : Sound a) where
       some = p;
       few = omega arith;
       controllers = refl;
-      masks = image-masks a h ∙ sym (take-length (a .masks));
-      states = image-states a h ∙ sym (ap (take (length (a .states))) (take-length (a .states)) ∙ take-length (a .states));
+      masks = space-masks a h ∙ sym (take-length (a .masks));
+      states = space-states a h ∙ sym (ap (take (length (a .states))) (take-length (a .states)) ∙ take-length (a .states));
     }
 
     there-accepted : recordingRefusal recordingThere ≡ 0
     there-accepted = beginnings-accepted recordingThere (recordingHeld a) there-begins (k .states p)
 
     -- the recording that the contents are is accepted
-    pub contents-accepted : recordingRefusal (recordingIn (image a h)) ≡ 0
+    pub contents-accepted : recordingRefusal (sessionRecording (spaceOf a h)) ≡ 0
     contents-accepted = rw recording-there there-accepted
 
     held : Accepted (a .rule) (recordingHeld a)
@@ -86,7 +86,7 @@ module _ (a : Held) (h : Space) (k : Sound a) where
 
     there : Accepted ruleThere recordingThere
     there = record {
-      rule = same-accepted (a .rule) ((image a h) .nodes) (image-nodes a h (k .nodes)) (held-rule a k);
+      rule = same-accepted (a .rule) ((spaceOf a h) .nodes) (space-nodes a h (k .nodes)) (held-rule a k);
       recording = there-accepted;
       controller = held-controller a k;
     }
@@ -98,35 +98,35 @@ module _ (a : Held) (h : Space) (k : Sound a) where
     same-answer : judgeLocalAnswer ruleThere recordingThere ≡ judgeLocalAnswer (a .rule) (recordingHeld a)
     same-answer =
         let n : take (a .rule .count) (a .rule .nodes) ≡ a .rule .nodes = take-all (a .rule .count) (a .rule .nodes) (omega (arith, k .nodes)) in
-        same-judged ruleThere (a .rule) recordingThere (recordingHeld a) there held refl (image-nodes a h (k .nodes) ∙ sym n) refl
-        (image-masks a h ∙ sym (take-length (a .masks))) (image-states a h ∙ sym (take-length (a .states)))
+        same-judged ruleThere (a .rule) recordingThere (recordingHeld a) there held refl (space-nodes a h (k .nodes) ∙ sym n) refl
+        (space-masks a h ∙ sym (take-length (a .masks))) (space-states a h ∙ sym (take-length (a .states)))
 
     -- "both verdicts equal those of judging the remaining states from the start"
-    pub verdicts-held : verdictsAnswer (image a h) ≡ judgeLocalAnswer (a .rule) (recordingHeld a)
+    pub verdicts-held : verdictsAnswer (spaceOf a h) ≡ judgeLocalAnswer (a .rule) (recordingHeld a)
     verdicts-held =
-        let z : eqb (heldIn (image a h)) 0 ≡ false = rw (image-held a h) (ne-eqb (length (a .states)) 0 (λ e. omega arith)) in
-        verdicts-some (image a h) z
-        ∙ (ap (λ (r : Rule). judgeLocalAnswer r (recordingIn (image a h))) rule-there ∙ (ap (judgeLocalAnswer ruleThere) recording-there ∙ same-answer))
+        let z : eqb (heldIn (spaceOf a h)) 0 ≡ false = rw (space-held a h) (ne-eqb (length (a .states)) 0 (λ e. omega arith)) in
+        verdicts-some (spaceOf a h) z
+        ∙ (ap (λ (r : Rule). judgeLocalAnswer r (sessionRecording (spaceOf a h))) rule-there ∙ (ap (judgeLocalAnswer ruleThere) recording-there ∙ same-answer))
 
   -- "An empty session has no verdict, and its answer says so"
-  pub verdicts-none : length (a .states) ≡ 0 → verdictsAnswer (image a h) ≡ answer accepted []
+  pub verdicts-none : length (a .states) ≡ 0 → verdictsAnswer (spaceOf a h) ≡ answer accepted []
   unfolding verdictsAnswer pick
-  verdicts-none z = rw (image-held a h, z)
+  verdicts-none z = rw (space-held a h, z)
 
 -- ---- the promise
 
 -- the contents g in the lent space h hold these masks, this rule and these states, and answer as judging them from the start does
 pub record Holds (a : Held) (h g : Space) : Type 0 where
-  pub contents : g ≡ image a h
+  pub contents : g ≡ spaceOf a h
   pub sound : Sound a
   pub accepted : 0 < length (a .states) → recordingRefusal (recordingHeld a) ≡ 0
-  pub read : 0 < length (a .states) → recordingRefusal (recordingIn g) ≡ 0
+  pub read : 0 < length (a .states) → recordingRefusal (sessionRecording g) ≡ 0
   pub judged : 0 < length (a .states) → judgeLocalNumber (a .rule) (recordingHeld a) ≡ 0
   pub verdicts : 0 < length (a .states) → verdictsAnswer g ≡ judgeLocalAnswer (a .rule) (recordingHeld a)
   pub none : length (a .states) ≡ 0 → verdictsAnswer g ≡ answer 0 []
 
-image-holds : (a : Held) (h g : Space) → Sound a → g ≡ image a h → Holds a h g
-image-holds a h g k e = record {
+space-holds : (a : Held) (h g : Space) → Sound a → g ≡ spaceOf a h → Holds a h g
+space-holds a h g k e = record {
   contents = e;
   sound = k;
   accepted = k .states;
@@ -138,31 +138,31 @@ image-holds a h g k e = record {
 
 -- an accepted opening, then any calls, refused ones and openings among them
 pub session : (C : ℕ) (masks : List ℕ) (r : Rule) (h : Space) → openNumber C masks r h ≡ 0 → (cs : List Call) →
-    Holds (afterAll cs (opened C masks r)) h (leavesAll (Open C masks r ∷ cs) h)
+    Holds (heldAfterAll cs (opened C masks r)) h (leavesAll (Open C masks r ∷ cs) h)
 unfolding leavesAll
 session C masks r h e cs =
     let (f, z) = open-parts C masks r h e in
     let k = opened-sound C masks r z in
-    image-holds (afterAll cs (opened C masks r)) h (leavesAll cs (leaves (Open C masks r) h)) (calls-sound cs (opened C masks r) k)
-    (ap (leavesAll cs) (accepted-leaves (Open C masks r) h e) ∙ calls-image cs (opened C masks r) h k f)
+    space-holds (heldAfterAll cs (opened C masks r)) h (leavesAll cs (leaves (Open C masks r) h)) (calls-sound cs (opened C masks r) k)
+    (ap (leavesAll cs) (accepted-leaves (Open C masks r) h e) ∙ calls-space cs (opened C masks r) h k f)
 
 -- what it leaves is "made by its own calls"
 pub session-made : (C : ℕ) (masks : List ℕ) (r : Rule) (h : Space) → openNumber C masks r h ≡ 0 → (cs : List Call) → Made (leavesAll (Open C masks r ∷ cs) h)
 session-made C masks r h e cs =
     let s = session C masks r h e cs in
-    rw (s .contents) (image-made (afterAll cs (opened C masks r)) h (s .sound) ((open-parts C masks r h e) .0))
+    rw (s .contents) (space-made (heldAfterAll cs (opened C masks r)) h (s .sound) ((open-parts C masks r h e) .0))
 
 -- on contents made by a session's own calls, whichever they were, any calls do the same
-pub made-holds : (h : Space) (m : Made h) (cs : List Call) → Holds (afterAll cs (m .held)) h (leavesAll cs h)
+pub made-holds : (h : Space) (m : Made h) (cs : List Call) → Holds (heldAfterAll cs (m .held)) h (leavesAll cs h)
 made-holds h m cs =
-    image-holds (afterAll cs (m .held)) h (leavesAll cs h) (calls-sound cs (m .held) (m .sound))
-    (ap (leavesAll cs) (m .is) ∙ calls-image cs (m .held) h (m .sound) (m .full))
+    space-holds (heldAfterAll cs (m .held)) h (leavesAll cs h) (calls-sound cs (m .held) (m .sound))
+    (ap (leavesAll cs) (m .is) ∙ calls-space cs (m .held) h (m .sound) (m .full))
 
 -- ---- in the request's own words: arrivals and withdrawals alone, on the masks and the rule as they were given
 
 -- the states that remain of an opened session after these calls
 abbrev pub remaining : (C : ℕ) (masks : List ℕ) (r : Rule) (cs : List Call) → List ℕ
-remaining C masks r cs = (afterAll cs (opened C masks r)) .states
+remaining C masks r cs = (heldAfterAll cs (opened C masks r)) .states
 
 -- their recording
 abbrev pub remainingRecording : (C : ℕ) (masks : List ℕ) (r : Rule) (cs : List Call) → Recording
@@ -176,7 +176,7 @@ pub record Running (C : ℕ) (masks : List ℕ) (r : Rule) (cs : List Call) (g :
 
 module _ (C : ℕ) (masks : List ℕ) (r : Rule) (h : Space) (e : openNumber C masks r h ≡ 0) (cs : List Call) (steps : Steps cs) where
   abbrev a : Held
-  a = afterAll cs (opened C masks r)
+  a = heldAfterAll cs (opened C masks r)
 
   holds : Holds a h (leavesAll (Open C masks r ∷ cs) h)
   holds = session C masks r h e cs

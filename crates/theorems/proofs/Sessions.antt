@@ -8,7 +8,7 @@ use lib.Seq.{take-length, take-suc}
 use Rattle.definitions.specs.Limits.{maxControllers, maxStates, maxRuleNodes, accepted}
 use Rattle.definitions.specs.Bounded.{pick}
 use Rattle.definitions.specs.Operations.{left}
-use Rattle.definitions.specs.Sessions.{headingSize, Space, Held, headingOf, image, controllersIn, heldIn, ruleIn, arrived, withdrawn, oneMore, oneLess, Sound, Full, Made}
+use Rattle.definitions.specs.Sessions.{headingSize, Space, Held, headingOf, spaceOf, controllersIn, heldIn, sessionRule, arrived, withdrawn, oneMore, oneLess, Sound, Full, Made}
 use Rattle.theorems.proofs.LentContents.{left-take, left-at, left-length, left-over, left-more, left-less}
 use Rattle.theorems.proofs.SessionChecks.{few-masks, few-nodes, few-states, length-less}
 
@@ -31,43 +31,43 @@ last-split ss h =
 
 -- ---- what is read of it
 module _ (a : Held) (h : Space) where
-  pub image-controllers : controllersIn (image a h) ≡ length (a .masks)
-  unfolding image left pick
-  image-controllers = refl
+  pub space-controllers : controllersIn (spaceOf a h) ≡ length (a .masks)
+  unfolding spaceOf left pick
+  space-controllers = refl
 
-  pub image-held : heldIn (image a h) ≡ length (a .states)
-  unfolding image left pick
-  image-held = refl
+  pub space-held : heldIn (spaceOf a h) ≡ length (a .states)
+  unfolding spaceOf left pick
+  space-held = refl
 
-  pub image-controller : (ruleIn (image a h)) .controller ≡ a .rule .controller
-  unfolding image left pick
-  image-controller = refl
+  pub space-controller : (sessionRule (spaceOf a h)) .controller ≡ a .rule .controller
+  unfolding spaceOf left pick
+  space-controller = refl
 
-  pub image-count : (ruleIn (image a h)) .count ≡ a .rule .count
-  unfolding image left pick
-  image-count = refl
+  pub space-count : (sessionRule (spaceOf a h)) .count ≡ a .rule .count
+  unfolding spaceOf left pick
+  space-count = refl
 
-  pub image-masks : take (length (a .masks)) ((image a h) .masks) ≡ a .masks
-  unfolding image
-  image-masks = left-take maxControllers (a .masks) (h .masks) (length (a .masks)) refl
+  pub space-masks : take (length (a .masks)) ((spaceOf a h) .masks) ≡ a .masks
+  unfolding spaceOf
+  space-masks = left-take maxControllers (a .masks) (h .masks) (length (a .masks)) refl
 
-  pub image-nodes : length (a .rule .nodes) ≡ a .rule .count → take (a .rule .count) ((image a h) .nodes) ≡ a .rule .nodes
-  unfolding image
-  image-nodes e = left-take maxRuleNodes (a .rule .nodes) (h .nodes) (a .rule .count) e
+  pub space-nodes : length (a .rule .nodes) ≡ a .rule .count → take (a .rule .count) ((spaceOf a h) .nodes) ≡ a .rule .nodes
+  unfolding spaceOf
+  space-nodes e = left-take maxRuleNodes (a .rule .nodes) (h .nodes) (a .rule .count) e
 
-  pub image-states : take (length (a .states)) ((image a h) .states) ≡ a .states
-  unfolding image
-  image-states = left-take maxStates (a .states) (h .states) (length (a .states)) refl
+  pub space-states : take (length (a .states)) ((spaceOf a h) .states) ≡ a .states
+  unfolding spaceOf
+  space-states = left-take maxStates (a .states) (h .states) (length (a .states)) refl
 
-  pub image-last : 0 < length (a .states) → getD ((image a h) .states) (length (a .states) - 1) 0 ≡ getD (a .states) (length (a .states) - 1) 0
-  unfolding image
-  image-last p = left-at maxStates (a .states) (h .states) (length (a .states) - 1) (omega arith)
+  pub space-last : 0 < length (a .states) → getD ((spaceOf a h) .states) (length (a .states) - 1) 0 ≡ getD (a .states) (length (a .states) - 1) 0
+  unfolding spaceOf
+  space-last p = left-at maxStates (a .states) (h .states) (length (a .states) - 1) (omega arith)
 
   module _ (k : Sound a) where
     -- its slices have their full size where the lent ones had
-    pub image-full : Full h → Full (image a h)
-    unfolding image
-    image-full f = record {
+    pub space-full : Full h → Full (spaceOf a h)
+    unfolding spaceOf
+    space-full f = record {
       heading = omega (arith, left-length headingSize (headingOf a) (h .heading) (omega arith) (f .heading), f .heading);
       masks = omega (arith, left-length maxControllers (a .masks) (h .masks) (few-masks a k) (f .masks), f .masks);
       nodes = omega (arith, left-length maxRuleNodes (a .rule .nodes) (h .nodes) (few-nodes a k) (f .nodes), f .nodes);
@@ -75,30 +75,30 @@ module _ (a : Held) (h : Space) where
     }
 
     -- another session over it leaves nothing of it
-    pub image-over : (b : Held) → image b (image a h) ≡ image b h
-    unfolding image
-    image-over b =
+    pub space-over : (b : Held) → spaceOf b (spaceOf a h) ≡ spaceOf b h
+    unfolding spaceOf
+    space-over b =
         space-same _ _ _ _ _ _ _ _
         (left-over headingSize (headingOf a) (h .heading) (headingOf b) (omega arith))
         (left-over maxControllers (a .masks) (h .masks) (b .masks) (few-masks a k))
         (left-over maxRuleNodes (a .rule .nodes) (h .nodes) (b .rule .nodes) (few-nodes a k))
         (left-over maxStates (a .states) (h .states) (b .states) (few-states a k))
 
-    pub image-made : Full h → Made (image a h)
-    image-made f = record { held = a; sound = k; full = image-full f; is = sym (image-over a) }
+    pub space-made : Full h → Made (spaceOf a h)
+    space-made f = record { held = a; sound = k; full = space-full f; is = sym (space-over a) }
 
     -- ---- what the calls make of it
-    pub image-arrived : (s : ℕ) → length (a .states) < maxStates → arrived s (image a h) ≡ image (oneMore s a) h
-    unfolding image arrived
-    image-arrived s l =
+    pub space-arrived : (s : ℕ) → length (a .states) < maxStates → arrived s (spaceOf a h) ≡ spaceOf (oneMore s a) h
+    unfolding spaceOf arrived
+    space-arrived s l =
         let n : length (a .states ++ (s ∷ [])) ≡ length (a .states) + 1 = length-append (a .states) (s ∷ []) in
         let e : set (left accepted headingSize (headingOf a) (h .heading)) 3 (length (a .states) + 1) ≡ left accepted headingSize (headingOf (oneMore s a)) (h .heading)
         = rw n (heading-states (length (a .masks)) (a .rule .controller) (a .rule .count) (length (a .states)) (length (a .states) + 1) (h .heading)) in
-        rw (image-held) (space-same _ _ _ _ _ _ _ _ e refl refl (left-more maxStates (a .states) (h .states) s (length (a .states)) refl l))
+        rw (space-held) (space-same _ _ _ _ _ _ _ _ e refl refl (left-more maxStates (a .states) (h .states) s (length (a .states)) refl l))
 
-    pub image-withdrawn : 0 < length (a .states) → withdrawn (image a h) ≡ image (oneLess a) h
-    unfolding image withdrawn
-    image-withdrawn p =
+    pub space-withdrawn : 0 < length (a .states) → withdrawn (spaceOf a h) ≡ spaceOf (oneLess a) h
+    unfolding spaceOf withdrawn
+    space-withdrawn p =
         let j : ℕ = length (a .states) - 1 in
         let s : ℕ = getD (a .states) j 0 in
         let n : length (take j (a .states)) ≡ j = length-less (a .states) in
@@ -109,4 +109,4 @@ module _ (a : Held) (h : Space) where
         = left-less maxStates (take j (a .states)) (h .states) s j n l in
         let c : set (left accepted maxStates (a .states) (h .states)) j 0 ≡ left accepted maxStates (take j (a .states)) (h .states)
         = ap (λ (ss : List ℕ). set (left accepted maxStates ss (h .states)) j 0) (sym (last-split (a .states) p)) ∙ b in
-        rw (image-held) (space-same _ _ _ _ _ _ _ _ e refl refl c)
+        rw (space-held) (space-same _ _ _ _ _ _ _ _ e refl refl c)

@@ -8,7 +8,7 @@ use lib.ListN.{length, length-append}
 use lib.Dec.{eqb}
 use Rattle.definitions.specs.Bounded.{pick, bitOf}
 use Rattle.definitions.specs.Nodes.{Kind, True, Atom, Not, Or, Next, Until, Prev, Since, Run, End, Unknown, Node, node, kindNumber}
-use Rattle.definitions.specs.Rewriting.{Emit, emit, Image, tolerantAt, tolerantOf, part, Draft, step, steps, Rewritten, closed, lastImage, rewriting}
+use Rattle.definitions.specs.Rewriting.{Emit, emit, Image, tolerantAt, tolerantOf, Meanings, meaningsOf, part, Draft, step, steps, Rewritten, closed, lastImage, rewriting}
 use Rattle.theorems.proofs.Counts.{cost, part-count, emit-count, step-count, opened, closed-count, cost-most}
 
 -- "Tolerant: true, own atom, every until; not and or of tolerant operands; nothing else"
@@ -29,15 +29,15 @@ formerTolerant mask is Unknown a b = false
 abbrev hadShort : Kind → Bool
 hadShort k = not (eqb (kindNumber k) (kindNumber Since))
 
-abbrev pub formerPart : (mask : ℕ) (is : List Image) (x g : ℕ) (weak : Bool) (k : Kind) (a b : ℕ) → List Emit
-formerPart mask is x g weak k a b = part (hadShort k) mask is x g weak k a b
+abbrev pub formerPart : (weak : Bool) (k : Kind) (m : Meanings) → List Emit
+formerPart weak k m = part (hadShort k) weak k m
 
 -- the rule's nodes in turn, the closing, and the table
 abbrev pub formerStep : (mask : ℕ) (D : Draft) (n : Node) → Draft
 formerStep mask D n =
     let x = length (D .nodes) in
-    let T = emit (D .nodes) (formerPart mask (D .images) x x true (n .kind) (n .first) (n .second)) in
-    let U = emit T (formerPart mask (D .images) x (length T) false (n .kind) (n .first) (n .second)) in
+    let T = emit (D .nodes) (formerPart true (n .kind) (meaningsOf mask (D .images) n true x x)) in
+    let U = emit T (formerPart false (n .kind) (meaningsOf mask (D .images) n false x (length T))) in
     record {
       nodes = U;
       images = D .images
@@ -94,9 +94,9 @@ former-step-count : (mask : ℕ) (D : Draft) (n : Node) →
     length ((formerStep mask D n) .nodes) ≡ length (D .nodes) + formerCost mask (D .images) (n .kind) (n .first) (n .second)
 former-step-count mask D n =
     let x : ℕ = length (D .nodes) in
-    let w : List Emit = formerPart mask (D .images) x x true (n .kind) (n .first) (n .second) in
+    let w : List Emit = formerPart true (n .kind) (meaningsOf mask (D .images) n true x x) in
     let T : List Node = emit (D .nodes) w in
-    let s : List Emit = formerPart mask (D .images) x (length T) false (n .kind) (n .first) (n .second) in
+    let s : List Emit = formerPart false (n .kind) (meaningsOf mask (D .images) n false x (length T)) in
     omega (arith, emit-count (D .nodes) w, emit-count T s, part-count (hadShort (n .kind)) mask (D .images) x x (length T) (n .kind) (n .first) (n .second))
 
 -- ---- what was tolerant still is

@@ -10,7 +10,7 @@ use lib.Dec.{eqb, ltb}
 use borrow.Author.Tests.{eqb-true, ne-eqb, le-leb, ltb-true, ltb-false}
 use Rattle.definitions.specs.Bounded.{pick, within}
 use Rattle.definitions.specs.Lines.{bytes, isEmpty, Parsed, formed, malformed, onParsed, decimal, digits}
-use Rattle.definitions.specs.OneLineSigns.{Not, Next, Prev, Future, Always, Implies, Or, And, Until, Since, Sign, truth, atom, before, between, opening, closing, signBytes, space, Spells, last, next, spaced}
+use Rattle.definitions.specs.OneLineSigns.{Not, Next, Prev, Future, Always, Implies, Or, And, Until, Since, Sign, trueSign, atomSign, prefixSign, infixSign, openBracket, closeBracket, signBytes, space, Spells, last, next, spaced}
 use Rattle.definitions.specs.OneLineReading.{past, Taken, taken, wordSigns, signAmong, digitsAhead, atomFirst, signFirst, afterSpace, signsBy, signsOf}
 use Rattle.theorems.proofs.Choice.{by-test, pick-true, pick-false, pick-must}
 use Rattle.theorems.proofs.Inversions.{never-formed, formed-same, parsed-must}
@@ -52,7 +52,7 @@ atom-begins t f e =
     let p = parsed-must (formed f) (past (bytes "a") t) malformed _ e (never-formed f) in
     let u = p .value in
     let q = parsed-must (formed f) (decimal (take (digitsAhead u) u)) malformed _ (p .gives) (never-formed f) in
-    let z = formed-same (taken (atom (q .value)) (drop (digitsAhead u) u)) f (q .gives) in
+    let z = formed-same (taken (atomSign (q .value)) (drop (digitsAhead u) u)) f (q .gives) in
     let d = read-prints (take (digitsAhead u) u) (q .value) (q .read) in
     rw (← z, d) (past-begins (bytes "a") t u (p .read) ∙ ap (λ (l : List ℕ). bytes "a" ++ l) (sym (take-append-drop (digitsAhead u) u)))
 
@@ -124,7 +124,7 @@ digits-ahead (suc f) n h u =
     rw (digits-step n l, append-assoc (digits (n / 10)) (d ∷ []) u) (more ∙ omega (arith, one, length-append (digits (n / 10)) (d ∷ []))))
 
 -- an atom is read with its whole number
-atom-first : (n : ℕ) (u : List ℕ) → NoDigit u → atomFirst (signBytes (atom n) ++ u) ≡ formed (taken (atom n) u)
+atom-first : (n : ℕ) (u : List ℕ) → NoDigit u → atomFirst (signBytes (atomSign n) ++ u) ≡ formed (taken (atomSign n) u)
 unfolding atomFirst past pick onParsed
 atom-first n u h =
     let a : digitsAhead (digits n ++ u) ≡ length (digits n) = digits-ahead n n (omega arith) u ∙ omega (arith, no-digit-ahead u h) in
@@ -135,20 +135,20 @@ atom-first n u h =
 -- a sign is read where it stands
 pub sign-first : (x : Sign) (u : List ℕ) → NoDigit u → signFirst (signBytes x ++ u) ≡ formed (taken x u)
 unfolding signFirst signAmong atomFirst past pick onParsed
-sign-first truth u h = refl
-sign-first (atom n) u h = ap (λ (p : Parsed Taken). onParsed p (signAmong wordSigns (signBytes (atom n) ++ u)) formed) (atom-first n u h)
-sign-first (before Not) u h = refl
-sign-first (before Next) u h = refl
-sign-first (before Prev) u h = refl
-sign-first (before Future) u h = refl
-sign-first (before Always) u h = refl
-sign-first (between Implies) u h = refl
-sign-first (between Or) u h = refl
-sign-first (between And) u h = refl
-sign-first (between Until) u h = refl
-sign-first (between Since) u h = refl
-sign-first opening u h = refl
-sign-first closing u h = refl
+sign-first trueSign u h = refl
+sign-first (atomSign n) u h = ap (λ (p : Parsed Taken). onParsed p (signAmong wordSigns (signBytes (atomSign n) ++ u)) formed) (atom-first n u h)
+sign-first (prefixSign Not) u h = refl
+sign-first (prefixSign Next) u h = refl
+sign-first (prefixSign Prev) u h = refl
+sign-first (prefixSign Future) u h = refl
+sign-first (prefixSign Always) u h = refl
+sign-first (infixSign Implies) u h = refl
+sign-first (infixSign Or) u h = refl
+sign-first (infixSign And) u h = refl
+sign-first (infixSign Until) u h = refl
+sign-first (infixSign Since) u h = refl
+sign-first openBracket u h = refl
+sign-first closeBracket u h = refl
 
 -- a sign has a first byte, which is no digit and no space
 pub record Begins (t : List ℕ) : Type 0 where
@@ -157,20 +157,20 @@ pub record Begins (t : List ℕ) : Type 0 where
   pub noSpace : eqb (firstByte t) space ≡ false
 
 pub sign-begins : (x : Sign) (u : List ℕ) → Begins (signBytes x ++ u)
-sign-begins truth u = record { some = omega arith; noDigit = refl; noSpace = refl }
-sign-begins (atom n) u = record { some = omega arith; noDigit = refl; noSpace = refl }
-sign-begins (before Not) u = record { some = omega arith; noDigit = refl; noSpace = refl }
-sign-begins (before Next) u = record { some = omega arith; noDigit = refl; noSpace = refl }
-sign-begins (before Prev) u = record { some = omega arith; noDigit = refl; noSpace = refl }
-sign-begins (before Future) u = record { some = omega arith; noDigit = refl; noSpace = refl }
-sign-begins (before Always) u = record { some = omega arith; noDigit = refl; noSpace = refl }
-sign-begins (between Implies) u = record { some = omega arith; noDigit = refl; noSpace = refl }
-sign-begins (between Or) u = record { some = omega arith; noDigit = refl; noSpace = refl }
-sign-begins (between And) u = record { some = omega arith; noDigit = refl; noSpace = refl }
-sign-begins (between Until) u = record { some = omega arith; noDigit = refl; noSpace = refl }
-sign-begins (between Since) u = record { some = omega arith; noDigit = refl; noSpace = refl }
-sign-begins opening u = record { some = omega arith; noDigit = refl; noSpace = refl }
-sign-begins closing u = record { some = omega arith; noDigit = refl; noSpace = refl }
+sign-begins trueSign u = record { some = omega arith; noDigit = refl; noSpace = refl }
+sign-begins (atomSign n) u = record { some = omega arith; noDigit = refl; noSpace = refl }
+sign-begins (prefixSign Not) u = record { some = omega arith; noDigit = refl; noSpace = refl }
+sign-begins (prefixSign Next) u = record { some = omega arith; noDigit = refl; noSpace = refl }
+sign-begins (prefixSign Prev) u = record { some = omega arith; noDigit = refl; noSpace = refl }
+sign-begins (prefixSign Future) u = record { some = omega arith; noDigit = refl; noSpace = refl }
+sign-begins (prefixSign Always) u = record { some = omega arith; noDigit = refl; noSpace = refl }
+sign-begins (infixSign Implies) u = record { some = omega arith; noDigit = refl; noSpace = refl }
+sign-begins (infixSign Or) u = record { some = omega arith; noDigit = refl; noSpace = refl }
+sign-begins (infixSign And) u = record { some = omega arith; noDigit = refl; noSpace = refl }
+sign-begins (infixSign Until) u = record { some = omega arith; noDigit = refl; noSpace = refl }
+sign-begins (infixSign Since) u = record { some = omega arith; noDigit = refl; noSpace = refl }
+sign-begins openBracket u = record { some = omega arith; noDigit = refl; noSpace = refl }
+sign-begins closeBracket u = record { some = omega arith; noDigit = refl; noSpace = refl }
 
 pub line-begins : {line : List ℕ} {s : List Sign} → Spells line s → Begins line
 line-begins (last x) = rw (append-nil (signBytes x)) at (sign-begins x [])

@@ -1,2 +1,4 @@
+pub mod StepLaws
+pub mod TakenLaws
 pub mod WantedLaws
 pub mod WalkLaws

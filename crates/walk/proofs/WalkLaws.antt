@@ -10,10 +10,10 @@ use lib.ListN.{length, drop, getD, drop-of-length-le}
 use lib.Seq.{drop-cons}
 use borrow.Author.Needs.{needs}
 use Rattle.definitions.specs.Limits.{pairWords}
-use Rattle.definitions.specs.Nodes.{Kind, True, Atom, Not, Or, Next, Until, Prev, Since, Run, End, Unknown, Node, node, kindOf}
+use Rattle.definitions.specs.Nodes.{Kind, True, Atom, Not, Or, Next, Until, Prev, Since, Run, End, Unknown, Node, node, kindOf, noNode, nodeAt}
 use Rattle.definitions.specs.Tables.{nodesIn}
 use Rattle.definitions.specs.Readings.{Trace, Rows, noRows, rowOf, readFrom, rowsOf}
-use Rattle.definitions.specs.Evidence.{under, rowsBy, takes, walkNode, walkNodes, sameReading, startRows, wantedRows, noNode, nodeAt}
+use Rattle.definitions.specs.Evidence.{under, rowsBy, takes, walkNode, walkNodes, sameReading, startRows, wantedRows}
 use Rattle.theorems.proofs.Choice.{by-test}
 use Rattle.theorems.proofs.RuleNodes.{RuleNodes}
 use Rattle.theorems.proofs.Semantics.{Row, Agree}
@@ -21,15 +21,15 @@ use Rattle.theorems.proofs.EvidenceRows.{firstMarks, secondMarks}
 use Rattle.theorems.proofs.EvidenceWalk.{by-at, read-by}
 use Rattle.theorems.proofs.EvidenceTurns.{turn-of}
 use Rattle.mark_words.specs.Marks.{markAt}
-use Rattle.formulas.specs.Meaning.{meaning, OfWord}
-use Rattle.formulas.specs.declared.node.Node as code
-use Rattle.row_pairs.specs.declared.pair.Pair.{Pair}
-use Rattle.evaluation.specs.Nodes.{Fit}
-use Rattle.row_pairs.specs.Pairs.{isLeaf, rowsIn, PairMade, Operable, pairOfNode}
-use Rattle.evaluation.proofs.EvaluateLaws.{rows-in, both-made}
-use Rattle.evaluation.proofs.TableLaws.{nodes-length}
-use Rattle.walk_steps.specs.declared.taken.Taken.{Taken}
-use Rattle.walk_steps.specs.Steps.{PairsEven, bothOf, takenFirst, takenSecond, TakenMade}
+use Rattle.rules.specs.Meaning.{meaning, OfWord}
+use Rattle.rules.specs.declared.node.Node as code
+use Rattle.rows.specs.declared.pair.Pair.{Pair}
+use Rattle.rules.specs.Kinds.{isLeaf, Fit}
+use Rattle.rows.specs.Pairs.{rowsIn, PairMade, Operable, pairOfNode}
+use Rattle.rows.proofs.PairLaws.{rows-in, both-made}
+use Rattle.rules.proofs.NodeLists.{nodes-length}
+use Rattle.walk.specs.declared.taken.Taken.{Taken}
+use Rattle.walk.specs.Steps.{PairsEven, bothOf, takenFirst, takenSecond, TakenMade}
 use Rattle.walk.specs.Wanted.{Wished, Held, started, wished}
 use Rattle.walk.specs.Walking.{Laid, Taking, OperatorReady, wordNode, Turning, turnFirst, turnSecond, Turned, Walkable, Walked}
 use Rattle.walk.proofs.WantedLaws.{both-at, pair-by, held-by, held-over, pair-recounted, wish-held}
@@ -148,6 +148,7 @@ module _ (kind first second m : ℕ) (rows wanted : List ℕ) (ready : Taking ki
   pub taking-even : PairsEven w u p q
   taking-even = rw (ew, eu, ep, eq) (ready .even)
 
+  -- `taken_by`
   pub taking-done : (t : Taken) → TakenMade (kindOf kind) w u p q t
       → TakenMade (kindOf kind) (pairOfNode wanted m) (pairOfNode rows m) (pairOfNode rows first) (pairOfNode rows second) t
   taking-done t made = rw (ew, eu, ep, eq) at made
@@ -210,6 +211,7 @@ module _ (kind first second m n : ℕ) (rows wanted : List ℕ) (T : OperatorRea
           both-made (pairOfNode l′ second) (t .second) n (g second) (turnSecond operatorNode m n rows wanted)
           (after-first (m + 1) (λ j. rowsIn (pairOfNode wanted j)) (omega arith) (T .wantedLaid) .pairs second (omega (arith, T .secondEarly))) second-made
 
+      -- `turn_operator`
       pub operator-done : (l″ : List ℕ) → Wished l′ second (t .second) l″ → Turned operatorNode m n rows wanted l″
       operator-done l″ X = record {
         adds = λ count f c H. wish-held n count l′ l″ (wished n f first (turnFirst operatorNode m n rows wanted)) second (t .second)
@@ -226,6 +228,7 @@ module _ (nodes : List ℕ) (m n : ℕ) (rows wanted : List ℕ) (T : Turning no
   fit : Fit m (meaning x)
   fit = rw (word .meant) (T .fit)
 
+  -- `turn` of a leaf, which takes nothing
   pub turn-leaf : leaf ≡ true → Turned (wordNode nodes m) m n rows wanted wanted
   turn-leaf t = turned-over m n n (meaning x) (wordNode nodes m) rows wanted wanted refl (word .meant) (record { adds = λ count f c H. record { pairs = λ j d. pairs count f H j d } })
     where
@@ -260,6 +263,7 @@ module _ (nodes : List ℕ) (m n : ℕ) (rows wanted : List ℕ) (T : Turning no
       wantedLaid = T .wantedLaid;
     }
 
+    -- `turn` of an operator
     pub turn-done : (l′ : List ℕ) → Turned (node (kindOf (x .kind)) (x .first) (x .second)) m n rows wanted l′ → Turned (wordNode nodes m) m n rows wanted l′
     turn-done l′ U = turned-over m n n (meaning x) (wordNode nodes m) rows wanted l′ refl (word .meant) U
 
@@ -387,6 +391,7 @@ module _ (nodes : List ℕ) (count n : ℕ) (rows : List ℕ) (weak : Bool) (fir
     wantedLaid = laid-fewer n count (m - 1 + 1) l (omega (arith, so .within)) (so .laid);
   }
 
+  -- `walk`: a turn more, and all turns
   pub walk-more : 0 < m → (l′ : List ℕ) → length l′ ≡ length l → Turned (wordNode nodes (m - 1)) (m - 1) n rows l l′ → Walking nodes count n rows weak first (m - 1) l′
   walk-more h l′ kept U = record {
     within = omega (arith, so .within);

@@ -1,70 +1,33 @@
 -- One law for each need of the functions on wanted places.
-use mathlib.Core.Path.{_≡_, refl, sym, ap, ap₂, _∙_}
+use mathlib.Core.Path.{_≡_, refl, sym, ap, _∙_}
 use mathlib.Core.Bool.{Bool, true, false, not, _&&_, _||_, or-false}
-use mathlib.Core.List.{List, _++_}
+use mathlib.Core.List.{List}
 use Prim.Native.Nat.{ℕ, zero, suc, _+_, _-_, _*_, _<_, _≤_}
 use native.Mathlib.Omega.{arith}
-use native.Mathlib.Decide.{ℕ-discrete, decLt}
+use native.Mathlib.Decide.{ℕ-discrete}
 use lib.Dec.{eqb}
-use lib.ListN.{length, take, drop}
+use lib.ListN.{length}
 use borrow.Author.Needs.{needs}
 use borrow.Author.Tests.{eq-eqb, ne-eqb}
 use Rattle.definitions.specs.Limits.{pairWords}
 use Rattle.definitions.specs.Bounded.{tabulate}
 use Rattle.definitions.specs.Nodes.{Or}
-use Rattle.definitions.specs.Readings.{Rows, rowOf, rowWords, prevAt}
+use Rattle.definitions.specs.Readings.{Rows, rowOf, prevAt}
 use Rattle.definitions.specs.Evidence.{sameReading}
 use Rattle.theorems.proofs.Recursions.{prev-recursion}
 use Rattle.theorems.proofs.Tabulations.{tabulate-at, tabulated}
 use Rattle.theorems.proofs.Semantics.{Agree}
 use Rattle.mark_words.specs.Marks.{markAt}
 use Rattle.rows.specs.Marks.{marks, Whole, Made}
-use Rattle.rows.specs.declared.row.Row.{Row}
+use Rattle.rows.specs.declared.Row.{Row}
 use Rattle.rows.proofs.PackedLaws.{marks-length, retold}
 use Rattle.rows.proofs.RowLaws.{not-on, prev-on}
-use Rattle.stored_rows.proofs.StoredLaws.{row-here, row-before, row-past}
-use Rattle.row_pairs.specs.declared.pair.Pair.{Pair}
-use Rattle.row_pairs.specs.Pairs.{PairMade, Operable, operated, pairAt, pairOfNode}
-use Rattle.row_pairs.proofs.KindLaws.{kind-or}
-use Rattle.row_pairs.proofs.PairLaws.{pairOf, or-pair}
-use Rattle.evaluation.proofs.EvaluateLaws.{rows-in, both-made}
-use Rattle.walk_steps.specs.Steps.{bothOf}
-use Rattle.walk.specs.Wanted.{PairWhole, Put, Wished, Held, none, chosen, started, wished}
-
--- ---- a pair put
-
-module _ (l l′ l″ : List ℕ) (j : ℕ) (p : Pair) (v : PairWhole p) (room : j * pairWords + pairWords ≤ length l) (kept : length l′ ≡ length l)
-    (a : l′ ≡ take (j * pairWords) l ++ (rowWords (marks (p .weak)) ++ drop (j * pairWords + 3) l))
-    (b : l″ ≡ take (j * pairWords + 3) l′ ++ (rowWords (marks (p .strong)) ++ drop (j * pairWords + 3 + 3) l′)) where
-  pub put-laid : Put l j p l″
-  unfolding pairAt
-  put-laid =
-      let one : j * pairWords + 3 ≤ length l = omega arith in
-      let two : j * pairWords + 3 + 3 ≤ length l′ = omega arith in
-      record {
-        here = ap₂ pairOf
-            (row-before l′ l″ (j * pairWords + 3) (p .strong) (v .strong) two b (j * pairWords) (omega arith) ∙ row-here l l′ (j * pairWords) (p .weak) (v .weak) one a)
-            (row-here l′ l″ (j * pairWords + 3) (p .strong) (v .strong) two b);
-        others = λ i n. go i n (decLt i j) one two;
-      }
-    where
-      go : (i : ℕ) → (i ≡ j → ⊥) → Dec (i < j) → j * pairWords + 3 ≤ length l → j * pairWords + 3 + 3 ≤ length l′ → pairOfNode l″ i ≡ pairOfNode l i
-      go i n (yes h) one two = ap₂ pairOf
-          (row-before l′ l″ (j * pairWords + 3) (p .strong) (v .strong) two b (i * pairWords) (omega arith) ∙ row-before l l′ (j * pairWords) (p .weak) (v .weak) one a (i * pairWords) (omega arith))
-          (row-before l′ l″ (j * pairWords + 3) (p .strong) (v .strong) two b (i * pairWords + 3) (omega arith) ∙ row-before l l′ (j * pairWords) (p .weak) (v .weak) one a (i * pairWords + 3) (omega arith))
-      go i n (no h) one two =
-          let late : j < i = later i j n h in
-          ap₂ pairOf
-          (row-past l′ l″ (j * pairWords + 3) (p .strong) (v .strong) two b (i * pairWords) (omega arith) ∙ row-past l l′ (j * pairWords) (p .weak) (v .weak) one a (i * pairWords) (omega arith))
-          (row-past l′ l″ (j * pairWords + 3) (p .strong) (v .strong) two b (i * pairWords + 3) (omega arith) ∙ row-past l l′ (j * pairWords) (p .weak) (v .weak) one a (i * pairWords + 3) (omega arith))
-        where
-          later : (i j : ℕ) → (i ≡ j → ⊥) → (i < j → ⊥) → j < i
-          later i j n h = ordered (ℕ-discrete i j) (decLt j i)
-            where
-              ordered : Dec (i ≡ j) → Dec (j < i) → j < i
-              ordered (yes e) d = absurd (n e)
-              ordered (no e) (yes d) = d
-              ordered (no e) (no d) = absurd (h (omega arith))
+use Rattle.rows.specs.declared.pair.Pair.{Pair}
+use Rattle.rows.specs.Pairs.{PairMade, PairWhole, PairStored, Operable, operated, pairOfNode}
+use Rattle.rules.proofs.KindLaws.{kind-or}
+use Rattle.rows.proofs.PairLaws.{pairOf, or-pair, rows-in, both-made}
+use Rattle.walk.specs.Steps.{bothOf}
+use Rattle.walk.specs.Wanted.{Wished, Held, none, chosen, started, wished}
 
 -- ---- wanted
 
@@ -81,10 +44,11 @@ module _ (l : List ℕ) (j : ℕ) (p taken : Pair) (e : p ≡ pairOfNode l j) (o
   pub strong-even : p .strong .count ≡ taken .strong .count
   strong-even = rw e (o .firstEven ∙ sym (o .secondEven))
 
+  -- `want`
   pub wish-done : (weak strong : Row) (l′ : List ℕ)
       → Made weak (p .weak .count) (tabulate (p .weak .count) (λ k. markAt (marks (p .weak)) k || markAt (marks (taken .weak)) k))
       → Made strong (p .strong .count) (tabulate (p .strong .count) (λ k. markAt (marks (p .strong)) k || markAt (marks (taken .strong)) k))
-      → Put l j (pairOf weak strong) l′ → Wished l j taken l′
+      → PairStored l j (pairOf weak strong) l′ → Wished l j taken l′
   wish-done weak strong l′ a b u = record {
     here = rw (u .here) (rw (e, kind-or) at (or-pair 3 p taken weak strong (rw e o) refl a b));
     others = u .others;
@@ -155,13 +119,14 @@ module _ (n count : ℕ) (entry : List ℕ) (row : Row) (i : ℕ) (l : List ℕ)
   pub blank-room : count * pairWords ≤ length entry → i < count → i * pairWords + pairWords ≤ length l
   blank-room room h = omega (arith, so .kept)
 
-  pub blank-more : i < count → (l′ : List ℕ) → length l′ ≡ length l → Put l i (pairOf row row) l′ → Blanking n count entry (i + 1) l′
+  pub blank-more : i < count → (l′ : List ℕ) → length l′ ≡ length l → PairStored l i (pairOf row row) l′ → Blanking n count entry (i + 1) l′
   blank-more h l′ kept u = record { within = omega arith; kept = kept ∙ so .kept; held = record { pairs = λ j c. go j c (ℕ-discrete j i) } }
     where
       go : (j : ℕ) → j < i + 1 → Dec (j ≡ i) → PairMade (pairOfNode l′ j) n (none n)
       go j c (yes e) = rw (e, u .here) (record { weak = made; strong = made })
       go j c (no e) = rw (u .others j e) (so .held .pairs j (omega arith))
 
+-- `blank`
 pub blank-done : (n count : ℕ) (entry : List ℕ) (i : ℕ) (l : List ℕ) → Blanking n count entry i l → count ≤ i → Held n count l (λ j. none n)
 blank-done n count entry i l so h = let e : i ≡ count = omega (arith, so .within) in rw e at (so .held)
 
@@ -183,6 +148,7 @@ first-alone n full before here f b h =
 module _ (n : ℕ) (weak : Bool) (nothing full before here : Row) (mn : Made nothing n (tabulate n (λ k. false))) (mf : Made full n (tabulate n (λ k. true)))
     (mb : Made before (full .count) (tabulate (full .count) (prevAt (markAt (marks full)))))
     (mh : Made here (before .count) (tabulate (before .count) (λ k. not (markAt (marks before) k)))) where
+  -- `chosen`
   pub chosen-weak : weak ≡ true → PairMade (pairOf here nothing) n (chosen n weak)
   unfolding chosen
   chosen-weak e = rw e (record { weak = first-alone n full before here mf mb mh; strong = mn })
@@ -200,6 +166,7 @@ module _ (n count : ℕ) (weak : Bool) (l : List ℕ) (p : Pair) (some : 0 < cou
   pub start-operable : Operable (pairOfNode l (count - 1)) p
   start-operable = both-made (pairOfNode l (count - 1)) p n (none n) (chosen n weak) (H .pairs (count - 1) inside) m
 
+  -- `start`: the wanted places before the first turn are `started`
   pub start-done : (l′ : List ℕ) → Wished l (count - 1) p l′ → Held n count l′ (started n count weak)
   unfolding chosen
   start-done l′ W =
@@ -217,4 +184,4 @@ module _ (n count : ℕ) (weak : Bool) (l : List ℕ) (p : Pair) (some : 0 < cou
           go (no e) = ne-eqb j (count - 1) e ∙ sym (ne-eqb (suc j) count (λ q. e (omega arith)))
 
 pub ruleset wanted-laws =
-    (needs, put-laid, weak-whole, strong-whole, weak-even, strong-even, both-whole, wish-done, blank-none, blank-whole, blank-room, blank-more, blank-done, chosen-weak, chosen-strong, start-operable, start-done)
+    (needs, weak-whole, strong-whole, weak-even, strong-even, both-whole, wish-done, blank-none, blank-whole, blank-room, blank-more, blank-done, chosen-weak, chosen-strong, start-operable, start-done)

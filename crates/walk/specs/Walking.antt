@@ -10,9 +10,9 @@ use Rattle.definitions.specs.Tables.{nodesIn}
 use Rattle.definitions.specs.Readings.{Trace, Rows, noRows, rowsOf}
 use Rattle.definitions.specs.Evidence.{wantedRows}
 use Rattle.theorems.proofs.RuleNodes.{RuleNodes}
-use Rattle.evaluation.specs.Nodes.{Fit}
-use Rattle.row_pairs.specs.Pairs.{isLeaf, rowsIn, pairOfNode}
-use Rattle.walk_steps.specs.Steps.{PairsEven, bothOf, takenFirst, takenSecond}
+use Rattle.rules.specs.Kinds.{isLeaf, Fit}
+use Rattle.rows.specs.Pairs.{rowsIn, pairOfNode}
+use Rattle.walk.specs.Steps.{PairsEven, bothOf, takenFirst, takenSecond}
 use Rattle.walk.specs.Wanted.{Held, wished}
 
 -- each of the first `count` nodes has whole rows over n places

@@ -9,20 +9,9 @@ use Rattle.definitions.specs.Nodes.{Or}
 use Rattle.definitions.specs.Readings.{Rows, rowOf}
 use Rattle.definitions.specs.Evidence.{sameReading}
 use Rattle.mark_words.specs.Marks.{markAt}
-use Rattle.rows.specs.Marks.{Whole}
-use Rattle.row_pairs.specs.declared.pair.Pair.{Pair}
-use Rattle.row_pairs.specs.Pairs.{rowsIn, PairMade, operated, pairOfNode}
-use Rattle.walk_steps.specs.Steps.{bothOf}
-
--- both rows of a pair are whole
-pub record PairWhole (p : Pair) : Type 0 where
-  pub weak : Whole (p .weak)
-  pub strong : Whole (p .strong)
-
--- node j has the pair p, and every other node the pair that it had
-pub record Put (entry : List ℕ) (j : ℕ) (p : Pair) (exit : List ℕ) : Type 0 where
-  pub here : pairOfNode exit j ≡ p
-  pub others : (i : ℕ) → (i ≡ j → ⊥) → pairOfNode exit i ≡ pairOfNode entry i
+use Rattle.rows.specs.declared.pair.Pair.{Pair}
+use Rattle.rows.specs.Pairs.{rowsIn, PairMade, operated, pairOfNode}
+use Rattle.walk.specs.Steps.{bothOf}
 
 -- node j has its own marks and those of `taken`, and every other node the pair that it had
 pub record Wished (entry : List ℕ) (j : ℕ) (taken : Pair) (exit : List ℕ) : Type 0 where

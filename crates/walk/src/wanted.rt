@@ -2,22 +2,12 @@
 ghost use Prim.Native.Nat.{_+_, _*_, _<_, _≤_};
 ghost use lib.ListN.{length};
 ghost use Rattle.definitions.specs.Limits.{maxStates, pairWords};
-ghost use Rattle.row_pairs.specs.Pairs.{PairMade, pairOfNode, Operable};
-ghost use Rattle.walk.specs.Wanted.{PairWhole, Put, Wished, Held, none, chosen, started};
-use evaluation::evaluate::pair_of_node;
-use formulas::limits::Limits;
-use row_pairs::pair::Pair;
-use rows::row::Row;
-use stored_rows::stored::store;
-
-// Lays a pair over that of node j.
-fn put(wanted: &mut [u64], j: usize, p: Pair)
-    requires { ⌜ (PairWhole p) × (j * pairWords + pairWords ≤ length (now wanted)) ⌝ }
-    ensures { λ _. ⌜ Put (now (wanted .entry)) j p (now (wanted .exit)) ⌝ }
-{
-    store(wanted, j * Limits::PAIR_WORDS, p.weak);
-    store(wanted, j * Limits::PAIR_WORDS + Pair::STRONG, p.strong);
-}
+ghost use Rattle.rows.specs.Pairs.{PairMade, pairOfNode, Operable};
+ghost use Rattle.walk.specs.Wanted.{Wished, Held, none, chosen, started};
+use rows::Row;
+use rows::pair::Pair;
+use rows::pair::pair_of_node;
+use rows::pair::store_pair;
 
 // What is taken of node j is wanted, beside what is wanted of it already.
 pub fn want(wanted: &mut [u64], j: usize, taken: Pair)
@@ -27,7 +17,7 @@ pub fn want(wanted: &mut [u64], j: usize, taken: Pair)
     let p = pair_of_node(wanted, j);
     let weak = p.weak.or(taken.weak);
     let strong = p.strong.or(taken.strong);
-    put(
+    store_pair(
         wanted,
         j,
         Pair {
@@ -43,7 +33,7 @@ fn blank(count: usize, n: usize, wanted: &mut [u64])
 {
     let row = Row::none(n);
     for j in 0..count {
-        put(
+        store_pair(
             wanted,
             j,
             Pair {

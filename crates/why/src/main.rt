@@ -1,14 +1,14 @@
 // Tells the verdict that the first line on standard input asks for, of the rule and the recording after it, and the readings
 // behind it, on standard output. On standard error it says where a refused line stands, or what could not be read or written.
-use asked_reading::Asked;
-use asked_reading::asked_by;
-use formulas::limits::Limits;
 use libc::STDOUT_FILENO;
-use refused_line::find::refused_line;
+use program_input::asked::Asked;
+use program_input::asked::asked_by;
+use refused_line::refused_line;
+use report::REFUSED;
+use rules::limits::Limits;
 use standard_streams::failures;
 use standard_streams::input::read_input;
-use told_line::say_line;
-use why_program::why;
+use standard_streams::told_line::say_line;
 
 // Where a reading was asked for, the refused line of the texts after that line. An input that is too long has none.
 fn say_refused(input: &[u8]) {
@@ -29,10 +29,13 @@ fn main() {
         return;
     }
     let length = input.count;
-    let mut output = [0u8; why::OUTPUT_BYTES];
-    let printed = why::why(&space[..length], &mut output);
+    let mut output = [0u8; why_program::OUTPUT_BYTES];
+    let printed = why_program::why(&space[..length], &mut output);
     if io::write_all(STDOUT_FILENO, &output[..printed]) {
-        say_refused(&space[..length]);
+        // What was accepted has no refused line, and is not read again.
+        if output[0] == REFUSED {
+            say_refused(&space[..length]);
+        }
     } else {
         failures::say_unwritten(b"why");
     }

@@ -11,22 +11,25 @@ use borrow.Author.Tests.{ne-eqb, eq-eqb, lt-ltb, le-ltb}
 use Rattle.definitions.specs.Limits.{maxInputBytes, inputLong, ruleForm, maxRuleNodes, maxControllers, maxStates}
 use Rattle.definitions.specs.Bounded.{pick}
 use Rattle.definitions.specs.RecordingText.{jointNumber}
-use Rattle.definitions.specs.Program.{ruleIn, recordingIn, refusedText}
+use Rattle.definitions.specs.Program.{ruleTextIn, recordingTextIn, refusedText}
 use Rattle.definitions.specs.Why.{asks, whyTexts, whyOutput}
 use Rattle.theorems.proofs.Choice.{by-test}
-use Rattle.printing.specs.Printing.{Printed}
-use Rattle.scanning.proofs.PartLaws.{part-to-end}
-use Rattle.joint_text.specs.Joining.{ReadJoint}
-use Rattle.input_split.specs.Splitting.{SplitAt}
-use Rattle.program.specs.Output.{foundRule, foundRecording, OutputIs}
-use Rattle.input_split.specs.declared.split.Parts.{Parts}
-use Rattle.program.proofs.OutputLaws.{refused-length, first-is, line-is, rule-is, recording-is, refusal-room, tables-found, nodes-counted, masks-counted, states-counted, rule-counted, printed-all}
-use Rattle.behind_text.specs.Behind.{behindOf, BehindReady}
-use Rattle.asked_reading.specs.Asking.{askedIn, AskedIs}
+use Rattle.printing.specs.Printing.{Printed, OutputIs}
+use Rattle.printing.proofs.LineLaws.{printed-all}
+use Rattle.report.proofs.ReportLaws.{refused-length}
+use Rattle.lines.proofs.PartLaws.{part-to-end}
+use Rattle.joint_reading.specs.Joining.{ReadJoint}
+use Rattle.program_input.specs.Splitting.{SplitAt}
+use Rattle.program_input.proofs.SplitLaws.{rule-counted, texts-fit}
+use Rattle.report.specs.ReadTables.{foundRule, foundRecording}
+use Rattle.program_input.specs.declared.Parts.{Parts}
+use Rattle.report.proofs.ReadTableLaws.{first-is, line-is, rule-is, recording-is, refusal-room, tables-found, nodes-counted, masks-counted, states-counted}
+use Rattle.evidence_text.specs.Behind.{behindOf, BehindReady}
+use Rattle.program_input.specs.Asking.{askedIn, AskedIs}
 use Rattle.why_program.specs.Output.{maxWhyBytes, FoundRoom, WhyRoom, InputRoom}
-use Rattle.asked_reading.specs.declared.Asked.{Asked}
-use Rattle.asked_reading.specs.declared.Asked.the-variants.{Reading, Nothing}
-use Rattle.asked_reading.proofs.AskedLaws.{reading-inside, nothing-counts}
+use Rattle.program_input.specs.declared.asked.Asked.{Asked}
+use Rattle.program_input.specs.declared.asked.Asked.the-variants.{Reading, Nothing}
+use Rattle.program_input.proofs.AskedLaws.{reading-inside, nothing-counts}
 
 -- ---- `put_found`
 module _ (heading nodes masks states text : List ℕ) (f : FoundRoom heading nodes masks states text) where
@@ -39,6 +42,7 @@ module _ (heading nodes masks states text : List ℕ) (f : FoundRoom heading nod
   pub found-states : getD heading 4 0 ≡ length (take (getD heading 4 0) states)
   found-states = states-counted heading nodes masks states (f .found)
 
+  -- `put_found`: the tables found and the space for the text are what `put_behind` asks
   pub found-ready : BehindReady (foundRule heading nodes) (foundRecording heading masks states) text
   found-ready = record { accepted = f .found .both; room = f .room }
 
@@ -59,6 +63,7 @@ module _ (weak : Bool) (x y r : RefT (List ℕ)) (nodes masks states nodes′ ma
     pub refused-room : length (refusedText (getD heading 0 0) (r .now)) ≤ length text
     refused-room = refusal-room x y r nodes masks states nodes′ masks′ states′ heading text j (room .texts) nodesRoom masksRoom statesRoom z
 
+    -- `why_texts`, refused: the number and the line printed are `whyTexts`
     pub refused-printed : (e : ℕ) (text′ : List ℕ) → Printed (refusedText (getD heading 0 0) (r .now)) text 0 e text′ →
         Printed (whyTexts weak (x .now) (y .now)) text 0 e text′
     unfolding whyTexts pick
@@ -77,6 +82,7 @@ module _ (weak : Bool) (x y r : RefT (List ℕ)) (nodes masks states nodes′ ma
       room = room .room;
     }
 
+    -- `why_texts`, accepted: what is behind the verdict, `behindOf`, is `whyTexts`
     pub found-printed : (e : ℕ) (text′ : List ℕ) → Printed (behindOf weak (foundRule heading nodes′) (foundRecording heading masks′ states′)) text 0 e text′ →
         Printed (whyTexts weak (x .now) (y .now)) text 0 e text′
     unfolding whyTexts pick
@@ -92,24 +98,23 @@ pub ruleset texts-laws = (needs, refused-room, refused-printed, found-room, foun
 module _ (input text : List ℕ) (room : InputRoom input text) (s : Parts) (is : SplitAt input s) where
   pub asked-room : WhyRoom (take (s .«rule_end») input) (take (length input - s .«recording_at») (drop (s .«recording_at») input)) text
   asked-room = record {
-    texts = record {
-      ruleFits = rw length-take (omega (arith, room .fits));
-      recordingFits = rw (part-to-end input (s .«recording_at»), length-drop) (omega (arith, room .fits));
-      textRoom = omega (arith, room .room);
-    };
+    texts =
+        let fit = texts-fit input s is (room .fits) in
+        record { ruleFits = fit .ruleFits; recordingFits = fit .recordingFits; textRoom = omega (arith, room .room) };
     room = room .room;
   }
 
+  -- `why_asked`: `whyTexts` of the two parts is that of `ruleTextIn` and `recordingTextIn`
   pub asked-printed : (weak : Bool) (e : ℕ) (text′ : List ℕ)
       → Printed (whyTexts weak (take (s .«rule_end») input) (take (length input - s .«recording_at») (drop (s .«recording_at») input))) text 0 e text′
-      → Printed (whyTexts weak (ruleIn input) (recordingIn input)) text 0 e text′
+      → Printed (whyTexts weak (ruleTextIn input) (recordingTextIn input)) text 0 e text′
   asked-printed weak e text′ p = rw (← is .rule, ← is .recording, ← part-to-end input (s .«recording_at»)) p
 
 pub ruleset split-laws = (needs, rule-counted, asked-room, asked-printed)
 
 -- ---- what is printed by each answer
 unfoldable answerText : List ℕ → Asked → List ℕ
-answerText input (Reading weak at) = whyTexts weak (ruleIn (drop at input)) (recordingIn (drop at input))
+answerText input (Reading weak at) = whyTexts weak (ruleTextIn (drop at input)) (recordingTextIn (drop at input))
 answerText input (Nothing len) = refusedText ruleForm (take len input)
 
 by-answer : (input : List ℕ) → length input ≤ maxInputBytes → whyOutput input ≡ answerText input (askedIn input)
@@ -119,7 +124,7 @@ by-answer input short =
     (by-test (asks true input) (λ t. rw t) (λ t. by-test (asks false input) (λ s. rw (t, s)) (λ s. rw (t, s))))
 
 module _ (input : List ℕ) (short : length input ≤ maxInputBytes) (r : Asked) (is : AskedIs input r) where
-  output-reading : (weak : Bool) (at : ℕ) → r ≡ Reading weak at → whyOutput input ≡ whyTexts weak (ruleIn (drop at input)) (recordingIn (drop at input))
+  output-reading : (weak : Bool) (at : ℕ) → r ≡ Reading weak at → whyOutput input ≡ whyTexts weak (ruleTextIn (drop at input)) (recordingTextIn (drop at input))
   unfolding answerText
   output-reading weak at e = by-answer input short ∙ ap (answerText input) (sym (is .is) ∙ e)
 
@@ -132,6 +137,7 @@ module _ (input output : List ℕ) (full : length output ≡ maxWhyBytes) where
   pub long-room : length (refusedText inputLong []) ≤ length output
   long-room = omega (arith, refused-length inputLong [] (omega arith) (omega arith))
 
+  -- `why`, 14: `whyOutput` of an input too long is its refusal, with no line
   pub long-printed : maxInputBytes < length input → (r : ℕ) (output′ : List ℕ) → Printed (refusedText inputLong []) output 0 r output′ →
       OutputIs (whyOutput input) output r output′
   unfolding whyOutput pick
@@ -142,8 +148,9 @@ module _ (input output : List ℕ) (full : length output ≡ maxWhyBytes) where
       pub reading-room : InputRoom (take (length input - at) (drop at input)) output
       reading-room = record { fits = rw (part-to-end input at, length-drop) (omega arith); room = omega arith }
 
+      -- `why`, a reading is asked for: `whyOutput` is `whyTexts` of the input behind the first line
       pub reading-printed : (r : ℕ) (output′ : List ℕ)
-          → Printed (whyTexts weak (ruleIn (take (length input - at) (drop at input))) (recordingIn (take (length input - at) (drop at input)))) output 0 r output′
+          → Printed (whyTexts weak (ruleTextIn (take (length input - at) (drop at input))) (recordingTextIn (take (length input - at) (drop at input)))) output 0 r output′
           → OutputIs (whyOutput input) output r output′
       reading-printed r output′ p =
           rw (output-reading input short a is weak at e) (rw (part-to-end input at) at (printed-all _ output r output′ p))
@@ -152,6 +159,7 @@ module _ (input output : List ℕ) (full : length output ≡ maxWhyBytes) where
       pub nothing-room : length (refusedText ruleForm (take len input)) ≤ length output
       nothing-room = omega (arith, refused-length ruleForm (take len input) (omega arith) (rw length-take (omega arith)))
 
+      -- `why`, nothing is asked for: `whyOutput` is the refusal of the first line by its form
       pub nothing-printed : (r : ℕ) (output′ : List ℕ) → Printed (refusedText ruleForm (take len input)) output 0 r output′ → OutputIs (whyOutput input) output r output′
       nothing-printed r output′ p = rw (output-nothing input short a is len e) (printed-all _ output r output′ p)
 

@@ -3,8 +3,8 @@ use Prim.Native.Nat.{ℕ, _≤_}
 use mathlib.Core.List.{List}
 use lib.ListN.{length}
 use Rattle.definitions.specs.Limits.{maxInputBytes}
-use Rattle.program.specs.Output.{TextsRoom, Found}
-use Rattle.behind_text.specs.Behind.{maxBehindBytes}
+use Rattle.report.specs.ReadTables.{TextsRoom, Found}
+use Rattle.evidence_text.specs.Behind.{maxBehindBytes}
 
 -- the longest output: that of an accepted rule and recording; a refusal has fewer bytes
 abbrev pub maxWhyBytes : ℕ

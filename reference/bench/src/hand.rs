@@ -12,7 +12,7 @@ pub mod write;
 
 /// The rule table's kinds, and a node's word taken apart.
 pub mod node {
-    pub use reference::model::formula::{
+    pub use reference::model::rule::{
         ATOM, END, KIND_WORDS, NEXT, NOT, OR, PREV, RUN, SINCE, TRUE, UNTIL,
     };
 

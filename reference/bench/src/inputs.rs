@@ -1,11 +1,11 @@
 //! Inputs of exact sizes, drawn from the generators of the reference model.
 
 use ragyvosin::{Recording, Rule, Table};
-use reference::generate::formulas::{self, JudgeTable, RuleTable};
 use reference::generate::lines;
 use reference::generate::random::Random;
+use reference::generate::recordings::{self, RecordingTable};
+use reference::generate::rules::{self, JudgeTable, RuleTable};
 use reference::generate::texts;
-use reference::generate::traces::{self, RecordingTable};
 use reference::model::limits;
 
 /// Steps the source on until the sizes that it gives next are the largest, so
@@ -23,7 +23,7 @@ const CONTROLLERS: usize = 8;
 /// A recording of eight controllers.
 fn recording(random: &mut Random, states: usize) -> RecordingTable {
     seek(random, &[CONTROLLERS, states]);
-    let recording = traces::recording(random, CONTROLLERS, states);
+    let recording = recordings::recording(random, CONTROLLERS, states);
     assert!(recording.controllers == CONTROLLERS && recording.length == states);
     recording
 }
@@ -31,7 +31,7 @@ fn recording(random: &mut Random, states: usize) -> RecordingTable {
 /// A rule of so many nodes.
 fn rule(random: &mut Random, controller: usize, nodes: usize) -> RuleTable {
     seek(random, &[nodes]);
-    let rule = formulas::rule_for(random, controller, nodes);
+    let rule = rules::rule_for(random, controller, nodes);
     assert_eq!(rule.count, nodes);
     rule
 }
@@ -39,7 +39,7 @@ fn rule(random: &mut Random, controller: usize, nodes: usize) -> RuleTable {
 /// A table of so many nodes of all ten kinds.
 fn table(random: &mut Random, nodes: usize) -> JudgeTable {
     seek(random, &[nodes]);
-    let table = formulas::table(random, nodes);
+    let table = rules::table(random, nodes);
     assert_eq!(table.count, nodes);
     table
 }
@@ -99,8 +99,8 @@ impl RuleInput {
 
     /// Any input, accepted or refused.
     pub fn any(random: &mut Random) -> RuleInput {
-        let rule = formulas::any_rule(random, limits::RULE_NODES);
-        let recording = traces::any_recording(random, limits::CONTROLLERS, limits::STATES);
+        let rule = rules::any_rule(random, limits::RULE_NODES);
+        let recording = recordings::any_recording(random, limits::CONTROLLERS, limits::STATES);
         let mut input = RuleInput::of(random, rule, recording);
         (input.rule_text, input.recording_text) = texts::any_pair(random);
         input
@@ -176,8 +176,8 @@ impl TableInput {
 
     /// Any input, accepted or refused.
     pub fn any(random: &mut Random) -> TableInput {
-        let table = formulas::any_table(random, limits::TABLE_NODES);
-        let recording = traces::any_recording(random, limits::CONTROLLERS, limits::STATES);
+        let table = rules::any_table(random, limits::TABLE_NODES);
+        let recording = recordings::any_recording(random, limits::CONTROLLERS, limits::STATES);
         TableInput { table, recording, c: random.below(limits::CONTROLLERS) }
     }
 

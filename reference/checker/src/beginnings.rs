@@ -2,7 +2,7 @@
 //! N lowered, the other states still there. What the library answers for K
 //! states, carried on by one state, is what it answers for K + 1.
 
-use reference::generate::traces::RecordingTable;
+use reference::generate::recordings::RecordingTable;
 use reference::model::limits::ATOMS;
 
 use crate::check::Check;

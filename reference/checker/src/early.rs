@@ -5,11 +5,11 @@
 //! fewer steps that has the readings behind it.
 
 use reference::generate::exhaustive;
-use reference::generate::formulas::RuleTable;
 use reference::generate::random::Random;
-use reference::generate::traces::{self, RecordingTable};
+use reference::generate::recordings::{self, RecordingTable};
+use reference::generate::rules::RuleTable;
 use reference::model::early::{announced, missing, Asked};
-use reference::model::trace::{State, Trace};
+use reference::model::recording::{Recording, State};
 use reference::model::Verdict;
 
 use crate::check::Check;
@@ -48,9 +48,9 @@ pub struct Early<'a> {
 }
 
 /// A recording as the model has it.
-fn trace(recording: &RecordingTable) -> Trace {
+fn recording(recording: &RecordingTable) -> Recording {
     let states = recording.states.iter().map(|word| State::of_word(*word)).collect();
-    Trace { masks: recording.masks.clone(), states }
+    Recording { masks: recording.masks.clone(), states }
 }
 
 /// May these verdicts be announced?
@@ -68,10 +68,11 @@ impl<'a> Early<'a> {
             of_first.map(|member| member.recording).collect()
         };
         let views: Vec<Vec<usize>> = views.into_iter().map(|view| first(view.members)).collect();
-        let traces: Vec<Trace> = views.iter().map(|view| trace(&recordings[view[0]])).collect();
+        let read: Vec<Recording> =
+            views.iter().map(|view| recording(&recordings[view[0]])).collect();
         let mut pairs = Vec::new();
-        for (first, a) in traces.iter().enumerate() {
-            for (second, b) in traces.iter().enumerate() {
+        for (first, a) in read.iter().enumerate() {
+            for (second, b) in read.iter().enumerate() {
                 let lacks = missing(a, b, 0);
                 let few = a.states.len().max(b.states.len()) <= 2;
                 if lacks.is_empty() || (lacks.len() == 1 && few) {
@@ -94,7 +95,11 @@ impl<'a> Early<'a> {
             found.push(if nodes.len() <= self.plan.small.every_recording_nodes {
                 one_verdict(&mut whole, &rule, recording)?
             } else {
-                ragyvosin::judge_local(library::rule(&rule), library::recording(recording)).1
+                ragyvosin::judge_local(
+                    library::lent_rule(&rule),
+                    library::lent_recording(recording),
+                )
+                .1
             });
         }
         Ok(found)
@@ -191,14 +196,14 @@ fn beginnings(
     let mut space = Whole::new();
     let last = one_verdict(&mut space, rule, whole)?;
     for length in 1..=whole.length {
-        let cut = traces::cut(random, whole, length);
+        let cut = recordings::cut(random, whole, length);
         let input = Input::JudgeLocal { rule: rule.clone(), recording: cut };
         let before = check.compare(&input)?.values;
         stays(check, [before[0], before[1]], last, || format!("{input}, {whole:?}"))?;
     }
     for _ in 0..4 {
         let length = random.between(1, whole.length);
-        let alike = traces::begun_alike(random, whole, rule.controller, length);
+        let alike = recordings::begun_alike(random, whole, rule.controller, length);
         let before = one_verdict(&mut space, rule, &alike)?;
         stays(check, before, last, || format!("{rule:?}, {alike:?}, {whole:?}"))?;
     }

@@ -7,7 +7,7 @@
 use reference::generate::endings::{mixed_endings, plain_endings, with_returns};
 use reference::generate::random::Random;
 use reference::generate::texts::{self, recording_text, rule_text};
-use reference::generate::{formulas, traces};
+use reference::generate::{recordings, rules};
 use reference::model::limits::{CONTROLLERS, RULE_NODES, STATES};
 
 use crate::check::Check;
@@ -135,9 +135,9 @@ fn at_every_place(
 
 /// Two texts up to all limits with other endings, accepted together.
 fn mixed_pair(random: &mut Random) -> (Vec<u8>, Vec<u8>) {
-    let recording = traces::recording(random, CONTROLLERS, STATES);
+    let recording = recordings::recording(random, CONTROLLERS, STATES);
     let controller = random.below(recording.controllers);
-    let rule = rule_text(&formulas::rule_for(random, controller, RULE_NODES));
+    let rule = rule_text(&rules::rule_for(random, controller, RULE_NODES));
     let recording = recording_text(&recording);
     (mixed_endings(random, &rule), mixed_endings(random, &recording))
 }

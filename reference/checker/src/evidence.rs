@@ -1,5 +1,5 @@
 //! "The readings behind a verdict": every small rule on every small local
-//! trace, samples of larger ones, random ones up to all limits; and what is
+//! recording, samples of larger ones, random ones up to all limits; and what is
 //! promised, that every local trace of the same length and own mask with those
 //! bits gets the same verdict: for all small local traces, and for random
 //! recordings with the other bits turned over.
@@ -8,10 +8,10 @@ pub mod promise;
 mod walks;
 
 use reference::generate::exhaustive;
-use reference::generate::formulas::RuleTable;
 use reference::generate::random::Random;
-use reference::generate::traces::RecordingTable;
-use reference::generate::{formulas, traces};
+use reference::generate::recordings::RecordingTable;
+use reference::generate::rules::RuleTable;
+use reference::generate::{recordings, rules};
 use reference::model::limits::{CONTROLLERS, PAIRS, RULE_NODES, STATES};
 
 use crate::check::Check;
@@ -60,7 +60,7 @@ impl<'a> Evidence<'a> {
         let Views { recordings, views, locals } = Views::new(plan.small.states);
         let local = |first: &Member| {
             let recording = &recordings[first.recording];
-            let places = traces::places(recording, first.controller);
+            let places = recordings::places(recording, first.controller);
             Local { own: recording.masks[first.controller], places, members: Vec::new() }
         };
         let mut locals: Vec<Local> = locals.iter().map(local).collect();
@@ -161,15 +161,15 @@ impl<'a> Evidence<'a> {
 
 /// A rule and a recording that has its controller, both accepted.
 pub fn accepted(random: &mut Random) -> (RuleTable, RecordingTable) {
-    let recording = traces::recording(random, CONTROLLERS, STATES);
+    let recording = recordings::recording(random, CONTROLLERS, STATES);
     let controller = random.below(recording.controllers);
-    (formulas::rule_for(random, controller, RULE_NODES), recording)
+    (rules::rule_for(random, controller, RULE_NODES), recording)
 }
 
 /// How many pairs the library gives for both verdicts.
 fn pairs(rule: &RuleTable, recording: &RecordingTable) -> usize {
     let mut lent = vec![0; PAIRS];
-    let (rule, recording) = (library::rule(rule), library::recording(recording));
+    let (rule, recording) = (library::lent_rule(rule), library::lent_recording(recording));
     [true, false]
         .map(|weak| ragyvosin::evidence(rule, recording, weak, &mut lent).1[0])
         .iter()
@@ -180,8 +180,8 @@ fn pairs(rule: &RuleTable, recording: &RecordingTable) -> usize {
 /// with the most pairs: most have few.
 pub fn far_reaching(random: &mut Random) -> (RuleTable, RecordingTable) {
     let draw = |_| {
-        let (recording, controller) = traces::steady(random);
-        (formulas::far_rule_for(random, controller, RULE_NODES), recording)
+        let (recording, controller) = recordings::steady(random);
+        (rules::far_rule_for(random, controller, RULE_NODES), recording)
     };
     let drawn = (0..DRAWS).map(draw).max_by_key(|(rule, recording)| pairs(rule, recording));
     drawn.expect("some are drawn")

@@ -1,7 +1,7 @@
 //! The model's outcome for an input.
 
-use reference::generate::formulas::{JudgeTable, RuleTable};
-use reference::generate::traces::RecordingTable;
+use reference::generate::recordings::RecordingTable;
+use reference::generate::rules::{JudgeTable, RuleTable};
 use reference::model::{self, Source, Verdict};
 
 use crate::input::{Input, Lent, Space};

@@ -2,7 +2,7 @@
 //! has 13 + 11 times n nodes, no rule of n nodes has more under any masks, and
 //! "the short count is never above the plain one". By the library's counts.
 
-use reference::generate::formulas::RuleTable;
+use reference::generate::rules::RuleTable;
 use reference::model::limits::RULE_NODES;
 use reference::model::longest_rule;
 

@@ -2,10 +2,10 @@
 
 use std::fmt;
 
-use reference::generate::formulas::{JudgeTable, RuleTable};
 use reference::generate::lent;
 use reference::generate::random::Random;
-use reference::generate::traces::RecordingTable;
+use reference::generate::recordings::RecordingTable;
+use reference::generate::rules::{JudgeTable, RuleTable};
 use reference::model::limits;
 
 use crate::tally::Operation;

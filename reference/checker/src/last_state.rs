@@ -1,8 +1,8 @@
 //! Wrong answers about run marks in the last state: 9 given for them, one counted
 //! as a run, or they cleared in the state that is handed back.
 
-use reference::model::formula::{Node, RUN};
 use reference::model::limits::{ATOMS, PAIR_WORDS};
+use reference::model::rule::{Node, RUN};
 
 use crate::input::{Input, GUARD};
 use crate::outcome::Outcome;

@@ -1,10 +1,10 @@
 //! Lent space of every length, from none to three entries past the full size,
 //! for every lent slice of every operation.
 
-use reference::generate::formulas::{self, RuleTable};
 use reference::generate::random::Random;
+use reference::generate::recordings;
+use reference::generate::rules::{self, RuleTable};
 use reference::generate::texts::{recording_text, rule_text};
-use reference::generate::traces;
 use reference::model::limits;
 
 use crate::check::Check;
@@ -19,7 +19,7 @@ use crate::work::Job;
 fn small_inputs() -> Vec<Input> {
     let (rule, recording) = (example_rule(), recording_r());
     let (rule_bytes, recording_bytes) = (rule_text(&rule), recording_text(&recording));
-    let table = formulas::table(&mut Random::new(1), 40);
+    let table = rules::table(&mut Random::new(1), 40);
     vec![
         Input::read_rule(rule_bytes.clone()),
         Input::read_line(0, b"G (a1 -> X a0)".to_vec()),
@@ -40,7 +40,7 @@ fn refused_inputs() -> Vec<Input> {
     let (rule_bytes, recording_bytes) = (rule_text(&rule), recording_text(&recording));
     let cut = |text: &[u8]| text[..text.len() - 1].to_vec();
     let wrong = RuleTable { count: 10, ..rule.clone() };
-    let table = formulas::table(&mut Random::new(1), 40);
+    let table = rules::table(&mut Random::new(1), 40);
     vec![
         Input::read_rule(cut(&rule_bytes)),
         Input::read_line(0, b"G (a1 -> X a0".to_vec()),
@@ -59,17 +59,17 @@ fn refused_inputs() -> Vec<Input> {
 /// Inputs that fill their lent space, or nearly.
 fn large_inputs() -> Vec<Input> {
     let mut random = Random::new(2);
-    let mut rule = formulas::rule(&mut random, limits::RULE_NODES);
+    let mut rule = rules::rule(&mut random, limits::RULE_NODES);
     while rule.count < limits::RULE_NODES {
-        rule = formulas::rule(&mut random, limits::RULE_NODES);
+        rule = rules::rule(&mut random, limits::RULE_NODES);
     }
-    let mut recording = traces::recording(&mut random, limits::CONTROLLERS, limits::STATES);
+    let mut recording = recordings::recording(&mut random, limits::CONTROLLERS, limits::STATES);
     while recording.length < limits::STATES || recording.controllers < limits::CONTROLLERS {
-        recording = traces::recording(&mut random, limits::CONTROLLERS, limits::STATES);
+        recording = recordings::recording(&mut random, limits::CONTROLLERS, limits::STATES);
     }
-    let mut table = formulas::table(&mut random, limits::TABLE_NODES);
+    let mut table = rules::table(&mut random, limits::TABLE_NODES);
     while table.count < limits::TABLE_NODES {
-        table = formulas::table(&mut random, limits::TABLE_NODES);
+        table = rules::table(&mut random, limits::TABLE_NODES);
     }
     vec![
         Input::read_rule(rule_text(&rule)),

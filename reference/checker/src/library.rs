@@ -1,20 +1,20 @@
 //! The proved library's outcome for an input.
 
 use ragyvosin::{Recording, Rule, Table};
-use reference::generate::formulas::{JudgeTable, RuleTable};
-use reference::generate::traces::RecordingTable;
+use reference::generate::recordings::RecordingTable;
+use reference::generate::rules::{JudgeTable, RuleTable};
 use reference::model::limits;
 
 use crate::input::{Input, Lent, Space};
 use crate::outcome::Outcome;
 
 /// A rule as the library takes it.
-pub fn rule(table: &RuleTable) -> Rule<'_> {
+pub fn lent_rule(table: &RuleTable) -> Rule<'_> {
     Rule { controller: table.controller, count: table.count, nodes: &table.nodes }
 }
 
 /// A recording as the library takes it.
-pub fn recording(table: &RecordingTable) -> Recording<'_> {
+pub fn lent_recording(table: &RecordingTable) -> Recording<'_> {
     let RecordingTable { controllers, length, masks, states } = table;
     Recording { controllers: *controllers, count: *length, masks, states }
 }
@@ -66,18 +66,18 @@ impl Whole {
     /// recording; or the number of a refusal.
     pub fn verdicts(
         &mut self,
-        formula: &RuleTable,
-        trace: &RecordingTable,
+        rule: &RuleTable,
+        recording: &RecordingTable,
     ) -> Result<[[usize; 2]; 3], u8> {
-        let (formula, trace) = (rule(formula), recording(trace));
+        let (rule, recording) = (lent_rule(rule), lent_recording(recording));
         let accepted = |(number, values)| if number == 0 { Ok(values) } else { Err(number) };
-        let local = accepted(ragyvosin::judge_local(formula, trace))?;
-        let c = formula.controller;
+        let local = accepted(ragyvosin::judge_local(rule, recording))?;
+        let c = rule.controller;
         let mut whole = |short| {
-            let rewritten = ragyvosin::rewrite(short, formula, trace.masks[c], &mut self.nodes);
+            let rewritten = ragyvosin::rewrite(short, rule, recording.masks[c], &mut self.nodes);
             let (0, [count, weak_top, strong_top]) = rewritten else { return Err(rewritten.0) };
             let table = Table { count, nodes: &self.nodes, weak_top, strong_top };
-            accepted(ragyvosin::judge_recording(table, trace, c, &mut self.rows))
+            accepted(ragyvosin::judge_recording(table, recording, c, &mut self.rows))
         };
         Ok([local, whole(false)?, whole(true)?])
     }
@@ -97,35 +97,35 @@ pub fn of(input: &Input) -> Outcome {
         }
         Input::WriteRule { rule: table, text } => {
             let mut text = Space::new(*text);
-            outcome(ragyvosin::write_rule(rule(table), text.lend()), vec![text.words()])
+            outcome(ragyvosin::write_rule(lent_rule(table), text.lend()), vec![text.words()])
         }
         Input::ReadRecording { text, masks, states } => read_recording(text, *masks, *states),
         Input::ReadJoint { rule, recording, nodes, masks, states } => {
             read_joint(rule, recording, [*nodes, *masks, *states])
         }
-        Input::Project { recording: trace, controller, places } => {
+        Input::Project { recording, controller, places } => {
             let mut places = Space::new(*places);
-            let answer = ragyvosin::project(recording(trace), *controller, places.lend());
+            let answer = ragyvosin::project(lent_recording(recording), *controller, places.lend());
             outcome(answer, vec![places.words()])
         }
-        Input::JudgeLocal { rule: formula, recording: trace } => {
-            outcome(ragyvosin::judge_local(rule(formula), recording(trace)), vec![])
+        Input::JudgeLocal { rule, recording } => {
+            outcome(ragyvosin::judge_local(lent_rule(rule), lent_recording(recording)), vec![])
         }
-        Input::Rewrite { short, rule: formula, mask, table } => {
+        Input::Rewrite { short, rule, mask, table } => {
             let mut space = Space::new(*table);
-            let answer = ragyvosin::rewrite(*short, rule(formula), *mask, space.lend());
+            let answer = ragyvosin::rewrite(*short, lent_rule(rule), *mask, space.lend());
             outcome(answer, vec![space.words()])
         }
-        Input::JudgeRecording { table: nodes, recording: trace, controller, rows } => {
+        Input::JudgeRecording { table: nodes, recording, controller, rows } => {
             let mut rows = Space::new(*rows);
-            let (nodes, trace) = (table(nodes), recording(trace));
-            let answer = ragyvosin::judge_recording(nodes, trace, *controller, rows.lend());
+            let (nodes, recording) = (table(nodes), lent_recording(recording));
+            let answer = ragyvosin::judge_recording(nodes, recording, *controller, rows.lend());
             outcome(answer, vec![rows.words()])
         }
-        Input::Evidence { rule: formula, recording: trace, weak, pairs } => {
+        Input::Evidence { rule, recording, weak, pairs } => {
             let mut pairs = Space::new(*pairs);
-            let (formula, trace) = (rule(formula), recording(trace));
-            let answer = ragyvosin::evidence(formula, trace, *weak, pairs.lend());
+            let (rule, recording) = (lent_rule(rule), lent_recording(recording));
+            let answer = ragyvosin::evidence(rule, recording, *weak, pairs.lend());
             outcome(answer, vec![pairs.words()])
         }
     }

@@ -2,9 +2,9 @@
 //! sentences and damage. What is accepted is a table that the writer takes,
 //! and that comes back when it is read again.
 
-use reference::generate::formulas::RuleTable;
 use reference::generate::lines::{alphabet, damaged, edges, line, short_list, spelled};
 use reference::generate::random::Random;
+use reference::generate::rules::RuleTable;
 use reference::model::limits::CONTROLLERS;
 
 use crate::check::Check;

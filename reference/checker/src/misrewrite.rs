@@ -1,9 +1,9 @@
 //! Wrong rewriters on purpose: what a library would answer that decides one
 //! thing of "Shorter rules about the past" otherwise.
 
-use reference::model::formula::{check_formula, PREV, SINCE};
 use reference::model::limits::TABLE_NODES;
 use reference::model::rewriting::{rewrite_by, AsWorded, Decisions};
+use reference::model::rule::{check_rule, PREV, SINCE};
 
 use crate::input::{Input, GUARD};
 use crate::outcome::Outcome;
@@ -95,9 +95,9 @@ pub fn outcome(wrong: Misrewriting, input: &Input, expected: &Outcome) -> Option
     if expected.number != 0 {
         return None;
     }
-    let formula = check_formula(rule.controller, rule.count, &rule.nodes);
-    let Ok(formula) = formula else { unreachable!("the rule is accepted") };
-    let table = rewrite_by(&wrong, *short, &formula, *mask);
+    let rule = check_rule(rule.controller, rule.count, &rule.nodes);
+    let Ok(rule) = rule else { unreachable!("the rule is accepted") };
+    let table = rewrite_by(&wrong, *short, &rule, *mask);
     let mut altered = expected.clone();
     let words = table.nodes.iter().map(|node| u64::from(node.word()));
     let left = words.chain(std::iter::repeat(0)).take(TABLE_NODES);

@@ -2,13 +2,13 @@
 //! otherwise than "The readings behind a verdict" says, or that leaves the
 //! pairs in another order or form.
 
-use reference::generate::formulas::RuleTable;
-use reference::generate::traces::RecordingTable;
+use reference::generate::recordings::RecordingTable;
+use reference::generate::rules::RuleTable;
 use reference::model::evidence::{walk, AsWorded, Operand, Pair, Steps, Taken};
-use reference::model::formula::{check_formula, Node};
 use reference::model::limits::{PAIRS, PLACES};
+use reference::model::recording::{check_recording, project};
+use reference::model::rule::{check_rule, Node};
 use reference::model::semantics::Reading;
-use reference::model::trace::{check_trace, project};
 
 use crate::input::{Input, GUARD};
 use crate::outcome::Outcome;
@@ -211,12 +211,12 @@ pub fn numbers(
     weak: bool,
 ) -> Vec<u32> {
     let RecordingTable { controllers, length, masks, states } = recording;
-    let formula = check_formula(rule.controller, rule.count, &rule.nodes);
-    let trace = check_trace(*controllers, *length, masks, states);
-    let (Ok(formula), Ok(trace)) = (formula, trace) else { unreachable!("both are accepted") };
-    let local = project(&trace, rule.controller);
-    let pairs = walk(&misstep, &formula.nodes, &local, Reading::chosen(weak));
-    misstep.numbers(&formula.nodes, pairs)
+    let rule = check_rule(rule.controller, rule.count, &rule.nodes);
+    let recording = check_recording(*controllers, *length, masks, states);
+    let (Ok(rule), Ok(recording)) = (rule, recording) else { unreachable!("both are accepted") };
+    let local = project(&recording, rule.controller);
+    let pairs = walk(&misstep, &rule.nodes, &local, Reading::chosen(weak));
+    misstep.numbers(&rule.nodes, pairs)
 }
 
 /// What the wrong walk answers and leaves, where it differs from what is

@@ -4,7 +4,7 @@
 //! Most are told by another input: the one that the right library takes as the
 //! wrong one takes the input that is given.
 
-use reference::generate::traces::RecordingTable;
+use reference::generate::recordings::RecordingTable;
 use reference::model::limits::{ATOMS, CONTROLLERS, TWO_DIGIT_CONTROLLERS};
 use reference::model::refusal::LENT_SPACE;
 

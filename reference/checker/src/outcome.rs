@@ -1,7 +1,7 @@
 //! What an operation answers and leaves behind, from the library and from the
 //! model, in one form.
 
-use reference::generate::formulas::JudgeTable;
+use reference::generate::rules::JudgeTable;
 use reference::model::limits;
 
 use crate::difference::Difference;

@@ -3,11 +3,11 @@
 //! valid and damaged, other schedules of the same local trace, and beginnings
 //! of recordings.
 
-use reference::generate::formulas::{self, RuleTable};
 use reference::generate::lines;
 use reference::generate::random::Random;
+use reference::generate::recordings::{self, RecordingTable};
+use reference::generate::rules::{self, RuleTable};
 use reference::generate::texts;
-use reference::generate::traces::{self, RecordingTable};
 use reference::model::limits::{
     CONTROLLERS, RULE_NODES, STATES, TABLE_NODES, TWO_DIGIT_CONTROLLERS,
 };
@@ -41,15 +41,15 @@ fn mask(random: &mut Random) -> u32 {
 /// A rule and a recording that can mostly be judged together.
 fn rule_and_recording(random: &mut Random) -> (RuleTable, RecordingTable) {
     let recording = match random.below(3) {
-        0 => traces::any_recording(random, CONTROLLERS, STATES),
-        _ => traces::recording(random, CONTROLLERS, STATES),
+        0 => recordings::any_recording(random, CONTROLLERS, STATES),
+        _ => recordings::recording(random, CONTROLLERS, STATES),
     };
     let controllers = recording.controllers.clamp(1, CONTROLLERS);
     let rule = match random.below(3) {
-        0 => formulas::any_rule(random, RULE_NODES),
+        0 => rules::any_rule(random, RULE_NODES),
         _ => {
             let controller = random.below(controllers);
-            formulas::rule_for(random, controller, RULE_NODES)
+            rules::rule_for(random, controller, RULE_NODES)
         }
     };
     (rule, recording)
@@ -63,7 +63,7 @@ fn input(random: &mut Random, operation: Operation) -> Input {
             let controller = if random.once_in(8) { random.beyond(CONTROLLERS) } else { 0 };
             Input::read_line(controller, lines::any_line(random))
         }
-        Operation::WriteRule => Input::write_rule(formulas::any_rule(random, RULE_NODES)),
+        Operation::WriteRule => Input::write_rule(rules::any_rule(random, RULE_NODES)),
         Operation::ReadRecording => {
             Input::read_recording(texts::any_recording_text(random, CONTROLLERS, STATES))
         }
@@ -72,7 +72,7 @@ fn input(random: &mut Random, operation: Operation) -> Input {
             Input::read_joint(rule, recording)
         }
         Operation::Project => {
-            let recording = traces::any_recording(random, CONTROLLERS, STATES);
+            let recording = recordings::any_recording(random, CONTROLLERS, STATES);
             let controller = controller(random, &recording);
             Input::project(recording, controller)
         }
@@ -87,7 +87,7 @@ fn input(random: &mut Random, operation: Operation) -> Input {
         }
         _ => {
             let short = operation == Operation::RewriteShort;
-            Input::rewrite(short, formulas::any_rule(random, RULE_NODES), mask(random))
+            Input::rewrite(short, rules::any_rule(random, RULE_NODES), mask(random))
         }
     }
 }
@@ -96,12 +96,12 @@ fn input(random: &mut Random, operation: Operation) -> Input {
 /// and then, or both are.
 fn whole_input(random: &mut Random) -> Input {
     let table = match random.below(3) {
-        0 => formulas::any_table(random, TABLE_NODES),
-        _ => formulas::table(random, TABLE_NODES),
+        0 => rules::any_table(random, TABLE_NODES),
+        _ => rules::table(random, TABLE_NODES),
     };
     let recording = match random.below(4) {
-        0 => traces::any_recording(random, CONTROLLERS, STATES),
-        _ => traces::recording(random, CONTROLLERS, STATES),
+        0 => recordings::any_recording(random, CONTROLLERS, STATES),
+        _ => recordings::recording(random, CONTROLLERS, STATES),
     };
     let controller = controller(random, &recording);
     Input::judge_recording(table, recording, controller)
@@ -129,14 +129,14 @@ fn verdicts(
 /// Demand 3: a rule on two recordings of one local trace, six verdicts that
 /// are one; half of the time one of eight controllers and one of eleven.
 fn schedules(check: &mut Check, random: &mut Random) -> Result<(), Difference> {
-    let mut one = traces::recording(random, CONTROLLERS, STATES);
+    let mut one = recordings::recording(random, CONTROLLERS, STATES);
     let controller = random.below(one.controllers);
-    let mut other = traces::rescheduled(random, &one, controller);
+    let mut other = recordings::rescheduled(random, &one, controller);
     if controller < TWO_DIGIT_CONTROLLERS && random.once_in(2) {
-        one = traces::rescheduled_among(random, &one, TWO_DIGIT_CONTROLLERS, controller);
-        other = traces::rescheduled_among(random, &one, CONTROLLERS, controller);
+        one = recordings::rescheduled_among(random, &one, TWO_DIGIT_CONTROLLERS, controller);
+        other = recordings::rescheduled_among(random, &one, CONTROLLERS, controller);
     }
-    let rule = formulas::rule_for(random, controller, RULE_NODES);
+    let rule = rules::rule_for(random, controller, RULE_NODES);
     let mut expected = verdicts(check, &rule, &one)?;
     let found = verdicts(check, &rule, &other)?;
     if check.wrong(Operation::Schedules, Place::Value) {
@@ -154,7 +154,7 @@ fn schedules(check: &mut Check, random: &mut Random) -> Result<(), Difference> {
 /// The beginnings of an accepted recording, "of one state or more and with N
 /// lowered": all as tables, and one as text.
 fn beginnings(check: &mut Check, random: &mut Random) -> Result<(), Difference> {
-    let whole = traces::recording(random, CONTROLLERS, STATES);
+    let whole = recordings::recording(random, CONTROLLERS, STATES);
     let controller = random.below(whole.controllers);
     beginnings::each(check, &whole, controller)?;
     let length = random.between(1, whole.length);
@@ -184,7 +184,7 @@ fn batch(check: &mut Check, plan: &Plan, number: usize) -> Result<(), Difference
     for _ in 0..4 {
         schedules(check, &mut random)?;
         beginnings(check, &mut random)?;
-        let rule = formulas::rule(&mut random, RULE_NODES);
+        let rule = rules::rule(&mut random, RULE_NODES);
         growth::rewritings(check, &rule, mask(&mut random))?;
     }
     Ok(())

@@ -8,9 +8,9 @@ pub mod views;
 use std::sync::atomic::{AtomicU8, Ordering};
 
 use reference::generate::exhaustive;
-use reference::generate::formulas::{JudgeTable, RuleTable};
-use reference::generate::traces;
-use reference::model::formula::{Node, ATOM, NEXT, PREV, SINCE, TRUE};
+use reference::generate::recordings;
+use reference::generate::rules::{JudgeTable, RuleTable};
+use reference::model::rule::{Node, ATOM, NEXT, PREV, SINCE, TRUE};
 use reference::model::{self, limits};
 
 use crate::beginnings;
@@ -33,7 +33,7 @@ const CONTROLLERS: usize = 2;
 /// then the short one where it is another.
 pub struct SmallRule {
     nodes: Vec<u32>,
-    formulas: Vec<RuleTable>,
+    rules: Vec<RuleTable>,
     tables: Vec<Vec<JudgeTable>>,
 }
 
@@ -55,9 +55,9 @@ impl SmallRule {
         };
         let tables = (0..MASKS as u32).map(both).collect();
         let count = nodes.len();
-        let formula = |controller| RuleTable { controller, count, nodes: nodes.clone() };
-        let formulas = (0..CONTROLLERS).map(formula).collect();
-        SmallRule { nodes, formulas, tables }
+        let rule = |controller| RuleTable { controller, count, nodes: nodes.clone() };
+        let rules = (0..CONTROLLERS).map(rule).collect();
+        SmallRule { nodes, rules, tables }
     }
 }
 
@@ -146,7 +146,7 @@ impl<'a> Small<'a> {
         let one = &self.views.recordings[recording];
         let mut judge = Judge::new(check, &self.views);
         for _ in 0..self.plan.small.schedules {
-            let other = traces::rescheduled(&mut random, one, controller);
+            let other = recordings::rescheduled(&mut random, one, controller);
             for (number, rule) in self.rules.iter().enumerate() {
                 let known = |verdict| self.verdicts.agree(local, number, verdict);
                 let rows = random.once_in(64);

@@ -95,7 +95,7 @@ pub enum Operation {
     /// A beginning of an accepted recording is accepted, and its local trace,
     /// carried on by one state, is that of the next beginning.
     Beginnings,
-    /// Local traces that agree in the readings behind a verdict have it.
+    /// Local recordings that agree in the readings behind a verdict have it.
     Promise,
     /// Announced verdicts stay on a recording that goes on.
     Early,

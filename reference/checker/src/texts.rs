@@ -4,11 +4,11 @@
 
 use reference::generate::endings::{any_endings, plain_endings};
 use reference::generate::exhaustive;
-use reference::generate::formulas::{self, RuleTable};
+use reference::generate::recordings::{self, RecordingTable};
+use reference::generate::rules::{self, RuleTable};
 use reference::generate::texts::{
     damage, recording_text, recording_text_with, rule_text, DAMAGES, NUMBERS,
 };
-use reference::generate::traces::{self, RecordingTable};
 use reference::model::limits::{CONTROLLERS, RULE_NODES, STATES};
 use reference::model::text::mark_digits;
 
@@ -218,9 +218,9 @@ fn random_damage(check: &mut Check, plan: &Plan, number: usize) -> Result<(), Di
     let kind = DAMAGES[number % DAMAGES.len()];
     for _ in 0..plan.damaged_texts {
         let (nodes, states) = if random.once_in(4) { (RULE_NODES, STATES) } else { (8, 8) };
-        let recording = traces::recording(&mut random, CONTROLLERS, states);
+        let recording = recordings::recording(&mut random, CONTROLLERS, states);
         let controller = random.below(recording.controllers);
-        let rule = rule_text(&formulas::rule_for(&mut random, controller, nodes));
+        let rule = rule_text(&rules::rule_for(&mut random, controller, nodes));
         let rule = any_endings(&mut random, rule);
         let recording = any_endings(&mut random, recording_text(&recording));
         let bad_rule = damage(&mut random, &rule, kind);

@@ -2,11 +2,11 @@
 //! that the document names.
 
 use reference::generate::endings::with_returns;
-use reference::generate::formulas::{JudgeTable, RuleTable};
+use reference::generate::recordings::RecordingTable;
+use reference::generate::rules::{JudgeTable, RuleTable};
 use reference::generate::texts::{recording_text, rule_text};
-use reference::generate::traces::RecordingTable;
-use reference::model::formula::{Node, ATOM, END, NEXT, NOT, OR, PREV, RUN, SINCE, TRUE, UNTIL};
 use reference::model::limits::{CONTROLLERS, TWO_DIGIT_CONTROLLERS};
+use reference::model::rule::{Node, ATOM, END, NEXT, NOT, OR, PREV, RUN, SINCE, TRUE, UNTIL};
 
 use crate::check::Check;
 use crate::difference::Difference;

@@ -2,9 +2,9 @@
 
 use std::ops::Range;
 
-use super::traces::RecordingTable;
-use crate::model::formula::{Node, ATOM, NEXT, NOT, OR, PREV, SINCE, TRUE, UNTIL};
-use crate::model::trace::State;
+use super::recordings::RecordingTable;
+use crate::model::recording::State;
+use crate::model::rule::{Node, ATOM, NEXT, NOT, OR, PREV, SINCE, TRUE, UNTIL};
 
 /// The number of atoms.
 pub const ATOMS: usize = 2;

@@ -1,13 +1,13 @@
 //! Rule texts, recording texts and program inputs, and damage of every kind.
 
 use super::endings::any_endings;
-use super::formulas::{self, RuleTable};
 use super::random::Random;
-use super::traces::{self, RecordingTable};
-use crate::model::formula::{operand_count, Node, KIND_WORDS};
+use super::recordings::{self, RecordingTable};
+use super::rules::{self, RuleTable};
 use crate::model::limits;
+use crate::model::recording::State;
+use crate::model::rule::{operand_count, Node, KIND_WORDS};
 use crate::model::text::mark_digits;
-use crate::model::trace::State;
 
 /// The text of a rule table, accepted or not: a kind that has no word gets an
 /// unknown one.
@@ -420,12 +420,12 @@ pub fn damaged(random: &mut Random, text: &[u8]) -> Vec<u8> {
 /// A rule text: of an accepted table, of a damaged one, damaged itself, or
 /// any bytes at all.
 pub fn any_rule_text(random: &mut Random, most: usize) -> Vec<u8> {
-    let valid = rule_text(&formulas::rule(random, most));
+    let valid = rule_text(&rules::rule(random, most));
     let valid = any_endings(random, valid);
     match random.below(12) {
         0..=2 => valid,
         3 | 4 => {
-            let rule = rule_text(&formulas::damaged_rule(random, most));
+            let rule = rule_text(&rules::damaged_rule(random, most));
             any_endings(random, rule)
         }
         5 => any_bytes(random),
@@ -439,12 +439,12 @@ pub fn any_recording_text(
     most_controllers: usize,
     most_states: usize,
 ) -> Vec<u8> {
-    let valid = recording_text(&traces::recording(random, most_controllers, most_states));
+    let valid = recording_text(&recordings::recording(random, most_controllers, most_states));
     let valid = any_endings(random, valid);
     match random.below(12) {
         0..=2 => valid,
         3 | 4 => {
-            let damaged = traces::damaged_recording(random, most_controllers, most_states);
+            let damaged = recordings::damaged_recording(random, most_controllers, most_states);
             any_endings(random, recording_text(&damaged))
         }
         5 => any_bytes(random),
@@ -462,15 +462,15 @@ pub fn any_bytes(random: &mut Random) -> Vec<u8> {
 /// Both texts for a joint reading; the rule's controller is below C most of
 /// the time.
 pub fn any_pair(random: &mut Random) -> (Vec<u8>, Vec<u8>) {
-    let recording = traces::recording(random, limits::CONTROLLERS, limits::STATES);
+    let recording = recordings::recording(random, limits::CONTROLLERS, limits::STATES);
     let controller = random.below(recording.controllers);
-    let rule = formulas::rule_for(random, controller, limits::RULE_NODES);
+    let rule = rules::rule_for(random, controller, limits::RULE_NODES);
     let rule = any_endings(random, rule_text(&rule));
     let recording = any_endings(random, recording_text(&recording));
     match random.below(8) {
         0 | 1 => (rule, recording),
         2 => {
-            let rule = rule_text(&formulas::rule(random, 8));
+            let rule = rule_text(&rules::rule(random, 8));
             (any_endings(random, rule), recording)
         }
         3 | 4 => (any_rule_text(random, limits::RULE_NODES), recording),

@@ -1,13 +1,13 @@
 //! "Verdicts that may be announced early": what is asked of a recording that
 //! goes on from the first K states, and which verdicts stay on it.
 
-use super::trace::{bit, State, Trace};
+use super::recording::{bit, Recording, State};
 use super::Verdict;
 
 /// "every accepted longer recording that begins with the same masks and words
 /// and has the same run marks in the first K-1 states": does b begin like a, a
 /// recording of K states?
-pub fn begins(a: &Trace, b: &Trace) -> bool {
+pub fn begins(a: &Recording, b: &Recording) -> bool {
     let (first, others) = (a.states.len(), a.states.len() - 1);
     b.states.len() >= first
         && a.masks == b.masks
@@ -37,14 +37,14 @@ impl Asked {
         [Asked::Longer, Asked::Mask, Asked::Marks, Asked::Words, Asked::OwnAtoms];
 
     /// Has b this of a, for a controller? Of a shorter b the states that it has.
-    pub fn met(self, a: &Trace, b: &Trace, component: usize) -> bool {
+    pub fn met(self, a: &Recording, b: &Recording, controller: usize) -> bool {
         let last = a.states.len() - 1;
-        let own = a.masks[component];
+        let own = a.masks[controller];
         let mut before = a.states[..last].iter().zip(&b.states);
-        let marked = |state: &State| bit(state.scheduled, component);
+        let marked = |state: &State| bit(state.scheduled, controller);
         match self {
             Asked::Longer => b.states.len() > last,
-            Asked::Mask => b.masks[component] == own,
+            Asked::Mask => b.masks[controller] == own,
             Asked::Marks => before.all(|(x, y)| marked(x) == marked(y)),
             Asked::Words => before.all(|(x, y)| !marked(x) || x.atoms == y.atoms),
             Asked::OwnAtoms => {
@@ -55,8 +55,8 @@ impl Asked {
 }
 
 /// What b hasn't of a, for a controller.
-pub fn missing(a: &Trace, b: &Trace, component: usize) -> Vec<Asked> {
-    Asked::ALL.into_iter().filter(|asked| !asked.met(a, b, component)).collect()
+pub fn missing(a: &Recording, b: &Recording, controller: usize) -> Vec<Asked> {
+    Asked::ALL.into_iter().filter(|asked| !asked.met(a, b, controller)).collect()
 }
 
 /// May these verdicts be announced? "a strong yes .. stays a strong yes", "a

@@ -3,10 +3,10 @@
 use std::collections::{BTreeSet, HashSet};
 use std::ops::Range;
 
-use super::formula::{Node, ATOM, NEXT, NOT, OR, PREV, SINCE, TRUE, UNTIL};
 use super::limits;
+use super::recording::{bit, LocalTrace};
+use super::rule::{Node, ATOM, NEXT, NOT, OR, PREV, SINCE, TRUE, UNTIL};
 use super::semantics::{local_readings, Reading, Readings};
-use super::trace::{bit, LocalTrace};
 
 /// "a node of kind atom and a local place", in order "by place, then node".
 #[derive(Clone, Copy, PartialEq, Eq, PartialOrd, Ord, Debug)]

@@ -5,7 +5,7 @@
 use std::collections::HashMap;
 use std::rc::Rc;
 
-use super::formula::{Node, ATOM, NEXT, NOT, OR, PREV, SINCE, TRUE, UNTIL};
+use super::rule::{Node, ATOM, NEXT, NOT, OR, PREV, SINCE, TRUE, UNTIL};
 use super::{limits, refusal};
 
 /// "`->`, `true` and `a` with its number are one sign each".

@@ -1,7 +1,7 @@
 //! "The plain rewriting" and "The short rewriting", as literal node lists.
 
-use super::formula::{Formula, Node, ATOM, END, NEXT, NOT, OR, PREV, RUN, SINCE, TRUE, UNTIL};
-use super::trace::bit;
+use super::recording::bit;
+use super::rule::{Node, Rule, ATOM, END, NEXT, NOT, OR, PREV, RUN, SINCE, TRUE, UNTIL};
 
 /// "·": the node just emitted, as an operand in a node list.
 const JUST: usize = usize::MAX;
@@ -279,28 +279,23 @@ fn rewrite_node(by: &Rewriter, emitter: &mut Emitter, node: Node, images: &[Imag
 }
 
 /// The plain or the short rewriting of an accepted rule.
-pub fn rewrite(short: bool, formula: &Formula, own: u32) -> Rewritten {
-    rewrite_by(&AsWorded, short, formula, own)
+pub fn rewrite(short: bool, rule: &Rule, own: u32) -> Rewritten {
+    rewrite_by(&AsWorded, short, rule, own)
 }
 
 /// The rewriting of an accepted rule with these decisions.
-pub fn rewrite_by(
-    decisions: &dyn Decisions,
-    short: bool,
-    formula: &Formula,
-    own: u32,
-) -> Rewritten {
-    let tolerant = stutter_tolerant(decisions, &formula.nodes, own);
+pub fn rewrite_by(decisions: &dyn Decisions, short: bool, rule: &Rule, own: u32) -> Rewritten {
+    let tolerant = stutter_tolerant(decisions, &rule.nodes, own);
     let by = Rewriter { decisions, short, own, tolerant };
     let mut emitter = Emitter { nodes: Vec::new() };
     emitter.emit(OPENING);
     let mut images: Vec<Images> = Vec::new();
-    for node in &formula.nodes {
+    for node in &rule.nodes {
         let image = rewrite_node(&by, &mut emitter, *node, &images);
         images.push(image);
     }
-    let rule = formula.nodes.len() - 1;
-    let unclosed = decisions.unclosed(short, formula.nodes[rule].kind, by.tolerant[rule]);
-    let tops = if unclosed { images[rule] } else { emitter.closing(images[rule]) };
+    let last = rule.nodes.len() - 1;
+    let unclosed = decisions.unclosed(short, rule.nodes[last].kind, by.tolerant[last]);
+    let tops = if unclosed { images[last] } else { emitter.closing(images[last]) };
     Rewritten { nodes: emitter.nodes, weak_top: tops.weak, strong_top: tops.strong }
 }

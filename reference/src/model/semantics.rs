@@ -1,8 +1,8 @@
 //! "Weak and strong": the two readings of every node at every place, by the
 //! quantified definitions. They are kept per node and place, nothing more.
 
-use super::formula::{Node, ATOM, END, NEXT, NOT, OR, PREV, RUN, SINCE, TRUE, UNTIL};
-use super::trace::{bit, LocalTrace, Trace};
+use super::recording::{bit, LocalTrace, Recording};
+use super::rule::{Node, ATOM, END, NEXT, NOT, OR, PREV, RUN, SINCE, TRUE, UNTIL};
 
 /// One of the two readings.
 #[derive(Clone, Copy, PartialEq, Eq, Hash, Debug)]
@@ -140,10 +140,10 @@ pub fn local_readings(nodes: &[Node], local: &LocalTrace) -> Readings {
 
 /// The readings over the whole recording: "every atom, run and end (of c) is
 /// read as recorded, in both readings and in the last state too."
-pub fn trace_readings(nodes: &[Node], trace: &Trace, component: usize) -> Readings {
-    readings(nodes, trace.states.len(), &|node, _, k| match node.kind {
-        RUN => trace.runs(component, k),
-        END => trace.ended(component, k),
-        _ => bit(trace.states[k].atoms, node.first),
+pub fn whole_readings(nodes: &[Node], recording: &Recording, controller: usize) -> Readings {
+    readings(nodes, recording.states.len(), &|node, _, k| match node.kind {
+        RUN => recording.runs(controller, k),
+        END => recording.ended(controller, k),
+        _ => bit(recording.states[k].atoms, node.first),
     })
 }

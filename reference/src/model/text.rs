@@ -3,8 +3,8 @@
 
 use std::ops::Range;
 
-use super::formula::{self, Formula, Language, Node, KIND_WORDS};
-use super::trace::{self, State, Trace};
+use super::recording::{self, Recording, State};
+use super::rule::{self, Language, Node, Rule, KIND_WORDS};
 use super::{limits, refusal};
 
 /// The byte that closes a line.
@@ -135,10 +135,10 @@ fn heading(line: &[u8], word: &[u8]) -> Option<(usize, usize)> {
 
 /// The line `rule`, controller, node count.
 fn rule_heading(line: &[u8]) -> Result<(usize, usize), u8> {
-    let (component, count) = heading(line, b"rule").ok_or(refusal::RULE_FORM)?;
-    formula::check_component(component)?;
-    formula::check_count(count, Language::Rule)?;
-    Ok((component, count))
+    let (controller, count) = heading(line, b"rule").ok_or(refusal::RULE_FORM)?;
+    rule::check_controller(controller)?;
+    rule::check_count(count, Language::Rule)?;
+    Ok((controller, count))
 }
 
 /// A node line: "the kind word, spelt as above, and its operands, decimal".
@@ -154,7 +154,7 @@ fn node_of_line(line: &[u8]) -> Result<Node, u8> {
         return Err(if of_form { refusal::RULE_LIMIT } else { refusal::RULE_FORM });
     };
     let kind = kind as u32;
-    if fields.len() != 1 + formula::operand_count(kind) {
+    if fields.len() != 1 + rule::operand_count(kind) {
         return Err(refusal::RULE_FORM);
     }
     let mut operands = [0, 0];
@@ -165,26 +165,26 @@ fn node_of_line(line: &[u8]) -> Result<Node, u8> {
 }
 
 /// A rule text: its lines (1, 2, 3 of each), then the line count (4).
-pub fn read_rule(text: &[u8]) -> Result<Formula, RefusedLine> {
+pub fn read_rule(text: &[u8]) -> Result<Rule, RefusedLine> {
     let mut lines = Lines { text, start: 0, form: refusal::RULE_FORM, lines: refusal::RULE_LINES };
-    let (component, count) = lines.read(rule_heading)?;
+    let (controller, count) = lines.read(rule_heading)?;
     let mut nodes = Vec::new();
     for number in 0..count {
         nodes.push(lines.read(|line| {
             let node = node_of_line(line)?;
-            formula::check_node(node, number, Language::Rule)?;
+            rule::check_node(node, number, Language::Rule)?;
             Ok(node)
         })?);
     }
     lines.finish()?;
-    Ok(Formula { component, nodes })
+    Ok(Rule { controller, nodes })
 }
 
 /// The line `recording`, C, N.
 fn recording_heading(line: &[u8]) -> Result<(usize, usize), u8> {
-    let (components, length) = heading(line, b"recording").ok_or(refusal::RECORDING_FORM)?;
-    trace::check_heading(components, length)?;
-    Ok((components, length))
+    let (controllers, length) = heading(line, b"recording").ok_or(refusal::RECORDING_FORM)?;
+    recording::check_heading(controllers, length)?;
+    Ok((controllers, length))
 }
 
 /// The line `owns`, mask.
@@ -198,8 +198,8 @@ fn mask_of_line(line: &[u8]) -> Result<u32, u8> {
 
 /// "Run marks are three hexadecimal digits where C is above 8 and two
 /// otherwise, in every text."
-pub fn mark_digits(components: usize) -> usize {
-    if components > limits::TWO_DIGIT_CONTROLLERS {
+pub fn mark_digits(controllers: usize) -> usize {
+    if controllers > limits::TWO_DIGIT_CONTROLLERS {
         3
     } else {
         2
@@ -207,40 +207,40 @@ pub fn mark_digits(components: usize) -> usize {
 }
 
 /// The line `at`, run marks, word, in a recording of so many controllers.
-fn state_of_line(components: usize, line: &[u8]) -> Result<State, u8> {
+fn state_of_line(controllers: usize, line: &[u8]) -> Result<State, u8> {
     let fields = fields(line);
     if fields.len() != 3 || fields[0] != b"at" {
         return Err(refusal::RECORDING_FORM);
     }
     let scheduled =
-        hexadecimal(fields[1], mark_digits(components)).ok_or(refusal::RECORDING_FORM)?;
+        hexadecimal(fields[1], mark_digits(controllers)).ok_or(refusal::RECORDING_FORM)?;
     let atoms = hexadecimal(fields[2], 8).ok_or(refusal::RECORDING_FORM)?;
     Ok(State { atoms, scheduled })
 }
 
 /// A recording text: its lines (5, 6, 7, 10 of each), then the line count (8).
-pub fn read_recording(text: &[u8]) -> Result<Trace, RefusedLine> {
+pub fn read_recording(text: &[u8]) -> Result<Recording, RefusedLine> {
     let mut lines =
         Lines { text, start: 0, form: refusal::RECORDING_FORM, lines: refusal::RECORDING_LINES };
-    let (components, length) = lines.read(recording_heading)?;
+    let (controllers, length) = lines.read(recording_heading)?;
     let mut masks = Vec::new();
-    for _ in 0..components {
+    for _ in 0..controllers {
         masks.push(lines.read(|line| {
             let mask = mask_of_line(line)?;
-            trace::check_mask(&masks, mask)?;
+            recording::check_mask(&masks, mask)?;
             Ok(mask)
         })?);
     }
     let mut states = Vec::new();
     for _ in 0..length {
         states.push(lines.read(|line| {
-            let state = state_of_line(components, line)?;
-            trace::check_state(components, &masks, &states, state)?;
+            let state = state_of_line(controllers, line)?;
+            recording::check_state(controllers, &masks, &states, state)?;
             Ok(state)
         })?);
     }
     lines.finish()?;
-    Ok(Trace { masks, states })
+    Ok(Recording { masks, states })
 }
 
 /// Adds one record to a text.
@@ -250,17 +250,17 @@ fn put_line(text: &mut Vec<u8>, fields: &[&[u8]]) {
 }
 
 /// "A writer gives this text from an accepted table".
-pub fn write_rule(formula: &Formula) -> Vec<u8> {
+pub fn write_rule(rule: &Rule) -> Vec<u8> {
     let mut text = Vec::new();
-    let component = formula.component.to_string();
-    let count = formula.nodes.len().to_string();
-    put_line(&mut text, &[b"rule", component.as_bytes(), count.as_bytes()]);
-    for node in &formula.nodes {
+    let controller = rule.controller.to_string();
+    let count = rule.nodes.len().to_string();
+    put_line(&mut text, &[b"rule", controller.as_bytes(), count.as_bytes()]);
+    for node in &rule.nodes {
         let word = KIND_WORDS[node.kind as usize];
         let first = node.first.to_string();
         let second = node.second.to_string();
         let fields = [word, first.as_bytes(), second.as_bytes()];
-        put_line(&mut text, &fields[..1 + formula::operand_count(node.kind)]);
+        put_line(&mut text, &fields[..1 + rule::operand_count(node.kind)]);
     }
     text
 }

@@ -3,9 +3,9 @@
 //! input of the program of document 01.
 
 use super::evidence::{walk, AsWorded, Pair};
-use super::formula::Formula;
+use super::recording::{bit, place_states, project, LocalTrace, Recording};
+use super::rule::Rule;
 use super::semantics::{local_readings, Reading};
-use super::trace::{bit, place_states, project, LocalTrace, Trace};
 use super::{limits, program_says, program_texts, refusal, refused_output, text, yes_or_no};
 
 /// The words of the first line.
@@ -21,9 +21,9 @@ fn asked(input: &[u8]) -> Option<(&'static [u8], Reading, &[u8])> {
 
 /// The line of a pair: `state`, the state that its place is, `step`, the place,
 /// `atom`, the atom, `is`, its bit there, `node`, the node.
-fn pair_line(formula: &Formula, states: &[usize], local: &LocalTrace, pair: Pair) -> Vec<u8> {
+fn pair_line(rule: &Rule, states: &[usize], local: &LocalTrace, pair: Pair) -> Vec<u8> {
     let Pair { place, node } = pair;
-    let atom = formula.nodes[node].first;
+    let atom = rule.nodes[node].first;
     let is = usize::from(bit(local.positions[place], atom));
     let numbers = [states[place], place, atom, is, node].map(|number| number.to_string());
     let [state, step, atom, is, node] = numbers.each_ref().map(|number| number.as_bytes());
@@ -31,14 +31,14 @@ fn pair_line(formula: &Formula, states: &[usize], local: &LocalTrace, pair: Pair
 }
 
 /// The verdict in its reading, then a line for each pair.
-fn answer(word: &[u8], reading: Reading, formula: &Formula, trace: &Trace) -> Vec<u8> {
-    let local = project(trace, formula.component);
-    let states = place_states(trace, formula.component);
-    let rule = formula.nodes.len() - 1;
-    let verdict = local_readings(&formula.nodes, &local).at(rule, reading, 0);
+fn answer(word: &[u8], reading: Reading, rule: &Rule, recording: &Recording) -> Vec<u8> {
+    let local = project(recording, rule.controller);
+    let states = place_states(recording, rule.controller);
+    let last = rule.nodes.len() - 1;
+    let verdict = local_readings(&rule.nodes, &local).at(last, reading, 0);
     let mut output = text::printed(&[word, yes_or_no(verdict)]);
-    for pair in walk(&AsWorded, &formula.nodes, &local, reading) {
-        output.extend(pair_line(formula, &states, &local, pair));
+    for pair in walk(&AsWorded, &rule.nodes, &local, reading) {
+        output.extend(pair_line(rule, &states, &local, pair));
     }
     output
 }
@@ -55,7 +55,7 @@ pub fn program(input: &[u8]) -> Vec<u8> {
     };
     match program_texts(texts) {
         Err((number, line)) => refused_output(number, line),
-        Ok((formula, trace)) => answer(word, reading, &formula, &trace),
+        Ok((rule, recording)) => answer(word, reading, &rule, &recording),
     }
 }
 

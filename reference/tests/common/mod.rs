@@ -1,6 +1,6 @@
 //! What several tests ask of the model.
 
-use reference::generate::traces::RecordingTable;
+use reference::generate::recordings::RecordingTable;
 use reference::model::{self, limits};
 
 /// The places of a controller's local trace, or the refusal.

@@ -1,4 +1,4 @@
--- `word_of` meets its contract.
+-- `word_of` meets its contract (WordLaws: table-laws).
 use Rattle.kind_words.proofs.WordLaws.{table-laws}
 use borrow.Author.Needs.{needs}
 use Rattle.kind_words.proofs.word_of.Statement.{statement}

@@ -1,4 +1,4 @@
--- `doubled` meets its contract: two windows make one of twice the reach (WordLaws).
+-- `doubled` meets its contract: two windows make one of twice the reach (WordLaws, `window-more`).
 use borrow.Author.Needs.{needs}
 use Rattle.mark_words.proofs.WordLaws.{window-more}
 use Rattle.mark_words.proofs.doubled.Statement.{statement}

@@ -1,4 +1,4 @@
--- `gather` meets its contract. The invariant: the word of the states from k on.
+-- `gather` meets its contract (WordLaws, `gathering-more`, `gathering-done`). The invariant: the word of the states from k on.
 use Rattle.mark_words.proofs.WordLaws.{Gathering, gather-laws}
 use Rattle.mark_words.proofs.gather.Statement.{statement}
 use Rattle.mark_words.proofs.gather.Tie as tie

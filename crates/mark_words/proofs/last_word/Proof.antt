@@ -1,4 +1,4 @@
--- `last_word` meets its contract: one law for each return (WordLaws).
+-- `last_word` meets its contract: one law for each return (WordLaws, `word-last-none`, `word-last-yes`, `word-last-no`).
 use Rattle.mark_words.proofs.WordLaws.{last-laws}
 use Rattle.mark_words.proofs.last_word.Statement.{statement}
 use Rattle.mark_words.proofs.last_word.Tie as tie

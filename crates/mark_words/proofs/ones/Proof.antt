@@ -1,4 +1,4 @@
--- `ones` meets its contract: a power of two less one (WordLaws).
+-- `ones` meets its contract: a power of two less one (WordLaws, `full-shl`).
 use native.Mathlib.Omega.{arith}
 use borrow.Author.Needs.{needs}
 use Rattle.mark_words.proofs.WordLaws.{full-shl}

@@ -1,4 +1,4 @@
--- `since_word` meets its contract: the carries of a sum (WordLaws).
+-- `since_word` meets its contract: the carries of a sum (WordLaws, `since-word`).
 use mathlib.Core.Path.{_∙_}
 use mir.Val.{Fits}
 use mir.Syntax.{w64}

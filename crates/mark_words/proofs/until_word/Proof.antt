@@ -1,4 +1,4 @@
--- `until_word` meets its contract: six doublings reach all 64 places (WordLaws).
+-- `until_word` meets its contract: six doublings reach all 64 places (WordLaws, `window-one`, `window-more`, `window-until`).
 use mir.Val.{Fits}
 use mir.Syntax.{w64}
 use borrow.Author.Needs.{needs}

@@ -1,4 +1,4 @@
--- `print`: the digits of a tenth, and then the last digit. The number falls.
+-- `print`: the digits of a tenth, and then the last digit. The number falls (PrintLaws: print-laws).
 use Rattle.printing.proofs.PrintLaws.{print-laws}
 use Prim.Native.Nat.{ℕ, _<_}
 use borrow.Fn.Kinds.{In}

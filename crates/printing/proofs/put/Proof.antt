@@ -1,4 +1,4 @@
--- `put`: the bytes passed lie in the text.
+-- `put`: the bytes passed lie in the text (PrintLaws: put-laws).
 use Rattle.printing.proofs.PrintLaws.{Copied, put-laws}
 use Prim.Native.Nat.{_-_}
 use lib.ListN.{length}

@@ -1,4 +1,4 @@
--- `put_byte`: a byte lies in the text.
+-- `put_byte`: a byte lies in the text (PrintLaws: printed-byte).
 use Rattle.printing.proofs.PrintLaws.{printed-byte}
 use borrow.Author.Needs.{needs}
 use Rattle.printing.proofs.put_byte.Statement.{statement}

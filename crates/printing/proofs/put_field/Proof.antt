@@ -1,4 +1,4 @@
--- `put_field`: a tab, then the digits.
+-- `put_field`: a tab, then the digits (PrintLaws: field-written).
 use Rattle.printing.proofs.PrintLaws.{field-written}
 use borrow.Author.Needs.{needs}
 use Rattle.printing.proofs.put_field.Statement.{statement}

@@ -1,4 +1,4 @@
--- `read_joint` meets its contract: the parts of the contract of `joint_text`.
+-- `read_joint` meets its contract: the parts of the contract of `joint_reading`.
 use borrow.Author.Needs.{needs}
 use Rattle.ragyvosin.proofs.read_joint.Statement.{statement}
 use Rattle.ragyvosin.proofs.read_joint.Tie as tie

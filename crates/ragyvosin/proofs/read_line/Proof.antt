@@ -1,4 +1,4 @@
--- `read_line` meets its contract: the parts of the contract of `line_text`.
+-- `read_line` meets its contract: the parts of the contract of `one_line`.
 use borrow.Author.Needs.{needs}
 use Rattle.ragyvosin.proofs.read_line.Statement.{statement}
 use Rattle.ragyvosin.proofs.read_line.Tie as tie

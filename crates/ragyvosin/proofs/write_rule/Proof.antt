@@ -1,4 +1,4 @@
--- `write_rule` meets its contract: the parts of the contract of `formula_writer`.
+-- `write_rule` meets its contract: the parts of the contract of `rule_writer`.
 use borrow.Author.Needs.{needs}
 use Rattle.ragyvosin.proofs.write_rule.Statement.{statement}
 use Rattle.ragyvosin.proofs.write_rule.Tie as tie

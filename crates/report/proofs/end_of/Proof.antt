@@ -1,4 +1,4 @@
--- `end_of` meets its contract.
+-- `end_of` meets its contract (ReportLaws: ending-laws).
 use Rattle.report.proofs.ReportLaws.{ending-laws}
 use Rattle.report.proofs.end_of.Statement.{statement}
 use Rattle.report.proofs.end_of.Tie as tie

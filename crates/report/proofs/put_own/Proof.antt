@@ -1,4 +1,4 @@
--- `put_own` meets its contract.
+-- `put_own` meets its contract (ReportLaws: own-laws).
 use borrow.Author.Needs.{needs}
 use Rattle.report.proofs.ReportLaws.{own-laws}
 use Rattle.report.proofs.put_own.Statement.{statement}

@@ -1,4 +1,4 @@
--- `put_refused` meets its contract.
+-- `put_refused` meets its contract (ReportLaws: refused-laws, refused-written).
 use borrow.Author.Needs.{needs}
 use Rattle.report.proofs.ReportLaws.{refused-laws, refused-written}
 use Rattle.report.proofs.put_refused.Statement.{statement}

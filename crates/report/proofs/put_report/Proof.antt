@@ -1,4 +1,4 @@
--- `put_report` meets its contract.
+-- `put_report` meets its contract (ReportLaws: report-laws).
 use borrow.Author.Needs.{needs}
 use Rattle.report.proofs.ReportLaws.{report-laws}
 use Rattle.report.proofs.put_report.Statement.{statement}

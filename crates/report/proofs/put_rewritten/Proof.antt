@@ -1,4 +1,4 @@
--- `put_rewritten` meets its contract.
+-- `put_rewritten` meets its contract (ReportLaws: rewritten-laws).
 use borrow.Author.Needs.{needs}
 use Rattle.report.proofs.ReportLaws.{rewritten-laws}
 use Rattle.report.proofs.put_rewritten.Statement.{statement}

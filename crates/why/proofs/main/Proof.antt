@@ -1,80 +1,68 @@
--- `main` meets its contract.
-use Rattle.told_line.proofs.ToldLaws.{told-laws}
+-- `main` meets its contract: it reads and writes, and asks nothing of what it calls (ToldLaws of standard_streams: told-laws).
 use borrow.Author.Needs.{needs}
+use Rattle.standard_streams.proofs.ToldLaws.{told-laws}
 use Rattle.why.proofs.main.Statement.{statement}
 use Rattle.why.proofs.main.Tie as tie
 
--- src/main.rt:26:28
 slice-aggregate-read-input : tie.Need-slice-aggregate-read-input
 slice-aggregate-read-input c = search needs
 
--- src/main.rt:26:9
 read-input-requires : tie.Need-read-input-requires
 read-input-requires c κs = search needs
 
--- src/main.rt:28:30
 slice-aggregate-say-unread : tie.Need-slice-aggregate-say-unread
 slice-aggregate-say-unread c = search needs
 
--- src/main.rt:28:9
 say-unread-requires : tie.Need-say-unread-requires
 say-unread-requires c κs = search needs
 
--- src/main.rt:29:9
 returns : tie.Need-returns
 returns c = search needs
 
--- src/main.rt:33:28
 array-share-prefix-space : tie.Need-array-share-prefix-space
 array-share-prefix-space c = search needs
 
--- src/main.rt:33:28
 slice-aggregate-why : tie.Need-slice-aggregate-why
-slice-aggregate-why c = search told-laws
+slice-aggregate-why c = search (needs, told-laws)
 
--- src/main.rt:33:9
 why-requires : tie.Need-why-requires
 why-requires c κs = search needs
 
--- src/main.rt:34:37
 array-share-prefix-output : tie.Need-array-share-prefix-output
 array-share-prefix-output c = search needs
 
--- src/main.rt:34:37
 slice-aggregate-write-all : tie.Need-slice-aggregate-write-all
-slice-aggregate-write-all c = search told-laws
+slice-aggregate-write-all c = search (needs, told-laws)
 
--- src/main.rt:34:8
 write-all-requires : tie.Need-write-all-requires
 write-all-requires c κs = search needs
 
--- src/main.rt:35:21
+array-read-if3 : tie.Need-array-read-if3
+array-read-if3 c = search needs
+
 array-share-prefix-space-2 : tie.Need-array-share-prefix-space-2
 array-share-prefix-space-2 c = search needs
 
--- src/main.rt:35:21
 slice-aggregate-say-refused : tie.Need-slice-aggregate-say-refused
-slice-aggregate-say-refused c = search told-laws
+slice-aggregate-say-refused c = search (needs, told-laws)
 
--- src/main.rt:35:9
 say-refused-requires : tie.Need-say-refused-requires
 say-refused-requires c κs = search needs
 
--- src/main.rt:37:33
 slice-aggregate-say-unwritten : tie.Need-slice-aggregate-say-unwritten
 slice-aggregate-say-unwritten c = search needs
 
--- src/main.rt:37:9
 say-unwritten-requires : tie.Need-say-unwritten-requires
 say-unwritten-requires c κs = search needs
 
--- src/main.rt:23:1
 returns-2 : tie.Need-returns-2
 returns-2 c = search needs
 
--- src/main.rt:23:1
 returns-3 : tie.Need-returns-3
 returns-3 c = search needs
+
+returns-4 : tie.Need-returns-4
+returns-4 c = search needs
 
 pub main-spec : {M : Type 1} → statement M
 main-spec =
@@ -91,10 +79,12 @@ main-spec =
     array-share-prefix-output
     slice-aggregate-write-all
     write-all-requires
+    array-read-if3
     array-share-prefix-space-2
     slice-aggregate-say-refused
     say-refused-requires
     slice-aggregate-say-unwritten
     say-unwritten-requires
     returns-2
-    returns-3)
+    returns-3
+    returns-4)

@@ -113,9 +113,9 @@ pub fn recording(recording: Recording) -> Result<(), u8> {
 }
 
 /// The recording, then the controller.
-pub fn component(trace: Recording, c: usize) -> Result<(), u8> {
-    recording(trace)?;
-    if c >= trace.controllers {
+pub fn controller(of: Recording, c: usize) -> Result<(), u8> {
+    recording(of)?;
+    if c >= of.controllers {
         return Err(refusal::CONTROLLER);
     }
     Ok(())

@@ -123,7 +123,7 @@ pub fn evidence(
     if pairs.len() < full::PAIRS {
         return (refusal::LENT_SPACE, [0]);
     }
-    let checked = check::rule(rule).and_then(|()| check::component(recording, rule.controller));
+    let checked = check::rule(rule).and_then(|()| check::controller(recording, rule.controller));
     if let Err(number) = checked {
         return refused(number, pairs, full::PAIRS);
     }

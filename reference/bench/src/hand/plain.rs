@@ -169,7 +169,7 @@ pub fn judge_recording(
     if rows.len() < full::ROW_WORDS {
         return (refusal::LENT_SPACE, [0; 2]);
     }
-    if let Err(number) = check::table(table).and_then(|()| check::component(recording, c)) {
+    if let Err(number) = check::table(table).and_then(|()| check::controller(recording, c)) {
         return refused(number, rows, full::ROW_WORDS);
     }
     let trace = Trace { words: &recording.states[..recording.count], own: u32::MAX, c };
@@ -214,7 +214,7 @@ pub fn local(rule: Rule, recording: Recording) -> Local {
 
 pub fn judge_local(rule: Rule, recording: Recording) -> (u8, [usize; 2]) {
     let c = rule.controller;
-    if let Err(number) = check::rule(rule).and_then(|()| check::component(recording, c)) {
+    if let Err(number) = check::rule(rule).and_then(|()| check::controller(recording, c)) {
         return (number, [0; 2]);
     }
     let Pair { weak, strong } = local(rule, recording).rows[rule.count - 1];
@@ -225,7 +225,7 @@ pub fn project(recording: Recording, c: usize, places: &mut [u32]) -> (u8, [usiz
     if places.len() < full::PLACES {
         return (refusal::LENT_SPACE, [0]);
     }
-    if let Err(number) = check::component(recording, c) {
+    if let Err(number) = check::controller(recording, c) {
         return refused(number, places, full::PLACES);
     }
     let length = places_into(recording, c, places);

@@ -271,7 +271,7 @@ pub fn judge_recording(
     match judged_recording(table, recording, c, pairs) {
         Some(verdicts) => (0, verdicts),
         None => {
-            let checked = check::table(table).and_then(|()| check::component(recording, c));
+            let checked = check::table(table).and_then(|()| check::controller(recording, c));
             refused(checked.unwrap_err(), rows, full::ROW_WORDS)
         }
     }
@@ -312,7 +312,7 @@ pub fn judge_local(rule: Rule, recording: Recording) -> (u8, [usize; 2]) {
         Some(verdicts) => (0, verdicts),
         None => {
             let checked = check::rule(rule);
-            let checked = checked.and_then(|()| check::component(recording, rule.controller));
+            let checked = checked.and_then(|()| check::controller(recording, rule.controller));
             (checked.unwrap_err(), [0; 2])
         }
     }
@@ -323,7 +323,7 @@ pub fn project(recording: Recording, c: usize, places: &mut [u32]) -> (u8, [usiz
         return (refusal::LENT_SPACE, [0]);
     };
     if !recording_fine(recording, c) {
-        let number = check::component(recording, c).unwrap_err();
+        let number = check::controller(recording, c).unwrap_err();
         return refused(number, full, full::PLACES);
     }
     let length = places_into(recording, c, full);

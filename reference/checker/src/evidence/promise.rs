@@ -3,11 +3,11 @@
 //! library alone: its pairs, and its verdicts on the local trace and of both
 //! rewritings over the whole recording.
 
-use reference::generate::formulas::RuleTable;
 use reference::generate::random::Random;
-use reference::generate::traces::{self, RecordingTable};
-use reference::model::formula::Node;
+use reference::generate::recordings::{self, RecordingTable};
+use reference::generate::rules::RuleTable;
 use reference::model::limits::RULE_NODES;
+use reference::model::rule::Node;
 
 use crate::check::Check;
 use crate::difference::Difference;
@@ -141,7 +141,7 @@ impl<'a> Small<'a> {
                     let [one, other] = [at, other].map(|at| &self.locals[at].places);
                     let weak = reading == 0;
                     let place =
-                        format!("the verdict, weak {weak}, of another trace with those bits");
+                        format!("the verdict, weak {weak}, of another recording with those bits");
                     let own = self.locals[at].own;
                     let input = format!("nodes {nodes:x?}, own {own:#x}, {one:x?} and {other:x?}");
                     Difference::new(place, input)
@@ -176,7 +176,7 @@ pub fn keeps(
     let found = check.compare(&input)?;
     let pairs: Vec<u32> =
         found.slice(0)[..found.values[0]].iter().map(|pair| *pair as u32).collect();
-    let places = traces::places(recording, rule.controller).len();
+    let places = recordings::places(recording, rule.controller).len();
     let mut kept = named_bits(&rule.nodes, &pairs, places);
     let mut whole = Whole::new();
     let mut expected = chosen(verdicts(&mut whole, rule, recording)?, weak);
@@ -191,14 +191,16 @@ pub fn keeps(
     }
     for _ in 0..OTHERS {
         let other = match promised {
-            Promised::AsLong => traces::varied(random, recording, rule.controller, &kept),
-            Promised::NoShorter => traces::lengthened(random, recording, rule.controller, &kept),
+            Promised::AsLong => recordings::varied(random, recording, rule.controller, &kept),
+            Promised::NoShorter => {
+                recordings::lengthened(random, recording, rule.controller, &kept)
+            }
         };
         let found = chosen(verdicts(&mut whole, rule, &other)?, weak);
         check.count(Operation::Promise, 1, 0);
         if found != expected || found.iter().any(|verdict| *verdict != found[0]) {
             let place =
-                format!("verdicts of another trace with those bits: {expected:?}, {found:?}");
+                format!("verdicts of another recording with those bits: {expected:?}, {found:?}");
             return Err(Difference::new(place, format!("{input}, {other:?}")));
         }
     }

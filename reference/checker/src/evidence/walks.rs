@@ -1,9 +1,9 @@
 //! The library's walk against the model's.
 
-use reference::generate::formulas::RuleTable;
-use reference::generate::traces::RecordingTable;
-use reference::model::formula::{ATOM, NEXT, NOT, OR, PREV, SINCE, TRUE, UNTIL};
+use reference::generate::recordings::RecordingTable;
+use reference::generate::rules::RuleTable;
 use reference::model::limits;
+use reference::model::rule::{ATOM, NEXT, NOT, OR, PREV, SINCE, TRUE, UNTIL};
 
 use crate::check::Check;
 use crate::difference::Difference;
@@ -62,8 +62,9 @@ impl Walker {
         weak: bool,
     ) -> Result<&[u32], Difference> {
         let count = self.expect(check, rule, recording, weak);
-        let (formula, trace) = (library::rule(rule), library::recording(recording));
-        let found = ragyvosin::evidence(formula, trace, weak, self.pairs.lend());
+        let (lent_rule, lent_recording) =
+            (library::lent_rule(rule), library::lent_recording(recording));
+        let found = ragyvosin::evidence(lent_rule, lent_recording, weak, self.pairs.lend());
         check.count(Operation::Evidence, 1, self.pairs.entries());
         let input = || Input::evidence(rule.clone(), recording.clone(), weak);
         self.pairs.require([count], found, input)?;

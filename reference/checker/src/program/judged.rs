@@ -2,9 +2,9 @@
 
 use reference::generate::endings::{any_endings, with_returns};
 use reference::generate::random::Random;
+use reference::generate::recordings::RecordingTable;
 use reference::generate::texts::{self, program_input, recording_text, rule_text};
-use reference::generate::traces::RecordingTable;
-use reference::generate::{formulas, traces};
+use reference::generate::{recordings, rules};
 use reference::model::limits::{CONTROLLERS, PROGRAM_INPUT, RULE_NODES, STATES};
 
 use crate::check::Check;
@@ -132,17 +132,17 @@ pub fn edges() -> Vec<Vec<u8>> {
 
 /// An accepted input up to all limits.
 pub fn accepted_input(random: &mut Random) -> Vec<u8> {
-    let recording = traces::recording(random, CONTROLLERS, STATES);
+    let recording = recordings::recording(random, CONTROLLERS, STATES);
     let controller = random.below(recording.controllers);
-    let rule = formulas::rule_for(random, controller, RULE_NODES);
+    let rule = rules::rule_for(random, controller, RULE_NODES);
     any_endings(random, program_input(&rule_text(&rule), &recording_text(&recording)))
 }
 
 /// An accepted input with a few damages of any kinds.
 pub fn damaged_input(random: &mut Random) -> Vec<u8> {
-    let recording = traces::recording(random, CONTROLLERS, 6);
+    let recording = recordings::recording(random, CONTROLLERS, 6);
     let controller = random.below(recording.controllers);
-    let rule = formulas::rule_for(random, controller, 6);
+    let rule = rules::rule_for(random, controller, 6);
     let input = program_input(&rule_text(&rule), &recording_text(&recording));
     let input = any_endings(random, input);
     texts::damaged(random, &input)

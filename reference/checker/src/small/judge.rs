@@ -1,8 +1,8 @@
 //! Judging small rules without a new allocation for each comparison: there
 //! are tens of millions.
 
-use reference::generate::formulas::{JudgeTable, RuleTable};
-use reference::generate::traces::RecordingTable;
+use reference::generate::recordings::RecordingTable;
+use reference::generate::rules::{JudgeTable, RuleTable};
 use reference::model::limits;
 
 use crate::check::Check;
@@ -44,18 +44,18 @@ impl<'a, 'b> Judge<'a, 'b> {
     ) -> Result<(), Difference> {
         let recordings = &self.views.recordings;
         let first = &recordings[members[0].recording];
-        let expected = self.expect_local(&rule.formulas[members[0].controller], first);
+        let expected = self.expect_local(&rule.rules[members[0].controller], first);
         for Member { recording, controller } in members {
-            let (formula, recording) = (&rule.formulas[*controller], &recordings[*recording]);
-            let found = self.local(formula, recording, expected)?;
-            self.agree(formula, recording, found, known)?;
+            let (rule, recording) = (&rule.rules[*controller], &recordings[*recording]);
+            let found = self.local(rule, recording, expected)?;
+            self.agree(rule, recording, found, known)?;
         }
         for table in &rule.tables[view.own as usize] {
             let expected = self.expect_whole(table, first, members[0].controller);
             for Member { recording, controller } in members {
                 let recording = &recordings[*recording];
                 let found = self.whole(table, recording, *controller, expected)?;
-                self.agree(&rule.formulas[*controller], recording, found, known)?;
+                self.agree(&rule.rules[*controller], recording, found, known)?;
             }
         }
         Ok(())
@@ -71,10 +71,10 @@ impl<'a, 'b> Judge<'a, 'b> {
         rows: bool,
         known: Known,
     ) -> Result<(), Difference> {
-        let formula = &rule.formulas[controller];
-        let expected = self.expect_local(formula, recording);
-        let found = self.local(formula, recording, expected)?;
-        self.agree(formula, recording, found, known)?;
+        let of_controller = &rule.rules[controller];
+        let expected = self.expect_local(of_controller, recording);
+        let found = self.local(of_controller, recording, expected)?;
+        self.agree(of_controller, recording, found, known)?;
         for table in &rule.tables[recording.masks[controller] as usize] {
             let found = if rows {
                 let expected = self.expect_whole(table, recording, controller);
@@ -82,7 +82,7 @@ impl<'a, 'b> Judge<'a, 'b> {
             } else {
                 self.verdict(table, recording, controller)?
             };
-            self.agree(formula, recording, found, known)?;
+            self.agree(of_controller, recording, found, known)?;
         }
         Ok(())
     }
@@ -94,8 +94,8 @@ impl<'a, 'b> Judge<'a, 'b> {
         recording: &RecordingTable,
         controller: usize,
     ) -> Result<[usize; 2], Difference> {
-        let (nodes, trace) = (library::table(table), library::recording(recording));
-        let found = ragyvosin::judge_recording(nodes, trace, controller, self.rows.lend());
+        let (nodes, lent) = (library::table(table), library::lent_recording(recording));
+        let found = ragyvosin::judge_recording(nodes, lent, controller, self.rows.lend());
         self.rows.drop_found();
         match found {
             (0, verdict) => Ok(verdict),
@@ -127,7 +127,7 @@ impl<'a, 'b> Judge<'a, 'b> {
     ) -> Result<[usize; 2], Difference> {
         self.check.count(Operation::JudgeLocal, 1, 0);
         let (number, values) =
-            ragyvosin::judge_local(library::rule(rule), library::recording(recording));
+            ragyvosin::judge_local(library::lent_rule(rule), library::lent_recording(recording));
         if (number, values) == (0, expected) {
             self.check.tally.met(Operation::JudgeLocal, number);
             return Ok(values);
@@ -162,8 +162,8 @@ impl<'a, 'b> Judge<'a, 'b> {
         controller: usize,
         expected: [usize; 2],
     ) -> Result<[usize; 2], Difference> {
-        let (nodes, trace) = (library::table(table), library::recording(recording));
-        let found = ragyvosin::judge_recording(nodes, trace, controller, self.rows.lend());
+        let (nodes, lent) = (library::table(table), library::lent_recording(recording));
+        let found = ragyvosin::judge_recording(nodes, lent, controller, self.rows.lend());
         self.check.count(Operation::JudgeRecording, 1, self.rows.entries());
         self.rows.require(expected, found, || {
             Input::judge_recording(table.clone(), recording.clone(), controller)

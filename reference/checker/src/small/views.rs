@@ -4,7 +4,7 @@ use std::collections::HashMap;
 use std::hash::Hash;
 
 use reference::generate::exhaustive;
-use reference::generate::traces::RecordingTable;
+use reference::generate::recordings::RecordingTable;
 use reference::model::{self, limits};
 
 /// A recording, by number, and one of its controllers.

@@ -1,4 +1,4 @@
--- `evidence::accepted::evidence_accepted` meets its contract.
+-- `evidence_accepted` meets its contract (AcceptedLaws: accepted-laws).
 use borrow.Author.Needs.{needs}
 use Rattle.evidence.proofs.AcceptedLaws.{accepted-laws}
 use Rattle.evidence.proofs.accepted.evidence_accepted.Statement.{statement}
@@ -10,14 +10,11 @@ slice-aggregate-wanted-places c = search needs
 wanted-places-requires : tie.Need-wanted-places-requires
 wanted-places-requires c κs = search needs
 
-mask-at-requires : tie.Need-mask-at-requires
-mask-at-requires c κs = search needs
+slice-aggregate-lay-pairs : tie.Need-slice-aggregate-lay-pairs
+slice-aggregate-lay-pairs c = search needs
 
-slice-aggregate-lay : tie.Need-slice-aggregate-lay
-slice-aggregate-lay c = search needs
-
-lay-requires : tie.Need-lay-requires
-lay-requires c κs = search accepted-laws
+lay-pairs-requires : tie.Need-lay-pairs-requires
+lay-pairs-requires c κs = search accepted-laws
 
 same-length : tie.Need-same-length
 same-length c = search needs
@@ -31,8 +28,7 @@ evidence-accepted-spec =
     (tie.spec
     slice-aggregate-wanted-places
     wanted-places-requires
-    mask-at-requires
-    slice-aggregate-lay
-    lay-requires
+    slice-aggregate-lay-pairs
+    lay-pairs-requires
     same-length
     returns)

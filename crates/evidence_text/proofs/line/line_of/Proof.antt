@@ -1,4 +1,4 @@
--- `line_of` meets its contract.
+-- `line_of` meets its contract (LineLaws: line-laws).
 use borrow.Author.Needs.{needs}
 use Rattle.evidence_text.proofs.LineLaws.{line-laws}
 use Rattle.evidence_text.proofs.line.line_of.Statement.{statement}
@@ -28,14 +28,14 @@ cast-t15 c = search needs
 mul-t11 : tie.Need-mul-t11
 mul-t11 c = search needs
 
-shared-slice-read-t17 : tie.Need-shared-slice-read-t17
-shared-slice-read-t17 c = search needs
+array-read-t18 : tie.Need-array-read-t18
+array-read-t18 c = search line-laws
 
-shr-t18 : tie.Need-shr-t18
-shr-t18 c = search needs
+shr-t19 : tie.Need-shr-t19
+shr-t19 c = search needs
 
-cast-t20 : tie.Need-cast-t20
-cast-t20 c = search needs
+cast-t21 : tie.Need-cast-t21
+cast-t21 c = search needs
 
 returns : tie.Need-returns
 returns c = search line-laws
@@ -52,7 +52,7 @@ line-of-spec =
     cast-t14
     cast-t15
     mul-t11
-    shared-slice-read-t17
-    shr-t18
-    cast-t20
+    array-read-t18
+    shr-t19
+    cast-t21
     returns)

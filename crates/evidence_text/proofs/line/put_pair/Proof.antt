@@ -1,4 +1,4 @@
--- `put_pair` meets its contract.
+-- `put_pair` meets its contract (LineLaws: pair-laws).
 use borrow.Author.Needs.{needs}
 use Rattle.evidence_text.proofs.LineLaws.{pair-laws}
 use Rattle.evidence_text.proofs.line.put_pair.Statement.{statement}

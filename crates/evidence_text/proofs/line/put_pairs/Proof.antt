@@ -1,14 +1,14 @@
--- `put_pairs` meets its contract.
+-- `put_pairs` meets its contract (LineLaws: pairs-laws).
 use Prim.Native.Nat.{_-_}
 use Rattle.evidence_text.proofs.LineLaws.{Printing, pairs-laws}
 use Rattle.evidence_text.proofs.line.put_pairs.Statement.{statement}
 use Rattle.evidence_text.proofs.line.put_pairs.Tie as tie
 
 abbrev Inv-loop : tie.InvT-loop
-Inv-loop rule nodes recording states places pairs at text₀ end₀ i₀ i-end text end i = Printing (rule .controller) nodes (recording .count) states places pairs at text₀ i end text
+Inv-loop nodes trace recording states pairs at text₀ end₀ i₀ i-end text end i = Printing (trace .controller) nodes (recording .count) states (trace .words) pairs at text₀ i end text
 
 abbrev μ-loop : tie.MeasureT-loop
-μ-loop rule nodes recording states places pairs at text₀ end₀ i₀ i-end text end i = i-end - i
+μ-loop nodes trace recording states pairs at text₀ end₀ i₀ i-end text end i = i-end - i
 
 loop-holds : tie.Need-loop-holds Inv-loop μ-loop
 loop-holds c = search pairs-laws

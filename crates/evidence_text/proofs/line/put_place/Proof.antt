@@ -1,4 +1,4 @@
--- `put_place` meets its contract.
+-- `put_place` meets its contract (LineLaws: place-laws).
 use borrow.Author.Needs.{needs}
 use Rattle.evidence_text.proofs.LineLaws.{place-laws}
 use Rattle.evidence_text.proofs.line.put_place.Statement.{statement}

@@ -1,4 +1,4 @@
--- `put_reading` meets its contract.
+-- `put_reading` meets its contract (LineLaws: reading-laws).
 use borrow.Author.Needs.{needs}
 use Rattle.evidence_text.proofs.LineLaws.{reading-laws}
 use Rattle.evidence_text.proofs.line.put_reading.Statement.{statement}

@@ -1,4 +1,4 @@
--- `decimal`: the bytes passed are the digits of the value, or of more than the largest.
+-- `decimal`: the bytes passed are the digits of the value, or of more than the largest (FieldLaws: decimal-laws).
 use Rattle.fields.proofs.FieldLaws.{Counted, decimal-laws}
 use Prim.Native.Nat.{_-_}
 use lib.ListN.{length}

@@ -1,4 +1,4 @@
--- `hex_digit`: a law for each range of bytes.
+-- `hex_digit`: a law for each range of bytes (HexLaws: hex-digit-laws).
 use Rattle.fields.proofs.HexLaws.{hex-digit-laws}
 use Rattle.fields.proofs.number.hex_digit.Statement.{statement}
 use Rattle.fields.proofs.number.hex_digit.Tie as tie

@@ -1,4 +1,4 @@
--- `hexadecimal`: the bytes passed are the digits of the value, which is below 16 to their number.
+-- `hexadecimal`: the bytes passed are the digits of the value, which is below 16 to their number (HexLaws: hex-laws).
 use Rattle.fields.proofs.HexLaws.{Weighed, hex-laws}
 use Prim.Native.Nat.{_-_}
 use lib.ListN.{length}

@@ -1,4 +1,4 @@
--- `shifted`: the next value, at most the largest.
+-- `shifted`: the next value, at most the largest (FieldLaws: shifted-laws).
 use Rattle.fields.proofs.FieldLaws.{shifted-laws}
 use Rattle.fields.proofs.number.shifted.Statement.{statement}
 use Rattle.fields.proofs.number.shifted.Tie as tie

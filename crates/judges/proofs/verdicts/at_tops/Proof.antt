@@ -1,4 +1,4 @@
--- `judges::verdicts::at_tops` meets its contract.
+-- `at_tops` meets its contract (TopLaws, `tops-read`).
 use borrow.Author.Needs.{needs}
 use Rattle.judges.proofs.TopLaws.{top-laws}
 use Rattle.judges.proofs.verdicts.at_tops.Statement.{statement}

@@ -1,4 +1,4 @@
--- `judges::whole::judge_recording` meets its contract.
+-- `judge_recording` meets its contract: one law for each return (WholeLaws, `whole-refused`, `whole-judged`).
 use borrow.Author.Needs.{needs}
 use Rattle.judges.proofs.WholeLaws.{whole-laws, whole-refused, whole-judged}
 use Rattle.judges.proofs.whole.judge_recording.Statement.{statement}
@@ -10,8 +10,8 @@ pick-requires c κs = search needs
 table-refusal-requires : tie.Need-table-refusal-requires
 table-refusal-requires c κs = search needs
 
-trace-refusal-requires : tie.Need-trace-refusal-requires
-trace-refusal-requires c κs = search needs
+joined-refusal-requires : tie.Need-joined-refusal-requires
+joined-refusal-requires c κs = search needs
 
 or-else-requires : tie.Need-or-else-requires
 or-else-requires c κs = search needs
@@ -31,8 +31,8 @@ same-length c = search needs
 returns : tie.Need-returns
 returns c = search whole-refused
 
-judge-accepted-requires : tie.Need-judge-accepted-requires
-judge-accepted-requires c κs = search whole-laws
+judge-accepted-table-requires : tie.Need-judge-accepted-table-requires
+judge-accepted-table-requires c κs = search whole-laws
 
 same-length-2 : tie.Need-same-length-2
 same-length-2 c = search needs
@@ -46,13 +46,13 @@ judge-recording-spec =
     (tie.spec
     pick-requires
     table-refusal-requires
-    trace-refusal-requires
+    joined-refusal-requires
     or-else-requires
     or-else-requires-2
     pick-index-requires
     clear-u64-requires
     same-length
     returns
-    judge-accepted-requires
+    judge-accepted-table-requires
     same-length-2
     returns-2)

@@ -1,4 +1,4 @@
--- `projection::places::project_counted` meets its contract.
+-- `project_counted` meets its contract (PlaceLaws, `into-counted`, `into-laid`).
 use borrow.Author.Needs.{needs}
 use Rattle.projection.proofs.PlaceLaws.{counted-laws}
 use Rattle.projection.proofs.places.project_counted.Statement.{statement}

@@ -1,4 +1,4 @@
--- `line_count` meets its contract.
+-- `line_count` meets its contract (NumberLaws: count-laws, counted-none, counted-less, counted-next, counted-end).
 use Prim.Native.Nat.{_-_}
 use lib.ListN.{length}
 use Rattle.refused_line.proofs.NumberLaws.{Counted, count-laws, counted-none, counted-less, counted-next, counted-end}

@@ -1,4 +1,4 @@
--- `line_number` meets its contract.
+-- `line_number` meets its contract (NumberLaws: number-laws).
 use Rattle.refused_line.proofs.NumberLaws.{number-laws}
 use Rattle.refused_line.proofs.number.line_number.Statement.{statement}
 use Rattle.refused_line.proofs.number.line_number.Tie as tie

@@ -1,4 +1,4 @@
--- `read_input` meets its contract.
+-- `read_input` meets its contract (InputLaws: read-laws).
 use Prim.Native.Nat.{_-_}
 use lib.ListN.{length}
 use Rattle.standard_streams.proofs.InputLaws.{Reading, read-laws}

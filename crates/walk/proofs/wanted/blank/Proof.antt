@@ -1,3 +1,4 @@
+-- `blank` meets its contract (WantedLaws, `blank-none`, `blank-more`, `blank-done`).
 use Prim.Native.Nat.{_-_}
 use Rattle.walk.proofs.WantedLaws.{Blanking, wanted-laws}
 use Rattle.walk.proofs.wanted.blank.Statement.{statement}
@@ -9,35 +10,27 @@ Inv-loop count n wanted₀ row j₀ wanted j = Blanking n count wanted₀ j want
 abbrev μ-loop : tie.MeasureT-loop
 μ-loop count n wanted₀ row j₀ wanted j = count - j
 
--- src/wanted.rt:38:9
 none-requires : tie.Need-none-requires Inv-loop μ-loop
 none-requires c κs = search wanted-laws
 
--- src/wanted.rt:39:5
 loop-holds : tie.Need-loop-holds Inv-loop μ-loop
 loop-holds c = search wanted-laws
 
--- src/wanted.rt:40:9
-put-requires : tie.Need-put-requires Inv-loop μ-loop
-put-requires c κs = search wanted-laws
+store-pair-requires : tie.Need-store-pair-requires Inv-loop μ-loop
+store-pair-requires c κs = search wanted-laws
 
--- src/wanted.rt:39:9
 add-j : tie.Need-add-j Inv-loop μ-loop
 add-j c = search wanted-laws
 
--- src/wanted.rt:39:5
 loop-less : tie.Need-loop-less Inv-loop μ-loop
 loop-less c = search wanted-laws
 
--- src/wanted.rt:39:5
 loop-again : tie.Need-loop-again Inv-loop μ-loop
 loop-again c = search wanted-laws
 
--- src/wanted.rt:34:1
 same-length : tie.Need-same-length Inv-loop μ-loop
 same-length c = search wanted-laws
 
--- src/wanted.rt:34:1
 returns : tie.Need-returns Inv-loop μ-loop
 returns c = search wanted-laws
 
@@ -49,7 +42,7 @@ blank-spec =
     μ-loop
     none-requires
     loop-holds
-    put-requires
+    store-pair-requires
     add-j
     loop-less
     loop-again

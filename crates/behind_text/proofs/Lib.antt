@@ -1,3 +1,0 @@
-pub mod VerdictLaws
-pub mod FoundLaws
-pub mod BehindLaws

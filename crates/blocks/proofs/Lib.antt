@@ -1,2 +1,0 @@
-pub mod EmitLaws
-pub mod BlockLaws

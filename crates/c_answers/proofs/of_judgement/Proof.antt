@@ -1,0 +1,27 @@
+-- `of_judgement` meets its contract: one law for each case of the answer (CaseLaws).
+use borrow.Author.Needs.{needs}
+use Rattle.c_answers.proofs.CaseLaws.{case-laws}
+use Rattle.c_answers.proofs.of_judgement.Statement.{statement}
+use Rattle.c_answers.proofs.of_judgement.Tie as tie
+
+enum-known-answer : tie.Need-enum-known-answer
+enum-known-answer c = search needs
+
+cast-t5 : tie.Need-cast-t5
+cast-t5 c = search needs
+
+cast-t6 : tie.Need-cast-t6
+cast-t6 c = search needs
+
+enum-known-answer-2 : tie.Need-enum-known-answer-2
+enum-known-answer-2 c = search needs
+
+returns : tie.Need-returns
+returns c = search case-laws
+
+returns-2 : tie.Need-returns-2
+returns-2 c = search case-laws
+
+pub of-judgement-spec : {M : Type 1} → statement M
+of-judgement-spec =
+    tie.close (tie.spec enum-known-answer cast-t5 cast-t6 enum-known-answer-2 returns returns-2)

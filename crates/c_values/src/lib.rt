@@ -1,2 +1,0 @@
-// The answers as C has them: a number and values.
-pub mod values;

@@ -1,2 +1,0 @@
-// The program's input, split at the line `-`.
-pub mod split;

@@ -1,2 +1,0 @@
-// Lent space for the three tables of the joint reading.
-pub mod space;

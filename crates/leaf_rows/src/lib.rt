@@ -1,2 +1,0 @@
-// The rows of a node without operand nodes.
-pub mod leaf;

@@ -1,2 +1,0 @@
-// Judging a rule on its own local trace.
-pub mod local;

@@ -1,0 +1,4 @@
+pub mod CodeLaws
+pub mod TokenLaws
+pub mod ScanLaws
+pub mod TallyLaws

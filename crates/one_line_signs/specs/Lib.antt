@@ -1,0 +1,4 @@
+pub mod Codes
+pub mod Tokens
+pub mod Scanning
+pub mod Tallies

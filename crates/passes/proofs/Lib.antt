@@ -1,2 +1,0 @@
-pub mod LengthLaws
-pub mod PassLaws

@@ -1,2 +1,0 @@
-pub mod RecordingAccepted
-pub mod OutputLaws

@@ -1,0 +1,95 @@
+-- `scan_states` meets its contract (LoopLaws: scan-state-laws, states-start, states-next, states-refused, states-done).
+use borrow.Author.Needs.{needs}
+use Prim.Native.Nat.{_-_}
+use Rattle.recording_reader.proofs.LoopLaws.{scan-state-laws, StatesLeft, states-start, states-next, states-refused, states-done}
+use Rattle.recording_reader.proofs.scan.scan_states.Statement.{statement}
+use Rattle.recording_reader.proofs.scan.scan_states.Tie as tie
+
+abbrev Inv-loop : tie.InvT-loop
+Inv-loop text start controllers count masks states₀ at₀ prior₀ k₀ states at prior k = StatesLeft controllers count masks start text states₀ states at prior k
+
+abbrev μ-loop : tie.MeasureT-loop
+μ-loop text start controllers count masks states₀ at₀ prior₀ k₀ states at prior k = count - k
+
+loop-holds : tie.Need-loop-holds Inv-loop μ-loop
+loop-holds c = search states-start
+
+sub-t : tie.Need-sub-t Inv-loop μ-loop
+sub-t c = search scan-state-laws
+
+part-t-start : tie.Need-part-t-start Inv-loop μ-loop
+part-t-start c = search scan-state-laws
+
+part-t-end : tie.Need-part-t-end Inv-loop μ-loop
+part-t-end c = search scan-state-laws
+
+first-line-requires : tie.Need-first-line-requires Inv-loop μ-loop
+first-line-requires c κs = search scan-state-laws
+
+next-state-requires : tie.Need-next-state-requires Inv-loop μ-loop
+next-state-requires c κs = search scan-state-laws
+
+enum-known-state : tie.Need-enum-known-state Inv-loop μ-loop
+enum-known-state c = search scan-state-laws
+
+mul-states : tie.Need-mul-states Inv-loop μ-loop
+mul-states c = search scan-state-laws
+
+slice-write-states : tie.Need-slice-write-states Inv-loop μ-loop
+slice-write-states c = search scan-state-laws
+
+add-at : tie.Need-add-at Inv-loop μ-loop
+add-at c = search scan-state-laws
+
+add-k : tie.Need-add-k Inv-loop μ-loop
+add-k c = search scan-state-laws
+
+loop-less : tie.Need-loop-less Inv-loop μ-loop
+loop-less c = search needs
+
+loop-again : tie.Need-loop-again Inv-loop μ-loop
+loop-again c = search states-next
+
+enum-known-number : tie.Need-enum-known-number Inv-loop μ-loop
+enum-known-number c = search scan-state-laws
+
+same-length : tie.Need-same-length Inv-loop μ-loop
+same-length c = search scan-state-laws
+
+returns : tie.Need-returns Inv-loop μ-loop
+returns c = search states-refused
+
+pick-requires : tie.Need-pick-requires Inv-loop μ-loop
+pick-requires c κs = search scan-state-laws
+
+same-length-2 : tie.Need-same-length-2 Inv-loop μ-loop
+same-length-2 c = search scan-state-laws
+
+returns-2 : tie.Need-returns-2 Inv-loop μ-loop
+returns-2 c = search states-done
+
+pub scan-states-spec : {M : Type 1} → statement M
+scan-states-spec =
+    tie.close
+    (tie.spec
+    Inv-loop
+    μ-loop
+    loop-holds
+    sub-t
+    part-t-start
+    part-t-end
+    first-line-requires
+    next-state-requires
+    enum-known-state
+    mul-states
+    slice-write-states
+    add-at
+    add-k
+    loop-less
+    loop-again
+    enum-known-number
+    same-length
+    returns
+    pick-requires
+    same-length-2
+    returns-2)

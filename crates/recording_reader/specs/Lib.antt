@@ -1,0 +1,3 @@
+pub mod NextLines
+pub mod Scanning
+pub mod Reading

@@ -1,2 +1,0 @@
-// A node's two rows, and the operators on them.
-pub mod pair;

@@ -1,0 +1,4 @@
+pub mod Headings
+pub mod Kinds
+pub mod Meaning
+pub mod Fits

@@ -1,3 +1,0 @@
-pub mod CodeLaws
-pub mod TokenLaws
-pub mod ScanLaws

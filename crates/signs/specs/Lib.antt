@@ -1,3 +1,0 @@
-pub mod Codes
-pub mod Tokens
-pub mod Scanning

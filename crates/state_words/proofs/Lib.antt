@@ -1,3 +1,0 @@
-pub mod WordLaws
-pub mod TurnLaws
-pub mod MaskLaws

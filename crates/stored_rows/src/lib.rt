@@ -1,2 +1,0 @@
-// Rows in lent space.
-pub mod stored;

@@ -1,3 +1,0 @@
-pub mod HeadingLaws
-pub mod MaskLaws
-pub mod StateLaws

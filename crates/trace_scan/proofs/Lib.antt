@@ -1,3 +1,0 @@
-pub mod ScanLaws
-pub mod LoopLaws
-pub mod RecordingLaws
