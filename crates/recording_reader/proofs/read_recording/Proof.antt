@@ -21,10 +21,10 @@ pick-index-requires-2 : tie.Need-pick-index-requires-2
 pick-index-requires-2 c κs = search needs
 
 clear-u32-requires : tie.Need-clear-u32-requires
-clear-u32-requires c κs = (search masks-kept, omega arith)
+clear-u32-requires c κs = search (needs, masks-kept)
 
 clear-u64-requires : tie.Need-clear-u64-requires
-clear-u64-requires c κs = (search states-kept, omega arith)
+clear-u64-requires c κs = search (needs, states-kept)
 
 same-length : tie.Need-same-length
 same-length c = omega arith

@@ -15,7 +15,7 @@ pick-index-requires : tie.Need-pick-index-requires
 pick-index-requires c κs = search needs
 
 clear-u32-requires : tie.Need-clear-u32-requires
-clear-u32-requires c κs = (search read-fits, omega arith)
+clear-u32-requires c κs = search (needs, read-fits)
 
 same-length : tie.Need-same-length
 same-length c = omega arith
