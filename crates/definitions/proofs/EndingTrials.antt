@@ -4,10 +4,11 @@ use Prim.Native.Nat.{ℕ}
 use Prim.Native.String.{String}
 use mathlib.Core.List.{List, [], _∷_, _++_}
 use lib.ListN.{replicate}
-use Rattle.definitions.specs.Lines.{bytes, withNewlines}
+use Rattle.definitions.specs.Bounded.{pick}
+use Rattle.definitions.specs.Lines.{bytes, withNewlines, digits, digitsBy}
 use Rattle.definitions.specs.RuleText.{RuleScan, scanRule, ruleText}
 use Rattle.definitions.specs.RecordingText.{jointPart}
-use Rattle.definitions.specs.Program.{bytesOf, programOutput}
+use Rattle.definitions.specs.Program.{bytesOf, ruleTextIn, recordingTextIn, refusedText, textsOutput, programOutput}
 use Rattle.definitions.proofs.Samples.{computed}
 
 -- what the program prints of an input
@@ -55,13 +56,17 @@ unsettled : Unsettled
 unfolding computed
 unsettled = record { again = refl; handedBack = refl; handedBackRenewed = refl }
 
--- "14 over 16,384 bytes": the bytes as they came, so 13 10 are two; one line of 16,383 bytes, with the one ending and with the other
+-- the line `-` with an ending, and 16,382 bytes after it
+abbrev filled : String → List ℕ
+filled line = bytes line ++ replicate 16382 120
+
+-- "14 over 16,384 bytes": the bytes as they came, so 13 10 are two; as many with the one ending are read, with the other there is one more
 pub record CountedBytes : Type 0 where
-  pub newline : programOutput (replicate 16383 120 ++ (10 ∷ [])) ≡ bytes "refused\t1\t" ++ (replicate 16383 120 ++ (10 ∷ []))
-  pub returned : programOutput (replicate 16383 120 ++ (13 ∷ 10 ∷ [])) ≡ bytes "refused\t14\t\n"
+  pub newline : programOutput (filled "-\n") ≡ textsOutput (ruleTextIn (filled "-\n")) (recordingTextIn (filled "-\n"))
+  pub returned : programOutput (filled "-\r\n") ≡ bytes "refused\t14\t\n"
 
 countedBytes : CountedBytes
-unfolding computed
+unfolding programOutput refusedText digits digitsBy pick
 countedBytes = record { newline = refl; returned = refl }
 
 -- "The line that it hands back leaves out its ending. A byte 13 anywhere else still makes the line malformed"

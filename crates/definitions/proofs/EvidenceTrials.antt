@@ -39,46 +39,46 @@ response =
 pub record Walks : Type 0 where
   -- "an or that is yes takes its first yes operand, one that is no takes both"
   pub orFirst : own (3 ∷ []) (node Or 0 1 ∷ []) weakly ≡ found 0 0 ∷ []
-  pub orSecond : own (2 ∷ []) (node Or 0 1 ∷ []) strongly ≡ found 0 1 ∷ []
-  pub orNo : own (0 ∷ []) (node Or 0 1 ∷ []) weakly ≡ found 0 0 ∷ found 0 1 ∷ []
+  pub orSecond : own (2 ∷ []) (node Or 0 1 ∷ []) strongly ≡ found 1 0 ∷ []
+  pub orNo : own (0 ∷ []) (node Or 0 1 ∷ []) weakly ≡ found 0 0 ∷ found 1 0 ∷ []
   -- "An until that is yes takes q at the first fitting k and p before it"
-  pub untilMet : own (1 ∷ 1 ∷ 3 ∷ 2 ∷ []) (node Until 0 1 ∷ []) strongly ≡ found 0 0 ∷ found 1 0 ∷ found 2 1 ∷ []
-  pub untilAtOnce : own (3 ∷ 2 ∷ []) (node Until 0 1 ∷ []) weakly ≡ found 0 1 ∷ []
+  pub untilMet : own (1 ∷ 1 ∷ 3 ∷ 2 ∷ []) (node Until 0 1 ∷ []) strongly ≡ found 0 0 ∷ found 0 1 ∷ found 1 2 ∷ []
+  pub untilAtOnce : own (3 ∷ 2 ∷ []) (node Until 0 1 ∷ []) weakly ≡ found 1 0 ∷ []
   -- "or, where only the weak ending makes it yes, p at every place from its own on"
-  pub untilByEnding : own (1 ∷ 1 ∷ []) (node Until 0 1 ∷ []) weakly ≡ found 0 0 ∷ found 1 0 ∷ []
-  pub untilFromItsOwn : own (0 ∷ 1 ∷ 1 ∷ []) (node Until 0 1 ∷ node Next 2 0 ∷ []) weakly ≡ found 1 0 ∷ found 2 0 ∷ []
+  pub untilByEnding : own (1 ∷ 1 ∷ []) (node Until 0 1 ∷ []) weakly ≡ found 0 0 ∷ found 0 1 ∷ []
+  pub untilFromItsOwn : own (0 ∷ 1 ∷ 1 ∷ []) (node Until 0 1 ∷ node Next 2 0 ∷ []) weakly ≡ found 0 1 ∷ found 0 2 ∷ []
   -- "One that is no takes p where it first fails and q up to and at that place"
-  pub untilFails : own (1 ∷ 0 ∷ 0 ∷ 2 ∷ []) (node Until 0 1 ∷ []) weakly ≡ found 0 1 ∷ found 1 0 ∷ found 1 1 ∷ []
+  pub untilFails : own (1 ∷ 0 ∷ 0 ∷ 2 ∷ []) (node Until 0 1 ∷ []) weakly ≡ found 1 0 ∷ found 0 1 ∷ found 1 1 ∷ []
   -- "or q at every place from its own on if p never fails"
-  pub untilNever : own (1 ∷ 1 ∷ []) (node Until 0 1 ∷ []) strongly ≡ found 0 1 ∷ found 1 1 ∷ []
+  pub untilNever : own (1 ∷ 1 ∷ []) (node Until 0 1 ∷ []) strongly ≡ found 1 0 ∷ found 1 1 ∷ []
   -- "Since is the mirror image, with the latest k"
-  pub sinceMet : own (2 ∷ 3 ∷ 1 ∷ 0 ∷ []) past weakly ≡ found 1 1 ∷ found 2 0 ∷ []
-  pub sinceAtOnce : own (2 ∷ 3 ∷ 3 ∷ 0 ∷ []) past strongly ≡ found 2 1 ∷ []
-  pub sinceFails : own (2 ∷ 0 ∷ 1 ∷ 2 ∷ []) past strongly ≡ found 1 0 ∷ found 1 1 ∷ found 2 1 ∷ []
-  pub sinceNever : own (1 ∷ 1 ∷ 1 ∷ 2 ∷ []) past weakly ≡ found 0 1 ∷ found 1 1 ∷ found 2 1 ∷ []
-  pub sinceAtFirst : own (0 ∷ 3 ∷ []) (node Since 0 1 ∷ []) weakly ≡ found 0 0 ∷ found 0 1 ∷ []
+  pub sinceMet : own (2 ∷ 3 ∷ 1 ∷ 0 ∷ []) past weakly ≡ found 1 1 ∷ found 0 2 ∷ []
+  pub sinceAtOnce : own (2 ∷ 3 ∷ 3 ∷ 0 ∷ []) past strongly ≡ found 1 2 ∷ []
+  pub sinceFails : own (2 ∷ 0 ∷ 1 ∷ 2 ∷ []) past strongly ≡ found 0 1 ∷ found 1 1 ∷ found 1 2 ∷ []
+  pub sinceNever : own (1 ∷ 1 ∷ 1 ∷ 2 ∷ []) past weakly ≡ found 1 0 ∷ found 1 1 ∷ found 1 2 ∷ []
+  pub sinceAtFirst : own (0 ∷ 3 ∷ []) (node Since 0 1 ∷ []) weakly ≡ found 0 0 ∷ found 1 0 ∷ []
   -- "Next and prev take their operand's place if there is one"
-  pub next : own (0 ∷ 1 ∷ []) (node Next 0 0 ∷ []) strongly ≡ found 1 0 ∷ []
+  pub next : own (0 ∷ 1 ∷ []) (node Next 0 0 ∷ []) strongly ≡ found 0 1 ∷ []
   pub nextAtLast : own (1 ∷ []) (node Next 0 0 ∷ []) weakly ≡ []
   pub prev : own (1 ∷ 0 ∷ []) (node Prev 0 0 ∷ node Next 2 0 ∷ []) weakly ≡ found 0 0 ∷ []
   pub prevAtFirst : own (1 ∷ 0 ∷ []) (node Prev 0 0 ∷ []) strongly ≡ []
   -- "a not passes on", in the other reading
   pub notPassesOn : own (1 ∷ []) (node Not 0 0 ∷ []) weakly ≡ found 0 0 ∷ []
-  pub notFlipsWeak : own (1 ∷ 1 ∷ []) (node Until 0 1 ∷ node Not 2 0 ∷ []) weakly ≡ found 0 1 ∷ found 1 1 ∷ []
-  pub notFlipsStrong : own (1 ∷ 1 ∷ []) (node Until 0 1 ∷ node Not 2 0 ∷ []) strongly ≡ found 0 0 ∷ found 1 0 ∷ []
+  pub notFlipsWeak : own (1 ∷ 1 ∷ []) (node Until 0 1 ∷ node Not 2 0 ∷ []) weakly ≡ found 1 0 ∷ found 1 1 ∷ []
+  pub notFlipsStrong : own (1 ∷ 1 ∷ []) (node Until 0 1 ∷ node Not 2 0 ∷ []) strongly ≡ found 0 0 ∷ found 0 1 ∷ []
   -- "A foreign atom at the last place adds nothing": atom 1 is foreign
   pub foreignAtLast : evidence 1 (2 ∷ []) (over []) weakly ≡ []
-  pub ownAtLast : evidence 2 (2 ∷ []) (over []) weakly ≡ found 0 1 ∷ []
-  pub foreignBefore : evidence 1 (1 ∷ 1 ∷ []) (over (node Until 0 1 ∷ [])) strongly ≡ found 0 1 ∷ []
+  pub ownAtLast : evidence 2 (2 ∷ []) (over []) weakly ≡ found 1 0 ∷ []
+  pub foreignBefore : evidence 1 (1 ∷ 1 ∷ []) (over (node Until 0 1 ∷ [])) strongly ≡ found 1 0 ∷ []
   pub foreignWitness : evidence 1 (1 ∷ 1 ∷ []) (over (node Until 0 1 ∷ [])) weakly ≡ found 0 0 ∷ []
   -- "Each pair appears a single time": a node of two parents, or taken twice
-  pub twoParents : own (0 ∷ 0 ∷ []) (node Next 0 0 ∷ node Or 0 2 ∷ node Or 2 3 ∷ []) weakly ≡ found 0 0 ∷ found 1 0 ∷ []
+  pub twoParents : own (0 ∷ 0 ∷ []) (node Next 0 0 ∷ node Or 0 2 ∷ node Or 2 3 ∷ []) weakly ≡ found 0 0 ∷ found 0 1 ∷ []
   pub takenTwice : own (0 ∷ []) (node Or 0 0 ∷ []) strongly ≡ found 0 0 ∷ []
-  pub bothReadings : own (0 ∷ 1 ∷ []) (node Not 0 0 ∷ node Next 2 0 ∷ node Or 0 3 ∷ []) weakly ≡ found 0 0 ∷ found 1 0 ∷ []
+  pub bothReadings : own (0 ∷ 1 ∷ []) (node Not 0 0 ∷ node Next 2 0 ∷ node Or 0 3 ∷ []) weakly ≡ found 0 0 ∷ found 0 1 ∷ []
   -- two nodes with one atom are two pairs, "by place, then node"
-  pub oneAtom : own (0 ∷ 0 ∷ []) (node Atom 0 0 ∷ node Or 0 2 ∷ node Until 2 3 ∷ []) strongly ≡ found 0 0 ∷ found 0 2 ∷ []
+  pub oneAtom : own (0 ∷ 0 ∷ []) (node Atom 0 0 ∷ node Or 0 2 ∷ node Until 2 3 ∷ []) strongly ≡ found 0 0 ∷ found 2 0 ∷ []
   -- document 01's example: yes since the order's next step opens the gate; the strong no comes of the end alone
-  pub exampleWeak : evidence 1 (2 ∷ 1 ∷ 0 ∷ []) response weakly ≡ found 1 0 ∷ found 1 2 ∷ []
+  pub exampleWeak : evidence 1 (2 ∷ 1 ∷ 0 ∷ []) response weakly ≡ found 0 1 ∷ found 2 1 ∷ []
   pub exampleStrong : evidence 1 (2 ∷ 1 ∷ 0 ∷ []) response strongly ≡ []
 
 walks : Walks

@@ -139,27 +139,27 @@ wantedRows t ns weak = walkNodes (t .places) (readFrom (rowsOf t ns)) (length ns
 
 -- "each a node of kind atom and a local place"
 pub record Found : Type 0 where
-  pub place : ℕ
   pub atomNode : ℕ
+  pub place : ℕ
 
-abbrev pub found : (k j : ℕ) → Found
-found k j = record { place = k; atomNode = j }
+abbrev pub found : (j k : ℕ) → Found
+found j k = record { atomNode = j; place = k }
 
 -- node j at place k is added: an atom that the walk comes to; "A foreign atom at the last place adds nothing"
-abbrev pub decides : (mask : ℕ) (places : List ℕ) (ns : List Node) (wanted : List Rows) (k j : ℕ) → Bool
-decides mask places ns wanted k j =
+abbrev pub decides : (mask : ℕ) (places : List ℕ) (ns : List Node) (wanted : List Rows) (j k : ℕ) → Bool
+decides mask places ns wanted j k =
     isAtom ((nodeAt ns j) .kind)
     && ((bitOf mask ((nodeAt ns j) .first) || ltb (suc k) (length places)) && (readFrom wanted j true k || readFrom wanted j false k))
 
--- of place k, those of the n nodes from node j on
-abbrev pub foundAt : (f : ℕ → ℕ → Bool) (k n j : ℕ) → List Found
-foundAt f k zero j = []
-foundAt f k (suc n) j = pick (f k j) (found k j ∷ []) [] ++ foundAt f k n (suc j)
+-- of the n nodes from node j on, those found at place k; f says which node is found at which place
+abbrev pub foundAt : (f : ℕ → ℕ → Bool) (n j k : ℕ) → List Found
+foundAt f zero j k = []
+foundAt f (suc n) j k = pick (f j k) (found j k ∷ []) [] ++ foundAt f n (suc j) k
 
 -- of `count` nodes, those of the n places from place k on
 abbrev pub foundFrom : (f : ℕ → ℕ → Bool) (count n k : ℕ) → List Found
 foundFrom f count zero k = []
-foundFrom f count (suc n) k = foundAt f k count 0 ++ foundFrom f count n (suc k)
+foundFrom f count (suc n) k = foundAt f count 0 k ++ foundFrom f count n (suc k)
 
 -- "the readings .. that decide the weak or the strong verdict, as chosen": "Each pair appears a single time, by place, then node"
 unfoldable pub evidence : (mask : ℕ) (places : List ℕ) (ns : List Node) (weak : Bool) → List Found

@@ -96,16 +96,16 @@ module _ (c count : ℕ) (nodes : List ℕ) (mask L : ℕ) (p : List ℕ) (long 
     }
 
     -- what is found from the wanted places is what decides
-    found-decides : (k j : ℕ) → k < L → j < count → placesOf nodes mask L wanted j k ≡ decides mask p ns ws k j
+    found-decides : (j k : ℕ) → j < count → k < L → placesOf nodes mask L wanted j k ≡ decides mask p ns ws j k
     unfolding placesOf
-    found-decides k j h below =
+    found-decides j k below h =
         ap (λ (x : Rows). foundBy (wordNode nodes j) mask L x k) (rows-in (pairOfNode wanted j) L (getD ws j noRows) (wanted-held .pairs j below))
         ∙ rw (node-at count nodes j below nodes-many, long)
 
     found-pairs : pairsOf nodes count mask L wanted ≡ evidence mask p ns weak
     unfolding evidence
     found-pairs =
-        found-same (λ k j. placesOf nodes mask L wanted j k) (decides mask p ns ws) count L found-decides L 0 (omega arith)
+        found-same (placesOf nodes mask L wanted) (decides mask p ns ws) count L found-decides L 0 (omega arith)
         ∙ rw (rule-length r fine, long)
 
 module _ (c count : ℕ) (nodes : List ℕ) (l : LocalTrace) where

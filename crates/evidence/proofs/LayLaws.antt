@@ -27,16 +27,16 @@ use Rattle.evidence.specs.Laying.{foundIn, PlaceReady, PlaceLaid, Places
 -- ---- a mark as a number
 
 -- `mark_of`
-pub mark-number : (found : List ℕ) (k j : ℕ) → getD found (j * 3 + k / 64) 0 / 2 ^ (k % 64) % 2 ≡ bit (foundIn found k j)
+pub mark-number : (found : List ℕ) (j k : ℕ) → getD found (j * 3 + k / 64) 0 / 2 ^ (k % 64) % 2 ≡ bit (foundIn found j k)
 unfolding foundIn
-mark-number found k j = bit-number (getD found (j * 3 + k / 64) 0) (k % 64)
+mark-number found j k = bit-number (getD found (j * 3 + k / 64) 0) (k % 64)
 
 -- ---- the nodes of one place
 
 -- before node j: what is laid, with what is left, is all of it
 pub record PlaceLaying (count k : ℕ) (found : List ℕ) (from : ℕ) (entry : List ℕ) (j : ℕ) (l : List ℕ) (end : ℕ) : Type 0 where
   pub within : j ≤ count
-  pub laid : take from entry ++ map pairWord (foundAt (foundIn found) k count 0) ≡ take end l ++ map pairWord (foundAt (foundIn found) k (count - j) j)
+  pub laid : take from entry ++ map pairWord (foundAt (foundIn found) count 0 k) ≡ take end l ++ map pairWord (foundAt (foundIn found) (count - j) j k)
   pub low : end ≤ from + j
   pub kept : length l ≡ length entry
   pub past : drop maxPairs l ≡ drop maxPairs entry
@@ -55,12 +55,12 @@ module _ (count k : ℕ) (found : List ℕ) (from : ℕ) (entry : List ℕ) (giv
   pub place-row : j < count → j * 3 + 3 ≤ length found
   place-row h = omega (arith, given .rows)
 
-  pub place-fits : j < count → (b : ℕ) → b ≡ bit (foundIn found k j) → Fits w64 (end + b)
-  place-fits h b e = record { fits = omega (arith, so .low, given .room, bit-few (foundIn found k j)) }
+  pub place-fits : j < count → (b : ℕ) → b ≡ bit (foundIn found j k) → Fits w64 (end + b)
+  place-fits h b e = record { fits = omega (arith, so .low, given .room, bit-few (foundIn found j k)) }
 
   -- one node more: it is written, and kept where it is found
   next-laid : (b : Bool) → end < length l → (rest : List Found) →
-      take end l ++ map pairWord (pick b (pairOf k j ∷ []) [] ++ rest) ≡ take (end + bit b) (set l end (k * maxRuleNodes + j)) ++ map pairWord rest
+      take end l ++ map pairWord (pick b (pairOf j k ∷ []) [] ++ rest) ≡ take (end + bit b) (set l end (k * maxRuleNodes + j)) ++ map pairWord rest
   unfolding pick
   next-laid true h rest =
       let e : end + 1 ≡ suc end = omega arith in
@@ -68,17 +68,17 @@ module _ (count k : ℕ) (found : List ℕ) (from : ℕ) (entry : List ℕ) (giv
   next-laid false h rest = let e : end + 0 ≡ end = omega arith in rw (e, take-set-le end l end (k * maxRuleNodes + j) (omega arith))
 
   -- `lay_place`, a turn: one node more of `foundAt` is laid, kept where it is found
-  pub place-more : j < count → (b : ℕ) → b ≡ bit (foundIn found k j) → PlaceLaying count k found from entry (j + 1) (set l end (k * maxRuleNodes + j)) (end + b)
+  pub place-more : j < count → (b : ℕ) → b ≡ bit (foundIn found j k) → PlaceLaying count k found from entry (j + 1) (set l end (k * maxRuleNodes + j)) (end + b)
   place-more h b e =
       let s : count - j ≡ suc (count - (j + 1)) = omega arith in
       let m : suc j ≡ j + 1 = omega arith in
-      let c = bit-few (foundIn found k j) in
+      let c = bit-few (foundIn found j k) in
       record {
         within = omega arith;
         laid = so .laid
-            ∙ (ap (λ (x : ℕ). take end l ++ map pairWord (foundAt (foundIn found) k x j)) s
-            ∙ (next-laid (foundIn found k j) (place-inside h) (foundAt (foundIn found) k (count - (j + 1)) (suc j))
-            ∙ ap₂ (λ (x y : ℕ). take (end + x) (set l end (k * maxRuleNodes + j)) ++ map pairWord (foundAt (foundIn found) k (count - (j + 1)) y)) (sym e) m));
+            ∙ (ap (λ (x : ℕ). take end l ++ map pairWord (foundAt (foundIn found) x j k)) s
+            ∙ (next-laid (foundIn found j k) (place-inside h) (foundAt (foundIn found) (count - (j + 1)) (suc j) k)
+            ∙ ap₂ (λ (x y : ℕ). take (end + x) (set l end (k * maxRuleNodes + j)) ++ map pairWord (foundAt (foundIn found) (count - (j + 1)) y k)) (sym e) m));
         low = omega (arith, so .low);
         kept = length-set l end (k * maxRuleNodes + j) ∙ so .kept;
         past = drop-set-lt maxPairs l end (k * maxRuleNodes + j) (omega (arith, so .low, given .room)) ∙ so .past;
@@ -121,7 +121,7 @@ module _ (count n : ℕ) (found entry : List ℕ) (given : PlacesReady count n f
   places-more h end′ l′ kept P =
       let s : n - k ≡ suc (n - (k + 1)) = omega arith in
       let m : suc k ≡ k + 1 = omega arith in
-      let here : List Found = foundAt (foundIn found) k count 0 in
+      let here : List Found = foundAt (foundIn found) count 0 k in
       let rest : List Found = foundFrom (foundIn found) count (n - (k + 1)) (suc k) in
       let joined : take end l ++ map pairWord (here ++ rest) ≡ (take end l ++ map pairWord here) ++ map pairWord rest
       = rw map-append (sym (append-assoc (take end l) (map pairWord here) (map pairWord rest))) in
@@ -145,14 +145,14 @@ module _ (count n : ℕ) (found entry : List ℕ) (given : PlacesReady count n f
 
 -- ---- from the wanted places
 
-found-at-same : (f g : ℕ → ℕ → Bool) (k count : ℕ) → ((j : ℕ) → j < count → f k j ≡ g k j) → (n j : ℕ) → j + n ≤ count → foundAt f k n j ≡ foundAt g k n j
+found-at-same : (f g : ℕ → ℕ → Bool) (k count : ℕ) → ((j : ℕ) → j < count → f j k ≡ g j k) → (n j : ℕ) → j + n ≤ count → foundAt f n j k ≡ foundAt g n j k
 found-at-same f g k count h zero j l = refl
 found-at-same f g k count h (suc n) j l = rw (h j (omega arith), found-at-same f g k count h n (suc j) (omega arith))
 
-pub found-same : (f g : ℕ → ℕ → Bool) (count L : ℕ) → ((k j : ℕ) → k < L → j < count → f k j ≡ g k j) → (n k : ℕ) → k + n ≤ L → foundFrom f count n k ≡ foundFrom g count n k
+pub found-same : (f g : ℕ → ℕ → Bool) (count L : ℕ) → ((j k : ℕ) → j < count → k < L → f j k ≡ g j k) → (n k : ℕ) → k + n ≤ L → foundFrom f count n k ≡ foundFrom g count n k
 found-same f g count L h zero k l = refl
 found-same f g count L h (suc n) k l =
-    rw (found-at-same f g k count (λ j c. h k j (omega arith) c) count 0 (omega arith), found-same f g count L h n (suc k) (omega arith))
+    rw (found-at-same f g k count (λ j c. h j k c (omega arith)) count 0 (omega arith), found-same f g count L h n (suc k) (omega arith))
 
 -- the word that holds place k of the row at 3 j
 row-word : (l : List ℕ) (a k : ℕ) → k < maxStates → getD (getD l a 0 ∷ getD l (a + 1) 0 ∷ []) (k / 64) 0 ≡ getD l (a + k / 64) 0
@@ -167,9 +167,9 @@ module _ (nodes : List ℕ) (count own n : ℕ) (wanted pairs : List ℕ) (given
   lay-findable found h = record { ready = given .ready; room = omega (arith, given .few) }
 
   module _ (found : List ℕ) (F : FoundRows nodes count own n wanted found) where
-    mark-found : (k j : ℕ) → k < n → j < count → foundIn found k j ≡ placesOf nodes own n wanted j k
+    mark-found : (j k : ℕ) → j < count → k < n → foundIn found j k ≡ placesOf nodes own n wanted j k
     unfolding foundIn rowAt
-    mark-found k j h c =
+    mark-found j k c h =
         let few : k < maxStates = omega (arith, given .places) in
         let M = F .rows j c in
         ap (λ (w : ℕ). bitOf w (k % 64)) (sym (row-word found (j * 3) k few))
@@ -186,7 +186,7 @@ module _ (nodes : List ℕ) (count own n : ℕ) (wanted pairs : List ℕ) (given
       content : take end l ≡ map pairWord (pairsOf nodes count own n wanted)
       content =
           P .laid
-          ∙ ap (map pairWord) (found-same (foundIn found) (λ k j. placesOf nodes own n wanted j k) count n (λ k j h c. mark-found k j h c) n 0 (omega arith))
+          ∙ ap (map pairWord) (found-same (foundIn found) (placesOf nodes own n wanted) count n mark-found n 0 (omega arith))
 
       size : length (map pairWord (pairsOf nodes count own n wanted)) ≡ end
       size = ap length (sym content) ∙ length-take-le end l (omega (arith, P .few, kept, given .full))

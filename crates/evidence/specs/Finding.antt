@@ -26,7 +26,7 @@ placesOf nodes own n wanted j k = foundBy (nodeOf (getD nodes j 0)) own n (rowsI
 
 -- the pairs of `count` nodes and n places
 abbrev pub pairsOf : (nodes : List ℕ) (count own n : ℕ) (wanted : List ℕ) → List Found
-pairsOf nodes count own n wanted = foundFrom (λ k j. placesOf nodes own n wanted j k) count n 0
+pairsOf nodes count own n wanted = foundFrom (placesOf nodes own n wanted) count n 0
 
 -- node j of an accepted rule, with whole rows of wanted places
 pub record NodeReady (nodes : List ℕ) (j n : ℕ) (wanted : List ℕ) : Type 0 where

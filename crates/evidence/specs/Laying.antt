@@ -12,8 +12,8 @@ use Rattle.rows.specs.Stored.{wordsOfRow}
 use Rattle.evidence.specs.Finding.{NodeReady}
 
 -- node j's mark at place k
-unfoldable pub foundIn : (found : List ℕ) (k j : ℕ) → Bool
-foundIn found k j = bitOf (getD found (j * wordsOfRow + k / wordMarks) 0) (k % wordMarks)
+unfoldable pub foundIn : (found : List ℕ) (j k : ℕ) → Bool
+foundIn found j k = bitOf (getD found (j * wordsOfRow + k / wordMarks) 0) (k % wordMarks)
 
 -- space for all the pairs of one more place
 pub record PlaceReady (count k : ℕ) (found : List ℕ) (from : ℕ) (pairs : List ℕ) : Type 0 where
@@ -25,7 +25,7 @@ pub record PlaceReady (count k : ℕ) (found : List ℕ) (from : ℕ) (pairs : L
 
 -- those of place k stand behind the first `from`, which are kept; what is lent past the full size is as it was
 pub record PlaceLaid (count k : ℕ) (found : List ℕ) (from : ℕ) (entry : List ℕ) (end : ℕ) (exit : List ℕ) : Type 0 where
-  pub laid : take end exit ≡ take from entry ++ map pairWord (foundAt (foundIn found) k count 0)
+  pub laid : take end exit ≡ take from entry ++ map pairWord (foundAt (foundIn found) count 0 k)
   pub few : end ≤ from + count
   pub past : drop maxPairs exit ≡ drop maxPairs entry
 

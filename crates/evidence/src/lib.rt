@@ -4,8 +4,8 @@ pub mod accepted;
 pub mod found;
 pub mod pairs;
 
-ghost use Rattle.definitions.specs.Tables.{ruleOf};
-ghost use Rattle.definitions.specs.Recordings.{recordingOf};
+ghost use Rattle.rules.specs.Headings.{ruleIn};
+ghost use Rattle.recordings.specs.Heading.{recordingIn};
 ghost use Rattle.evidence.specs.Answers.{EvidenceIs};
 use accepted::evidence_accepted;
 use judges::local::local_refusal;
@@ -26,26 +26,16 @@ pub enum Explanation {
 
 // "the readings .. that decide the weak or the strong verdict, as chosen": 13 leaves the lent pairs alone, another refusal zeroes them.
 pub fn evidence(
-    controller: usize,
-    count: usize,
+    rule: RuleHeading,
     nodes: &[u32],
-    controllers: usize,
-    states_count: usize,
+    recording: RecordingHeading,
     masks: &[u32],
     states: &[u64],
     weak: bool,
     pairs: &mut [u32],
 ) -> Explanation
-    ensures { λ r. ⌜ EvidenceIs (ruleOf controller count (now (nodes .entry))) (recordingOf controllers «states_count» (now (masks .entry)) (now (states .entry))) weak (now (pairs .entry)) r (now (pairs .exit)) ⌝ }
+    ensures { λ r. ⌜ EvidenceIs (ruleIn rule (now (nodes .entry))) (recordingIn recording (now (masks .entry)) (now (states .entry))) weak (now (pairs .entry)) r (now (pairs .exit)) ⌝ }
 {
-    let rule = RuleHeading {
-        controller: controller,
-        count: count,
-    };
-    let recording = RecordingHeading {
-        controllers: controllers,
-        count: states_count,
-    };
     let short = pick(
         pairs.len() < Limits::PAIRS,
         Refusal::LENT_SHORT,
@@ -57,7 +47,7 @@ pub fn evidence(
         clear_u32(pairs, 0, zeroed);
         return Explanation::Refused(refusal);
     }
-    let trace = local_trace(controller, recording, masks, states);
+    let trace = local_trace(rule.controller, recording, masks, states);
     let explained = evidence_accepted(rule, nodes, trace, weak, pairs);
     Explanation::Pairs(explained.count)
 }

@@ -16,7 +16,7 @@ use rules::limits::Limits;
 // Whether node j is found at place k, as a number.
 fn mark_of(found: &[u64], j: usize, k: usize) -> usize
     requires { ⌜ (j * wordsOfRow + wordsOfRow ≤ length (now found)) × (k < maxStates) ⌝ }
-    ensures { λ r. ⌜ r ≡ bit (foundIn (now (found .entry)) k j) ⌝ }
+    ensures { λ r. ⌜ r ≡ bit (foundIn (now (found .entry)) j k) ⌝ }
 {
     let word = found[j * Row::WORDS + k / WORD_MARKS];
     ((word >> (k % WORD_MARKS)) % 2) as usize

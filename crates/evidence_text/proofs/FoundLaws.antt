@@ -34,8 +34,8 @@ use Rattle.projection.proofs.StateLaws.{state-low}
 use Rattle.evidence_text.proofs.LineLaws.{line-length}
 
 -- what holds of each pair holds of the number that it is in lent space
-each-number : (P : ℕ → ℕ → Type 0) (fs : List Found) → Each (λ k j. j < maxRuleNodes) fs → Each P fs → (i : ℕ) → i < length fs →
-    P (getD (map pairWord fs) i 0 / maxRuleNodes) (getD (map pairWord fs) i 0 % maxRuleNodes)
+each-number : (P : ℕ → ℕ → Type 0) (fs : List Found) → Each (λ j k. j < maxRuleNodes) fs → Each P fs → (i : ℕ) → i < length fs →
+    P (getD (map pairWord fs) i 0 % maxRuleNodes) (getD (map pairWord fs) i 0 / maxRuleNodes)
 each-number P [] few each i h = absurd (omega arith)
 each-number P (g ∷ gs) few each zero h =
     let low : g .atomNode < maxRuleNodes = few .0 in
@@ -95,7 +95,7 @@ module _ (r : Rule) (R : Recording) (good : Accepted r R) (rest : List ℕ) wher
         runs .fewStates,
       )
 
-  module _ (k j : ℕ) (is : AtomAt ns (length trace) k j) where
+  module _ (j k : ℕ) (is : AtomAt ns (length trace) j k) where
     node-counted : j < r .count
     node-counted = omega (arith, is .node, rule-length r (good .rule))
 
@@ -128,7 +128,7 @@ module _ (r : Rule) (R : Recording) (good : Accepted r R) (rest : List ℕ) wher
         (omega (arith, node-counted, rule-few r (good .rule))))
 
   -- a line for each pair that is found, from their numbers
-  lines-are : (fs : List Found) → Each (λ k j. j < maxRuleNodes) fs → Each (AtomAt ns (length trace)) fs →
+  lines-are : (fs : List Found) → Each (λ j k. j < maxRuleNodes) fs → Each (AtomAt ns (length trace)) fs →
       foundLines R c ns fs ≡ pairsIn c (r .nodes) N (R .states) places (map pairWord fs)
   lines-are [] few each = refl
   lines-are (f ∷ fs) few each =
@@ -136,7 +136,7 @@ module _ (r : Rule) (R : Recording) (good : Accepted r R) (rest : List ℕ) wher
       let k : (f .place * maxRuleNodes + f .atomNode) / maxRuleNodes ≡ f .place = omega arith in
       let j : (f .place * maxRuleNodes + f .atomNode) % maxRuleNodes ≡ f .atomNode = omega arith in
       rw (k, j)
-      (ap₂ (λ (x y : List ℕ). x ++ y) (found-line (f .place) (f .atomNode) (each .0) f refl refl) (lines-are fs (few .1) (each .1)))
+      (ap₂ (λ (x y : List ℕ). x ++ y) (found-line (f .atomNode) (f .place) (each .0) f refl refl) (lines-are fs (few .1) (each .1)))
 
   lines-short : (fs : List Found) → Each (AtomAt ns (length trace)) fs → length (foundLines R c ns fs) ≤ length fs * maxPairBytes
   lines-short [] each = omega arith
@@ -144,7 +144,7 @@ module _ (r : Rule) (R : Recording) (good : Accepted r R) (rest : List ℕ) wher
       omega (
         arith,
         length-append (foundText R c ns f) (foundLines R c ns fs),
-        line-short (f .place) (f .atomNode) (each .0) f refl refl,
+        line-short (f .atomNode) (f .place) (each .0) f refl refl,
         lines-short fs (each .1),
       )
 
@@ -164,11 +164,11 @@ module _ (r : Rule) (R : Recording) (good : Accepted r R) (rest : List ℕ) wher
     pub evidence-ready : (i : ℕ) → i < length fs → PairReady c (r .nodes) N (R .states) places (getD (map pairWord fs) i 0)
     evidence-ready i h =
         let w : ℕ = getD (map pairWord fs) i 0 in
-        let is : AtomAt ns (length trace) (w / maxRuleNodes) (w % maxRuleNodes) = each-number (AtomAt ns (length trace)) fs (pairs-low r R good weak) atoms i h in
+        let is : AtomAt ns (length trace) (w % maxRuleNodes) (w / maxRuleNodes) = each-number (AtomAt ns (length trace)) fs (pairs-low r R good weak) atoms i h in
         record {
           recording = runs;
-          node = omega (arith, node-counted (w / maxRuleNodes) (w % maxRuleNodes) is, enough);
-          atom = atom-low (w / maxRuleNodes) (w % maxRuleNodes) is;
+          node = omega (arith, node-counted (w % maxRuleNodes) (w / maxRuleNodes) is, enough);
+          atom = atom-low (w % maxRuleNodes) (w / maxRuleNodes) is;
           place = omega (arith, is .place, length-append trace rest);
           few = omega (arith, is .place, places-few);
         }

@@ -17,7 +17,7 @@ maxPairBytes = 40
 
 -- the pair that a number in lent space is
 abbrev pub pairOf : ℕ → Found
-pairOf w = found (w / maxRuleNodes) (w % maxRuleNodes)
+pairOf w = found (w % maxRuleNodes) (w / maxRuleNodes)
 
 -- what is said of a pair, printed
 abbrev pub lineText : Line → List ℕ

@@ -83,8 +83,6 @@ module _ (rule recording nodes masks states : List ℕ) (room : Room nodes masks
           statesLeft = rw number-is (left-held maxStates (f .number) (f .states) ((scanRecording recording) .states) states states′ states″ (s .low) (s .statesHeld) (c .statesCleared));
         }
 
-pub ruleset whole-laws = (needs, join-clears, join-done)
-
 -- ---- `join`
 module _ (rule recording nodes masks states : List ℕ) (short : Bool) (is : short ≡ isShort nodes masks states) (e : short ≡ true) where
   short-number : readJointNumber rule recording nodes masks states ≡ lentShort
@@ -118,8 +116,6 @@ join-room nodes masks states short is e =
       statesRoom = ltb-false (length states) maxStates (a .1);
     }
 
-pub ruleset join-laws = (needs, join-short, join-room)
-
 -- ---- `read_joint`
 module _ (x y : RefT (List ℕ)) (nodes masks states : List ℕ) (f : Found) (nodes′ masks′ states′ : List ℕ) (j : Joined (x .now) (y .now) nodes masks states f nodes′ masks′ states′) where
   handed : (r : RefT (List ℕ)) → IsPart (pick (f .«of_rule») x y) r (f .from) (f .len) → ReadJoint x y nodes masks states r nodes′ masks′ states′ (headingOf f)
@@ -151,5 +147,3 @@ module _ (x y : RefT (List ℕ)) (nodes masks states : List ℕ) (f : Found) (no
     pub recording-handed : (r : RefT (List ℕ)) → IsPart y r (f .from) (f .len) → ReadJoint x y nodes masks states r nodes′ masks′ states′ (headingOf f)
     unfolding pick
     recording-handed r p = handed r (rw z p)
-
-pub ruleset read-laws = (needs, rule-inside, rule-handed, recording-inside, recording-handed)

@@ -7,7 +7,6 @@ use native.Mathlib.Omega.{arith}
 use lib.ListN.{length, take, drop, length-drop}
 use mir.Val.{Fits}
 use mir.Syntax.{w32}
-use borrow.Author.Needs.{needs}
 use borrow.Author.Tests.{ne-eqb, lt-ltb, le-ltb}
 use Rattle.definitions.specs.Limits.{noController, maxRuleNodes, maxControllers, maxStates}
 use Rattle.definitions.specs.Bounded.{pick}
@@ -195,5 +194,3 @@ module _ (rule recording nodes masks states nodes′ : List ℕ) (u : ruled.Scan
 -- the node count of a rule is a word
 pub count-fits : (rule nodes nodes′ : List ℕ) (u : ruled.Scanned) → RuleScanned rule nodes u nodes′ → Fits w32 (u .count)
 count-fits rule nodes nodes′ u s = omega (arith, s .few)
-
-pub ruleset scan-laws = (needs, count-fits, rule-refused, recording-refused, joining-refused, joint-accepted)

@@ -42,7 +42,7 @@ countBy e = getD ((explained e) .values) 0 0
 -- that R's has
 abbrev pub BitsAt : (r : Rule) (R S : Recording) (count : ℕ) (pairs : List ℕ) → Type 0
 BitsAt r R S count pairs = (i : ℕ) → i < count →
-    SameBit (nodesIn (r .count) (r .nodes)) (localTrace R (r .controller)) (localTrace S (r .controller)) (getD pairs i 0 / maxRuleNodes) (getD pairs i 0 % maxRuleNodes)
+    SameBit (nodesIn (r .count) (r .nodes)) (localTrace R (r .controller)) (localTrace S (r .controller)) (getD pairs i 0 % maxRuleNodes) (getD pairs i 0 / maxRuleNodes)
 
 -- S has the own mask and the local length of R, and "those bits"
 pub record SameAt (r : Rule) (R S : Recording) (count : ℕ) (pairs : List ℕ) : Type 0 where

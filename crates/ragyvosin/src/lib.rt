@@ -28,6 +28,7 @@ use recordings::heading::RecordingHeading;
 pub use rewriting::Rewriting;
 pub use rule_reader::RuleRead;
 pub use rule_writer::RuleWritten;
+use rules::headings::RuleHeading;
 use rules::headings::TableHeading;
 
 // "read a rule (controller, count, nodes)"
@@ -135,17 +136,15 @@ pub fn evidence(
     ensures { λ r. ⌜ explained r ≡ evidenceAnswer (ruleOf controller count (now (nodes .entry))) (recordingOf controllers «states_count» (now (masks .entry)) (now (states .entry))) weak (now (pairs .entry)) ⌝ }
     ensures { λ _. ⌜ now (pairs .exit) ≡ evidencePairs (ruleOf controller count (now (nodes .entry))) (recordingOf controllers «states_count» (now (masks .entry)) (now (states .entry))) weak (now (pairs .entry)) ⌝ }
 {
-    evidence::evidence(
-        controller,
-        count,
-        nodes,
-        controllers,
-        states_count,
-        masks,
-        states,
-        weak,
-        pairs,
-    )
+    let rule = RuleHeading {
+        controller: controller,
+        count: count,
+    };
+    let recording = RecordingHeading {
+        controllers: controllers,
+        count: states_count,
+    };
+    evidence::evidence(rule, nodes, recording, masks, states, weak, pairs)
 }
 
 // "rewrite plain or short (rule and own mask, any 32 bits)": "node count and both tops", and the table

@@ -6,7 +6,6 @@ use native.Mathlib.Omega.{arith}
 use lib.Bits.{bitOr}
 use lib.Dec.{ltb}
 use lib.ListN.{length, take, drop, set, length-drop}
-use borrow.Author.Needs.{needs}
 use borrow.Author.Tests.{ltb-true, ltb-false}
 use mir.Syntax.{w64}
 use mir.Val.{Fits}
@@ -82,8 +81,6 @@ module _ (C start : ℕ) (text o o′ : List ℕ) (at seen c : ℕ) (inv : Masks
       pub masks-next : MasksLeft C start text o (set o′ c m) (at + l .next) (bitOr seen m) (c + 1)
       masks-next = record { within = omega arith; lines = lines-next _ text o o′ at c _ (inv .lines) m (at + l .next) _ mask-turn (omega arith) mask-inside }
 
-pub ruleset scan-mask-laws = (needs, masks-start, masks-done, masks-refused, mask-next-fits, masks-next)
-
 -- ---- `scan_states`
 pub record StatesLeft (C N : ℕ) (masks : List ℕ) (start : ℕ) (text o o′ : List ℕ) (at prior k : ℕ) : Type 0 where
   pub within : k ≤ N
@@ -140,5 +137,3 @@ module _ (C N : ℕ) (masks : List ℕ) (start : ℕ) (text o o′ : List ℕ) (
       -- `scan_states`, a turn: `scanStates` has one state more, and it is the prior one
       pub states-next : StatesLeft C N masks start text o (set o′ k s) (at + l .next) s (k + 1)
       states-next = record { within = omega arith; lines = lines-next _ text o o′ at k _ (inv .lines) s (at + l .next) _ state-turn (omega arith) state-inside }
-
-pub ruleset scan-state-laws = (needs, states-start, states-done, states-refused, state-next-fits, states-next)

@@ -6,7 +6,6 @@ use Prim.Native.Nat.{ℕ, _<_, _≤_}
 use native.Mathlib.Omega.{arith}
 use lib.Dec.{eqb}
 use lib.ListN.{length}
-use borrow.Author.Needs.{needs}
 use borrow.Author.Tests.{ne-eqb, lt-ltb, le-ltb, eqb-true, eqb-false}
 use Rattle.definitions.specs.Limits.{lentShort, maxControllers, maxStates}
 use Rattle.definitions.specs.Bounded.{pick}
@@ -100,5 +99,3 @@ module _ (text masks states : List ℕ) where
             statesLeft = rw read-number (left-filled (v .number) maxStates ((scanRecording text) .states) states states′ n (s .statesPast) (v .count) z (s .statesCount z)
                 (laid-begins (v .count) ((scanRecording text) .states) states states′ (s .statesCount z) (s .statesLaid)) (rw b at q));
           }
-
-pub ruleset read-laws = (needs, masks-short, states-short, masks-kept, states-kept, read-refused, read-accepted)

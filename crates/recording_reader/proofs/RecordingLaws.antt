@@ -5,7 +5,6 @@ use Prim.Native.Nat.{ℕ, _≤_}
 use native.Mathlib.Omega.{arith}
 use lib.ListN.{length, take, drop, length-drop}
 use lib.Seq.{take-at}
-use borrow.Author.Needs.{needs}
 use borrow.Author.Tests.{eq-eqb, ne-eqb}
 use Rattle.definitions.specs.Limits.{maxControllers, maxStates}
 use Rattle.definitions.specs.Bounded.{pick}
@@ -159,5 +158,3 @@ module _ (text masks states : List ℕ) (l : Line) (is : FirstLine text l) (r : 
             statesPast =
                 laid-past maxStates (scanStates C masks′ N 0 0 (drop (owned .at) text) .words) states states′ (omega (arith, states-few .most, limits .short)) (s .words);
           }
-
-pub ruleset scan-laws = (needs, heading-refused, mask-room, masks-refused, state-room, recording-scanned)

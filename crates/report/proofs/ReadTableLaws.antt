@@ -1,4 +1,4 @@
--- Laws of reading two texts into tables, and of printing their refusal or what is judged: `judge_texts`, `judge_found`; `why_texts` and `put_found` use them too.
+-- Laws of reading two texts into tables, or printing their refusal: `read_tables`, and what its callers take of its contract.
 use mathlib.Core.Path.{_≡_, refl, ap, sym, _∙_}
 use mathlib.Core.Bool.{Bool, true, false}
 use mathlib.Core.List.{List, [], _∷_}
@@ -9,7 +9,7 @@ use lib.ListN.{length, take, drop, getD, length-take, length-drop}
 use lib.Seq.{take-at, length-take-le}
 use denote.Ref.{RefT}
 use borrow.Author.Needs.{needs}
-use borrow.Author.Tests.{ne-eqb, eq-eqb, le-ltb}
+use borrow.Author.Tests.{ne-eqb, le-ltb}
 use Rattle.definitions.specs.Tables.{ruleOf}
 use Rattle.definitions.specs.Limits.{accepted, lentShort, noController, maxInputBytes, maxRuleNodes, maxControllers, maxStates}
 use Rattle.definitions.specs.Bounded.{pick}
@@ -17,20 +17,23 @@ use Rattle.definitions.specs.RuleText.{scanRule}
 use Rattle.definitions.specs.Recordings.{controllerRefusal}
 use Rattle.definitions.specs.RecordingText.{scanRecording, Part, jointNumber, jointPart}
 use Rattle.definitions.specs.Operations.{left, readJointNumber, readJointHeading, readJointNodes, readJointMasks, readJointStates, readJointPart}
-use Rattle.definitions.specs.Program.{refusedText, bytesOf, scanned, textsOutput}
+use Rattle.definitions.specs.Program.{refusedText, bytesOf, scanned}
 use Rattle.theorems.proofs.LentSpace.{left-accepted}
 use Rattle.theorems.proofs.RefusalBounds.{pick-low}
 use Rattle.theorems.proofs.RoundTrips.{read-count, read-accepted}
+use Rattle.theorems.proofs.RuleNodes.{rule-few}
+use Rattle.theorems.proofs.RecordingLaws.{checked}
 use Rattle.theorems.proofs.ScheduleIndependence.{Accepted}
 use Rattle.printing.specs.Printing.{Printed}
 use Rattle.report.proofs.ReportLaws.{refused-length}
 use Rattle.rule_reader.proofs.ReadLaws.{rule-low}
 use Rattle.recording_reader.proofs.ScanLaws.{recording-low}
 use Rattle.joint_reading.specs.Joining.{ReadJoint}
-use Rattle.report.specs.Reporting.{reportText}
-use Rattle.report.specs.Judged.{ReportIs}
-use Rattle.report.specs.ReadTables.{TextsRoom, foundRule, foundRecording, Found}
-use Rattle.report.specs.declared.Report.{Report}
+use Rattle.report.specs.ReadTables.{HeadingLow, headingsIn, TextsRoom, ruleAt, recordingAt, RefusedTexts, AcceptedTexts, TextsRead}
+use Rattle.report.specs.declared.read.Read.{Read}
+use Rattle.report.specs.declared.read.Read.the-variants.{Refused, Tables}
+use Rattle.rules.specs.declared.headings.RuleHeading.{RuleHeading}
+use Rattle.recordings.specs.declared.heading.RecordingHeading.{RecordingHeading}
 use Rattle.report.proofs.RecordingAccepted.{TextsAccepted, texts-accepted, recording-fine, masks-count, states-count}
 
 -- ---- the number of a joint reading
@@ -46,17 +49,17 @@ part-length t from count = rw (length-take, length-drop) (omega arith)
 held : (full count : ℕ) (words entry exit : List ℕ) → length words ≡ count → exit ≡ left 0 full words entry → take count exit ≡ words
 held full count words entry exit c e = rw (e, left-accepted full words entry) (take-at words _ count c)
 
--- ---- `judge_texts`
+-- ---- `read_tables`
 module _ (x y r : RefT (List ℕ)) (nodes masks states nodes′ masks′ states′ heading text : List ℕ)
     (j : ReadJoint x y nodes masks states r nodes′ masks′ states′ heading) (room : TextsRoom (x .now) (y .now) text)
-    (nodesRoom : maxRuleNodes ≤ length nodes) (masksRoom : maxControllers ≤ length masks) (statesRoom : maxStates ≤ length states) where
+    (nodesRoom : length nodes ≡ maxRuleNodes) (masksRoom : length masks ≡ maxControllers) (statesRoom : length states ≡ maxStates) where
   abbrev R : ℕ
   R = jointNumber (x .now) (y .now)
 
   number-is : readJointNumber (x .now) (y .now) nodes masks states ≡ R
   unfolding readJointNumber pick
   number-is =
-      rw (le-ltb (length nodes) maxRuleNodes nodesRoom, le-ltb (length masks) maxControllers masksRoom, le-ltb (length states) maxStates statesRoom)
+      rw (le-ltb (length nodes) maxRuleNodes (omega arith), le-ltb (length masks) maxControllers (omega arith), le-ltb (length states) maxStates (omega arith))
 
   heading-is : heading ≡ R ∷ pick (eqb R accepted)
       ((scanRule (x .now)) .controller ∷ (scanRule (x .now)) .count ∷ (scanRecording (y .now)) .controllers ∷ (scanRecording (y .now)) .count ∷ [])
@@ -95,11 +98,11 @@ module _ (x y r : RefT (List ℕ)) (nodes masks states nodes′ masks′ states�
     refusal-room =
         omega (arith, room .textRoom, refused-length (getD heading 0 0) (r .now) (omega (arith, first-is, joint-low (x .now) (y .now))) line-fits)
 
-    -- `judge_texts`, refused: the number and the line printed are `textsOutput`
-    pub refusal-printed : (e : ℕ) (text′ : List ℕ) → Printed (refusedText (getD heading 0 0) (r .now)) text 0 e text′
-        → Printed (textsOutput (x .now) (y .now)) text 0 e text′
-    unfolding textsOutput pick
-    refusal-printed e text′ p = rw (ne-eqb R 0 (λ q. z (first-is ∙ q)), ← line-is, ← first-is) p
+    -- `read_tables`, refused: the number and the line printed are those of the joint reading
+    pub refusal-read : (e : ℕ) (text′ : List ℕ) → Printed (refusedText (getD heading 0 0) (r .now)) text 0 e text′ →
+        TextsRead (x .now) (y .now) text (Refused e) nodes′ masks′ states′ text′
+    unfolding TextsRead
+    refusal-read e text′ p = record { refused = λ n. z (first-is ∙ n); printed = rw (← line-is, ← first-is) p }
 
   -- accepted
   module _ (z : getD heading 0 0 ≡ 0) where
@@ -143,61 +146,75 @@ module _ (x y r : RefT (List ℕ)) (nodes masks states nodes′ masks′ states�
     states-held =
         held maxStates (getD heading 4 0) ((scanRecording (y .now)) .states) states states′ (states-count (y .now) (texts .recordingRead) ∙ sym states-are) (rw zero at (j .statesLeft))
 
-    pub recording-is : foundRecording heading masks′ states′ ≡ scanned (scanRecording (y .now))
+    abbrev h : RuleHeading
+    h = record { controller = getD heading 1 0; count = getD heading 2 0 }
+
+    abbrev g : RecordingHeading
+    g = record { controllers = getD heading 3 0; count = getD heading 4 0 }
+
+    recording-is : recordingAt g masks′ states′ ≡ scanned (scanRecording (y .now))
     recording-is = rw (masks-held, states-held, controllers-are, states-are)
 
-    pub rule-is : foundRule heading nodes′
-        ≡ ruleOf ((scanRule (x .now)) .controller) ((scanRule (x .now)) .count) ((scanRule (x .now)) .words)
+    rule-is : ruleAt h nodes′ ≡ ruleOf ((scanRule (x .now)) .controller) ((scanRule (x .now)) .count) ((scanRule (x .now)) .words)
     rule-is = rw (nodes-held, controller-is, count-is)
 
-    accepted-both : Accepted (foundRule heading nodes′) (foundRecording heading masks′ states′)
-    accepted-both = record {
+    -- what is read is accepted, and so within the limits
+    both : Accepted (ruleAt h nodes′) (recordingAt g masks′ states′)
+    both = record {
       rule = rw rule-is (read-accepted (x .now) (texts .ruleRead));
       recording = rw recording-is (recording-fine (y .now) (texts .recordingRead));
       controller = omega (arith, controller-is, controllers-are, texts .controller);
     }
 
-    pub tables-found : Found heading nodes′ masks′ states′
-    tables-found = record {
+    pub heading-low : HeadingLow heading
+    heading-low =
+        let R = checked (recordingAt g masks′ states′) (both .recording) in
+        record { controller = both .controller; count = rule-few (ruleAt h nodes′) (both .rule); controllers = R .fewControllers; states = R .fewStates }
+
+    -- `read_tables`, accepted: what stands in lent space is what the texts are read as
+    pub tables-read : (v : Read) → v ≡ headingsIn heading → TextsRead (x .now) (y .now) text v nodes′ masks′ states′ text
+    unfolding TextsRead
+    tables-read v e = rw e (record {
+      accepts = accepts;
       nodesThere = omega (arith, ap length nodes-held, length-take (getD heading 2 0) nodes′, count-is, read-count (x .now) (texts .ruleRead));
       masksThere = omega (arith, ap length masks-held, length-take (getD heading 3 0) masks′, controllers-are, masks-count (y .now) (texts .recordingRead));
       statesThere = omega (arith, ap length states-held, length-take (getD heading 4 0) states′, states-are, states-count (y .now) (texts .recordingRead));
-      both = accepted-both;
-    }
+      ruleIs = rule-is;
+      recordingIs = recording-is;
+      both = both;
+      unprinted = refl;
+    })
 
-    module _ (v : Report) (is : ReportIs (foundRule heading nodes′) (foundRecording heading masks′ states′) v) where
-      text-is : reportText v ≡ textsOutput (x .now) (y .now)
-      unfolding textsOutput pick
-      text-is = is .text ∙ rw (eq-eqb R 0 accepts, nodes-held, recording-is, controller-is, count-is)
+pub ruleset read-laws = (needs, refusal-room, refusal-read, heading-low, tables-read)
 
-      pub report-room : length (reportText v) ≤ length text
-      report-room = omega (arith, is .fits, room .textRoom)
+-- ---- what a caller takes of it
+module _ (rule recording text : List ℕ) (r : Read) (nodes masks states text′ : List ℕ) (t : TextsRead rule recording text r nodes masks states text′) where
+  pub texts-refused : (end : ℕ) → r ≡ Refused end → RefusedTexts rule recording text end text′
+  unfolding TextsRead
+  texts-refused end e = rw e at t
 
-      as-texts : (e : ℕ) (text′ : List ℕ) → Printed (reportText v) text 0 e text′ → Printed (textsOutput (x .now) (y .now)) text 0 e text′
-      as-texts e text′ p = rw (← text-is) p
+  module _ (h : RuleHeading) (g : RecordingHeading) (e : r ≡ Tables h g) where
+    pub texts-tables : AcceptedTexts rule recording text h g nodes masks states text′
+    unfolding TextsRead
+    texts-tables = rw e at t
 
--- the premises in the order in which each shows what the next is of
--- `judge_texts`, accepted: the report printed is `textsOutput`
-pub judged-printed : (x y r : RefT (List ℕ)) (nodes masks states nodes′ masks′ states′ heading text : List ℕ) (v : Report) (e : ℕ) (text′ : List ℕ) →
-    Printed (reportText v) text 0 e text′ → ReportIs (foundRule heading nodes′) (foundRecording heading masks′ states′) v →
-    ReadJoint x y nodes masks states r nodes′ masks′ states′ heading → TextsRoom (x .now) (y .now) text →
-    maxRuleNodes ≤ length nodes → maxControllers ≤ length masks → maxStates ≤ length states → getD heading 0 0 ≡ 0 →
-    Printed (textsOutput (x .now) (y .now)) text 0 e text′
-judged-printed x y r nodes masks states nodes′ masks′ states′ heading text v e text′ p is j room n m s z =
-    as-texts x y r nodes masks states nodes′ masks′ states′ heading text j room n m s z v is e text′ p
+    pub nodes-there : h .count ≤ length nodes
+    nodes-there = texts-tables .nodesThere
 
-pub ruleset read-laws = (needs, refusal-room, refusal-printed, tables-found, report-room, judged-printed)
+    pub masks-there : g .controllers ≤ length masks
+    masks-there = texts-tables .masksThere
 
--- ---- `judge_found`
-module _ (heading nodes masks states : List ℕ) (f : Found heading nodes masks states) where
-  -- `judge_found`, these three: a part that is taken is as long as the heading says
-  pub nodes-counted : getD heading 2 0 ≡ length (take (getD heading 2 0) nodes)
-  nodes-counted = sym (length-take-le (getD heading 2 0) nodes (f .nodesThere))
+    pub states-there : g .count ≤ length states
+    states-there = texts-tables .statesThere
 
-  pub masks-counted : getD heading 3 0 ≡ length (take (getD heading 3 0) masks)
-  masks-counted = sym (length-take-le (getD heading 3 0) masks (f .masksThere))
+    -- a part that is taken is as long as the heading says
+    pub nodes-counted : h .count ≡ length (take (h .count) nodes)
+    nodes-counted = sym (length-take-le (h .count) nodes (texts-tables .nodesThere))
 
-  pub states-counted : getD heading 4 0 ≡ length (take (getD heading 4 0) states)
-  states-counted = sym (length-take-le (getD heading 4 0) states (f .statesThere))
+    pub masks-counted : g .controllers ≡ length (take (g .controllers) masks)
+    masks-counted = sym (length-take-le (g .controllers) masks (texts-tables .masksThere))
 
-pub ruleset found-laws = (needs, nodes-counted, masks-counted, states-counted)
+    pub states-counted : g .count ≡ length (take (g .count) states)
+    states-counted = sym (length-take-le (g .count) states (texts-tables .statesThere))
+
+pub ruleset taken-laws = (needs, nodes-there, masks-there, states-there, nodes-counted, masks-counted, states-counted)

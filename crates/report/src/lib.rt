@@ -1,4 +1,6 @@
-// What the program `judge` prints, line by line: of a refusal, and of an accepted rule and recording. `tables`: these judged in each way.
+// What the program `judge` prints, line by line: of a refusal, and of an accepted rule and recording. `read`: both texts as tables, or their refusal printed;
+// `tables`: accepted ones judged in each way.
+pub mod read;
 pub mod tables;
 
 ghost use Prim.Native.Nat.{_+_, _≤_};

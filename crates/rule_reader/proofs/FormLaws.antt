@@ -6,7 +6,6 @@ use Prim.Native.Nat.{ℕ, _+_, _<_, _≤_}
 use native.Mathlib.Omega.{arith}
 use lib.Dec.{eqb}
 use lib.ListN.{length, take, drop}
-use borrow.Author.Needs.{needs}
 use borrow.Author.Tests.{lt-ltb, le-ltb, ne-eqb, ltb-false}
 use mir.Syntax.{w16}
 use mir.Val.{Fits}
@@ -125,8 +124,6 @@ module _ (k : ℕ) (s : List ℕ) (uses : ℕ) (us : uses ≡ operands (kindOf k
       ∙ (ap (λ (y : ℕ). formed (node (kindOf k) y b)) (q .first)
       ∙ (ap (λ (y : ℕ). formed (node (kindOf k) (cap (q .value .first)) y)) (q .second) ∙ known-is (kindOf k) s (q .value) (q .is)))
 
-pub ruleset known-laws = (needs, first-fits, second-fits, known-malformed, known-read)
-
 -- ---- `unknown_form`
 module _ (s : List ℕ) (i : ℕ) (is : i ≡ before tab s) where
   word-length : length (upTo tab s) ≡ i
@@ -183,5 +180,3 @@ module _ (s : List ℕ) (i k : ℕ) (is : i ≡ before tab s) (ks : k ≡ kindNu
 
 pub known-low : (k : ℕ) (u : Bool) → u ≡ isUnknown (kindOf k) → u ≡ false → k ≤ 9
 known-low k u e f = ltb-false 9 k (unknown-of k ∙ rw (← e) f)
-
-pub ruleset form-laws = (part-laws, known-low, line-unknown, line-known)

@@ -6,7 +6,6 @@ use Prim.Native.Nat.{ℕ, zero, suc, _+_, _-_, _^_, _<_, _≤_}
 use native.Mathlib.Omega.{arith}
 use lib.Dec.{ltb}
 use lib.ListN.{length, take, drop, set, length-drop}
-use borrow.Author.Needs.{needs}
 use borrow.Author.Tests.{ltb-true, ltb-false}
 use mir.Syntax.{w64}
 use mir.Val.{Fits}
@@ -108,5 +107,3 @@ module _ (count start : ℕ) (text o o′ : List ℕ) (at i : ℕ) (inv : NodesL
       -- `scan_nodes`, a turn: `scanNodes` has one word more, and goes on at the next line
       pub nodes-next : NodesLeft count start text o (set o′ i w) (at + l .next) (i + 1)
       nodes-next = record { within = omega arith; lines = lines-next _ text o o′ at i _ (inv .lines) w (at + l .next) _ step (omega arith) node-inside }
-
-pub ruleset loop-laws = (needs, nodes-start, nodes-done, nodes-refused, node-next-fits, nodes-next)

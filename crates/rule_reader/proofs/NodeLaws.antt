@@ -20,7 +20,7 @@ use Rattle.theorems.proofs.NextLines.{next-malformed, next-denied, next-read, n
 use Rattle.fields.specs.Fields.{largest, cap}
 use Rattle.lines.specs.Reading.{endRefusal}
 use Rattle.fields.proofs.FieldLaws.{cap-over, cap-within}
-use Rattle.lines.proofs.NextLaws.{line-part, line-part-laws, next-unread, end-fine}
+use Rattle.lines.proofs.NextLaws.{line-part, next-unread, end-fine}
 use Rattle.rules.specs.Meaning.{meaning, Wordable}
 use Rattle.rules.specs.declared.node.Node.{Node}
 use Rattle.rules.proofs.KindLaws.{unknown-of}
@@ -143,8 +143,6 @@ module _ (i : ℕ) (t : List ℕ) (n : ℕ) (ns : n ≡ endRefusal ruleLines rul
             ap Word (ws ∙ ap nodeWord exactly)
             ∙ is-read (nodeLine i t) (form .value) (restOf t)
             (next-read ruleLines ruleForm nodeForm (nodeRefusal false i) t closed (form .value) (form .read) (the-refusal ∙ z))
-
-pub ruleset node-laws = (line-part-laws, node-unread, node-malformed, node-refused, node-wordable, node-read)
 
 -- ---- what a caller has of an answer
 -- the line of a node was read as the word w

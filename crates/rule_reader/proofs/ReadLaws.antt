@@ -6,7 +6,6 @@ use Prim.Native.Nat.{ℕ, _<_, _≤_}
 use native.Mathlib.Omega.{arith}
 use lib.Dec.{eqb}
 use lib.ListN.{length, drop, length-drop}
-use borrow.Author.Needs.{needs}
 use borrow.Author.Tests.{lt-ltb, le-ltb, eqb-true, eqb-false}
 use Rattle.definitions.specs.Limits.{maxRuleNodes, ruleForm, ruleLines, lentShort, noController}
 use Rattle.definitions.specs.Bounded.{pick}
@@ -107,8 +106,6 @@ module _ (t o : List ℕ) (l : Line) (is : FirstLine t l) (r : HeadingRead) (rs 
         nodesPast = laid-past maxRuleNodes (scanNodes n 0 (drop (l .next) t) .words) o o′ (omega (arith, counted .most, head .few)) (m .words);
       }
 
-pub ruleset scan-laws = (needs, rule-unheaded, rule-room, rule-scanned)
-
 -- ---- `read_rule`
 module _ (t o : List ℕ) where
   number-short : length o < maxRuleNodes → readRuleNumber t o ≡ lentShort
@@ -163,5 +160,3 @@ module _ (t o : List ℕ) where
             nodes = rw is (left-filled (r .number) maxRuleNodes ((scanRule t) .words) o o′ o″ (s .nodesPast) (r .count) y (s .nodesCount y)
                 (laid-begins (r .count) ((scanRule t) .words) o o′ (s .nodesCount y) (s .nodesLaid)) (rw (all-kept z) at c));
           }
-
-pub ruleset read-laws = (needs, read-short, read-fits, read-refused, read-accepted)

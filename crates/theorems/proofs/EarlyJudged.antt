@@ -158,7 +158,7 @@ module _ (weak : Bool) (r : Rule) (A B : Recording) (goodA : Accepted r A) (good
         mask = sym ((begins-for c A B b) .mask);
         long = G .longer;
         bits = all-from (SameBit ns ws (localTrace B c)) (decides (maskOf A c) ws ns wanted) (length ns) (length ws)
-            (λ k j l m e.
+            (λ j k m l e.
             let (read, w) = both-true (bitOf (maskOf A c) ((nodeAt ns j) .first) || ltb (suc k) (length ws)) (readFrom wanted j true k || readFrom wanted j false k)
             ((both-true (isAtom ((nodeAt ns j) .kind)) ((bitOf (maskOf A c) ((nodeAt ns j) .first) || ltb (suc k) (length ws)) && (readFrom wanted j true k || readFrom wanted j false k)) e) .1) in
             by-test (bitOf (maskOf A c) ((nodeAt ns j) .first))

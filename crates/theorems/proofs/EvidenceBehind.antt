@@ -24,12 +24,12 @@ pub data Listed (m i : ℕ) : List Found → Type 0 where
   later : {f : Found} {fs : List Found} → Listed m i fs → Listed m i (f ∷ fs)
 
 -- each of them is
-each-listed : (fs : List Found) → Each (λ i m. Listed m i fs) fs
+each-listed : (fs : List Found) → Each (λ m i. Listed m i fs) fs
 each-listed [] = tt
-each-listed (f ∷ fs) = (here refl refl, each-so (λ i m. Listed m i fs) (λ i m. Listed m i (f ∷ fs)) (λ i m l. later l) fs (each-listed fs))
+each-listed (f ∷ fs) = (here refl refl, each-so (λ m i. Listed m i fs) (λ m i. Listed m i (f ∷ fs)) (λ m i l. later l) fs (each-listed fs))
 
 -- what holds of each of them holds of one that is listed
-listed-each : (P : ℕ → ℕ → Type 0) (m i : ℕ) (fs : List Found) → Each P fs → Listed m i fs → P i m
+listed-each : (P : ℕ → ℕ → Type 0) (m i : ℕ) (fs : List Found) → Each P fs → Listed m i fs → P m i
 listed-each P m i (f ∷ fs) h (here a b) = rw (a, b) at (h .0)
 listed-each P m i (f ∷ fs) h (later l) = listed-each P m i fs (h .1) l
 
@@ -47,14 +47,14 @@ atom-is End e = absurd (true≢false (sym e))
 atom-is Unknown e = absurd (true≢false (sym e))
 
 module _ (mask : ℕ) (places : List ℕ) (ns : List Node) (weak : Bool) (r : RuleNodes 0 ns) where
-  abbrev adds : (i m : ℕ) → Bool
-  adds i m = decides mask places ns (wantedRows (local mask places) ns weak) i m
+  abbrev adds : (m i : ℕ) → Bool
+  adds m i = decides mask places ns (wantedRows (local mask places) ns weak) m i
 
   abbrev marks : (m i : ℕ) → Bool → Bool
   marks m i d = readFrom (wantedRows (local mask places) ns weak) m d i
 
-  decided-behind : (i m : ℕ) → adds i m ≡ true → Behind mask places ns weak m i
-  decided-behind i m e =
+  decided-behind : (m i : ℕ) → adds m i ≡ true → Behind mask places ns weak m i
+  decided-behind m i e =
       let a : ℕ = (nodeAt ns m) .first in
       let (x, y) = both-true (isAtom ((nodeAt ns m) .kind)) _ e in
       let (u, v) = both-true (bitOf mask a || ltb (suc i) (length places)) (marks m i true || marks m i false) y in
@@ -63,8 +63,8 @@ module _ (mask : ℕ) (places : List ℕ) (ns : List Node) (weak : Bool) (r : Ru
       = λ d w. record { readAs = d; reached = wanted-reached (local mask places) ns weak r m i d w; ofAtom = atom-is ((nodeAt ns m) .kind) x; foreignEarly = early } in
       by-test (marks m i true) (made true) (λ z. made false (rw z at v))
 
-  behind-decided : (i m : ℕ) → Behind mask places ns weak m i → adds i m ≡ true
-  behind-decided i m B =
+  behind-decided : (m i : ℕ) → Behind mask places ns weak m i → adds m i ≡ true
+  behind-decided m i B =
       let a : ℕ = (nodeAt ns m) .first in
       let w : (marks m i true || marks m i false) ≡ true
       = either-yes (marks m i) (B .readAs) (reached-wanted (local mask places) ns weak r m i (B .readAs) (B .reached)) in
@@ -75,14 +75,14 @@ module _ (mask : ℕ) (places : List ℕ) (ns : List Node) (weak : Bool) (r : Ru
   pub listed-behind : (m i : ℕ) → Listed m i (evidence mask places ns weak) → Behind mask places ns weak m i
   unfolding evidence
   listed-behind m i l =
-      listed-each (λ i m. Behind mask places ns weak m i) m i (evidence mask places ns weak)
-      (all-from (λ i m. Behind mask places ns weak m i) adds (length ns) (length places) (λ i m a b e. decided-behind i m e) (length places) 0 (omega arith)) l
+      listed-each (λ m i. Behind mask places ns weak m i) m i (evidence mask places ns weak)
+      (all-from (λ m i. Behind mask places ns weak m i) adds (length ns) (length places) (λ m i a b e. decided-behind m i e) (length places) 0 (omega arith)) l
 
   pub behind-listed : (m i : ℕ) → Behind mask places ns weak m i → Listed m i (evidence mask places ns weak)
   unfolding evidence
   behind-listed m i B =
       let W : Wanted (local mask places) ns weak r m i (B .readAs) = come (local mask places) ns weak r (B .reached) in
-      each-from (λ i m. Listed m i (evidence mask places ns weak)) adds m i (behind-decided i m B) (length ns) (W .inTable)
+      each-from (λ m i. Listed m i (evidence mask places ns weak)) adds m i (behind-decided m i B) (length ns) (W .inTable)
       (length places) 0 (omega arith) (omega (arith, W .inTrace)) (each-listed (evidence mask places ns weak))
 
 -- For the nodes of an accepted rule, on every local trace and for either verdict: a pair is in the evidence exactly where it is an atom's, which the

@@ -91,9 +91,9 @@ module _ (r : Rule) (R : Recording) (good : Accepted r R) (weak : Bool) where
         few-pairs (length (places r R)) (length (ruleNodes r)) places-few nodes-few,
       )
 
-  pub pairs-low : Each (λ k j. j < maxRuleNodes) (evidenceOf r R weak)
+  pub pairs-low : Each (λ j k. j < maxRuleNodes) (evidenceOf r R weak)
   pairs-low =
-      each-so (AtomAt (ruleNodes r) (length (places r R))) (λ k j. j < maxRuleNodes) (λ k j a. omega (arith, a .node, nodes-few)) (evidenceOf r R weak)
+      each-so (AtomAt (ruleNodes r) (length (places r R))) (λ j k. j < maxRuleNodes) (λ j k a. omega (arith, a .node, nodes-few)) (evidenceOf r R weak)
       (evidence-atoms (maskOf R (r .controller)) (places r R) (ruleNodes r) weak)
 
   -- "Every local trace of the same length and own mask with those bits must get the same verdict"

@@ -16,10 +16,10 @@ use Rattle.definitions.specs.Readings.{local}
 use Rattle.definitions.specs.Evidence.{wantedRows, Found, found, decides, foundAt, foundFrom, evidence, pairWord}
 use Rattle.theorems.proofs.Choice.{by-test, both-true}
 
--- P of each place and node
+-- P of each node and place
 abbrev pub Each : (ℕ → ℕ → Type 0) → List Found → Type 0
 Each P [] = Unit {0}
-Each P (g ∷ gs) = P (g .place) (g .atomNode) × Each P gs
+Each P (g ∷ gs) = P (g .atomNode) (g .place) × Each P gs
 
 module _ (P : ℕ → ℕ → Type 0) where
   each-split : (xs ys : List Found) → Each P (xs ++ ys) → Each P xs × Each P ys
@@ -31,8 +31,8 @@ module _ (P : ℕ → ℕ → Type 0) where
   each-join (x ∷ xs) ys h g = (h .0, each-join xs ys (h .1) g)
 
   -- of the numbers that they are in lent space
-  pub each-word : (fs : List Found) → Each (λ k j. j < maxRuleNodes) fs →
-      ((i : ℕ) → i < length fs → P (getD (map pairWord fs) i 0 / maxRuleNodes) (getD (map pairWord fs) i 0 % maxRuleNodes)) → Each P fs
+  pub each-word : (fs : List Found) → Each (λ j k. j < maxRuleNodes) fs →
+      ((i : ℕ) → i < length fs → P (getD (map pairWord fs) i 0 % maxRuleNodes) (getD (map pairWord fs) i 0 / maxRuleNodes)) → Each P fs
   each-word [] few h = tt
   each-word (g ∷ gs) few h =
       let low : g .atomNode < maxRuleNodes = few .0 in
@@ -42,43 +42,43 @@ module _ (P : ℕ → ℕ → Type 0) where
 
   module _ (f : ℕ → ℕ → Bool) where
     -- what holds of each of them holds of one that is found
-    module _ (j k : ℕ) (is : f k j ≡ true) where
-      each-at : (n x : ℕ) → x ≤ j → j < x + n → Each P (foundAt f k n x) → P k j
+    module _ (j k : ℕ) (is : f j k ≡ true) where
+      each-at : (n x : ℕ) → x ≤ j → j < x + n → Each P (foundAt f n x k) → P j k
       unfolding pick
       each-at zero x a b h = absurd (omega arith)
       each-at (suc n) x a b h =
-          go (ℕ-discrete x j) (each-split (pick (f k x) (found k x ∷ []) []) (foundAt f k n (suc x)) h) (λ c. each-at n (suc x) c (omega arith))
+          go (ℕ-discrete x j) (each-split (pick (f x k) (found x k ∷ []) []) (foundAt f n (suc x) k) h) (λ c. each-at n (suc x) c (omega arith))
         where
-          go : Dec (x ≡ j) → (Each P (pick (f k x) (found k x ∷ []) []) × Each P (foundAt f k n (suc x))) →
-              (suc x ≤ j → Each P (foundAt f k n (suc x)) → P k j) → P k j
+          go : Dec (x ≡ j) → (Each P (pick (f x k) (found x k ∷ []) []) × Each P (foundAt f n (suc x) k)) →
+              (suc x ≤ j → Each P (foundAt f n (suc x) k) → P j k) → P j k
           go (yes q) (here, rest) later = (rw (q, is) at here) .0
           go (no q) (here, rest) later = later (omega arith) rest
 
-      pub each-from : (count : ℕ) → j < count → (n x : ℕ) → x ≤ k → k < x + n → Each P (foundFrom f count n x) → P k j
+      pub each-from : (count : ℕ) → j < count → (n x : ℕ) → x ≤ k → k < x + n → Each P (foundFrom f count n x) → P j k
       each-from count l zero x a b h = absurd (omega arith)
       each-from count l (suc n) x a b h =
-          go (ℕ-discrete x k) (each-split (foundAt f x count 0) (foundFrom f count n (suc x)) h) (λ c. each-from count l n (suc x) c (omega arith))
+          go (ℕ-discrete x k) (each-split (foundAt f count 0 x) (foundFrom f count n (suc x)) h) (λ c. each-from count l n (suc x) c (omega arith))
         where
-          go : Dec (x ≡ k) → (Each P (foundAt f x count 0) × Each P (foundFrom f count n (suc x))) →
-              (suc x ≤ k → Each P (foundFrom f count n (suc x)) → P k j) → P k j
+          go : Dec (x ≡ k) → (Each P (foundAt f count 0 x) × Each P (foundFrom f count n (suc x))) →
+              (suc x ≤ k → Each P (foundFrom f count n (suc x)) → P j k) → P j k
           go (yes q) (here, rest) later = each-at count 0 (omega arith) (omega arith) (rw q at here)
           go (no q) (here, rest) later = later (omega arith) rest
 
     -- and what holds of every one that is found holds of each of them
-    module _ (count L : ℕ) (holds : (k j : ℕ) → k < L → j < count → f k j ≡ true → P k j) where
-      all-at : (k : ℕ) → k < L → (n j : ℕ) → j + n ≤ count → Each P (foundAt f k n j)
+    module _ (count L : ℕ) (holds : (j k : ℕ) → j < count → k < L → f j k ≡ true → P j k) where
+      all-at : (k : ℕ) → k < L → (n j : ℕ) → j + n ≤ count → Each P (foundAt f n j k)
       unfolding pick
       all-at k l zero j h = tt
-      all-at k l (suc n) j h = go (f k j) refl (all-at k l n (suc j) (omega arith))
+      all-at k l (suc n) j h = go (f j k) refl (all-at k l n (suc j) (omega arith))
         where
-          go : (c : Bool) → f k j ≡ c → Each P (foundAt f k n (suc j)) → Each P (pick c (found k j ∷ []) [] ++ foundAt f k n (suc j))
-          go true e rest = (holds k j l (omega arith) e, rest)
+          go : (c : Bool) → f j k ≡ c → Each P (foundAt f n (suc j) k) → Each P (pick c (found j k ∷ []) [] ++ foundAt f n (suc j) k)
+          go true e rest = (holds j k (omega arith) l e, rest)
           go false e rest = rest
 
       pub all-from : (n k : ℕ) → k + n ≤ L → Each P (foundFrom f count n k)
       all-from zero k h = tt
       all-from (suc n) k h =
-          each-join (foundAt f k count 0) (foundFrom f count n (suc k)) (all-at k (omega arith) count 0 (omega arith)) (all-from n (suc k) (omega arith))
+          each-join (foundAt f count 0 k) (foundFrom f count n (suc k)) (all-at k (omega arith) count 0 (omega arith)) (all-from n (suc k) (omega arith))
 
 -- place k, node j comes no earlier than place x, node y
 abbrev pub After : ℕ → ℕ → ℕ → ℕ → Type 0
@@ -101,28 +101,28 @@ after-more x y k j h = by-test (ltb x k) (λ z. rw z)
     (λ z. let (a, b) = both-true (eqb x k) (leb y j) (rw z at h) in rw (a, le-leb y (suc j) (omega (arith, leb-true y j b)), or-true))
 
 module _ (f : ℕ → ℕ → Bool) where
-  few-at : (k n j : ℕ) → length (foundAt f k n j) ≤ n
+  few-at : (k n j : ℕ) → length (foundAt f n j k) ≤ n
   unfolding pick
   few-at k zero j = omega arith
-  few-at k (suc n) j = go (f k j) (few-at k n (suc j))
+  few-at k (suc n) j = go (f j k) (few-at k n (suc j))
     where
-      go : (c : Bool) → length (foundAt f k n (suc j)) ≤ n → length (pick c (found k j ∷ []) [] ++ foundAt f k n (suc j)) ≤ suc n
+      go : (c : Bool) → length (foundAt f n (suc j) k) ≤ n → length (pick c (found j k ∷ []) [] ++ foundAt f n (suc j) k) ≤ suc n
       go true h = omega arith
       go false h = omega arith
 
   few-from : (count n k : ℕ) → length (foundFrom f count n k) ≤ n * count
   few-from count zero k = omega arith
   few-from count (suc n) k =
-      omega (arith, length-append (foundAt f k count 0) (foundFrom f count n (suc k)), few-at k count 0, few-from count n (suc k))
+      omega (arith, length-append (foundAt f count 0 k) (foundFrom f count n (suc k)), few-at k count 0, few-from count n (suc k))
 
-  ordered-at : (k : ℕ) (rest : List Found) → ((x y : ℕ) → x ≤ k → Ordered x y rest) → (n j x y : ℕ) → After x y k j → Ordered x y (foundAt f k n j ++ rest)
+  ordered-at : (k : ℕ) (rest : List Found) → ((x y : ℕ) → x ≤ k → Ordered x y rest) → (n j x y : ℕ) → After x y k j → Ordered x y (foundAt f n j k ++ rest)
   unfolding pick
   ordered-at k rest h zero j x y a = h x y (after-le x y k j a)
   ordered-at k rest h (suc n) j x y a =
-      go (f k j) (ordered-at k rest h n (suc j) k (suc j) (after-itself k (suc j))) (ordered-at k rest h n (suc j) x y (after-more x y k j a))
+      go (f j k) (ordered-at k rest h n (suc j) k (suc j) (after-itself k (suc j))) (ordered-at k rest h n (suc j) x y (after-more x y k j a))
     where
-      go : (c : Bool) → Ordered k (suc j) (foundAt f k n (suc j) ++ rest) → Ordered x y (foundAt f k n (suc j) ++ rest) →
-          Ordered x y ((pick c (found k j ∷ []) [] ++ foundAt f k n (suc j)) ++ rest)
+      go : (c : Bool) → Ordered k (suc j) (foundAt f n (suc j) k ++ rest) → Ordered x y (foundAt f n (suc j) k ++ rest) →
+          Ordered x y ((pick c (found j k ∷ []) [] ++ foundAt f n (suc j) k) ++ rest)
       go true here later = (a, here)
       go false here later = later
 
@@ -143,9 +143,9 @@ unfolding evidence
 evidence-few mask places ns weak = few-from (decides mask places ns (wantedRows (local mask places) ns weak)) (length ns) (length places) 0
 
 -- a node of kind atom, of so many nodes, at a place below L
-pub record AtomAt (ns : List Node) (L k j : ℕ) : Type 0 where
-  pub place : k < L
+pub record AtomAt (ns : List Node) (L j k : ℕ) : Type 0 where
   pub node : j < length ns
+  pub place : k < L
   pub atom : isAtom ((nodeAt ns j) .kind) ≡ true
 
 -- the evidence is made of readings of that trace
@@ -153,9 +153,9 @@ pub evidence-atoms : (mask : ℕ) (places : List ℕ) (ns : List Node) (weak : B
 unfolding evidence
 evidence-atoms mask places ns weak =
     all-from (AtomAt ns (length places)) (decides mask places ns (wantedRows (local mask places) ns weak)) (length ns) (length places)
-    (λ k j a b e. record { place = a; node = b; atom = (both-true (isAtom ((nodeAt ns j) .kind)) _ e) .0 }) (length places) 0 (omega arith)
+    (λ j k a b e. record { node = a; place = b; atom = (both-true (isAtom ((nodeAt ns j) .kind)) _ e) .0 }) (length places) 0 (omega arith)
 
 -- what holds of each of them, weakened
-pub each-so : (P Q : ℕ → ℕ → Type 0) → ((k j : ℕ) → P k j → Q k j) → (fs : List Found) → Each P fs → Each Q fs
+pub each-so : (P Q : ℕ → ℕ → Type 0) → ((j k : ℕ) → P j k → Q j k) → (fs : List Found) → Each P fs → Each Q fs
 each-so P Q h [] e = tt
-each-so P Q h (g ∷ gs) e = (h (g .place) (g .atomNode) (e .0), each-so P Q h gs (e .1))
+each-so P Q h (g ∷ gs) e = (h (g .atomNode) (g .place) (e .0), each-so P Q h gs (e .1))

@@ -121,7 +121,7 @@ module _ (s t : Trace) (longer : s .places ≤ t .places) (grew : Bool) (equal :
 
 -- us has the bit of ws in node j, an atom, at place k
 abbrev pub SameBit : List Node → List ℕ → List ℕ → ℕ → ℕ → Type 0
-SameBit ns ws us k j = bitOf (getD us k 0) ((nodeAt ns j) .first) ≡ bitOf (getD ws k 0) ((nodeAt ns j) .first)
+SameBit ns ws us j k = bitOf (getD us k 0) ((nodeAt ns j) .first) ≡ bitOf (getD ws k 0) ((nodeAt ns j) .first)
 
 -- it has "those bits"
 abbrev pub SameBits : List Node → List ℕ → List ℕ → List Found → Type 0
@@ -131,7 +131,7 @@ SameBits ns ws us fs = Each (SameBit ns ws us) fs
 module _ (mask : ℕ) (ws us : List ℕ) (ns : List Node) (weak : Bool) (nodes : RuleNodes 0 ns) (someNode : 0 < length ns) (somePlace : 0 < length ws)
     (longer : length ws ≤ length us) (grew : Bool) (equal : grew ≡ false → length ws ≡ length us)
     (bits : SameBits ns ws us (evidence mask ws ns weak)) where
-  bit-same : (j k : ℕ) → j < length ns → k < length ws → decides mask ws ns (wantedRows (local mask ws) ns weak) k j ≡ true → SameBit ns ws us k j
+  bit-same : (j k : ℕ) → j < length ns → k < length ws → decides mask ws ns (wantedRows (local mask ws) ns weak) j k ≡ true → SameBit ns ws us j k
   unfolding evidence
   bit-same j k l b e =
       each-from (SameBit ns ws us) (decides mask ws ns (wantedRows (local mask ws) ns weak)) j k e (length ns) l (length ws) 0 (omega arith) (omega arith) bits

@@ -4,11 +4,10 @@ use mathlib.Core.Bool.{Bool, true, false}
 use mathlib.Core.List.{List, []}
 use Prim.Native.Nat.{ℕ, _-_, _<_, _≤_}
 use native.Mathlib.Omega.{arith}
-use lib.ListN.{length, take, drop, getD, length-take, length-drop}
-use denote.Ref.{RefT}
+use lib.ListN.{length, take, drop, length-take, length-drop}
 use borrow.Author.Needs.{needs}
 use borrow.Author.Tests.{ne-eqb, eq-eqb, lt-ltb, le-ltb}
-use Rattle.definitions.specs.Limits.{maxInputBytes, inputLong, ruleForm, maxRuleNodes, maxControllers, maxStates}
+use Rattle.definitions.specs.Limits.{maxInputBytes, inputLong, ruleForm}
 use Rattle.definitions.specs.Bounded.{pick}
 use Rattle.definitions.specs.RecordingText.{jointNumber}
 use Rattle.definitions.specs.Program.{ruleTextIn, recordingTextIn, refusedText}
@@ -18,81 +17,49 @@ use Rattle.printing.specs.Printing.{Printed, OutputIs}
 use Rattle.printing.proofs.LineLaws.{printed-all}
 use Rattle.report.proofs.ReportLaws.{refused-length}
 use Rattle.lines.proofs.PartLaws.{part-to-end}
-use Rattle.joint_reading.specs.Joining.{ReadJoint}
 use Rattle.program_input.specs.Splitting.{SplitAt}
 use Rattle.program_input.proofs.SplitLaws.{rule-counted, texts-fit}
-use Rattle.report.specs.ReadTables.{foundRule, foundRecording}
+use Rattle.report.specs.ReadTables.{TextsRoom, ruleAt, recordingAt, AcceptedTexts, TextsRead}
+use Rattle.report.specs.declared.read.Read.{Read}
+use Rattle.report.specs.declared.read.Read.the-variants.{Refused, Tables}
+use Rattle.rules.specs.declared.headings.RuleHeading.{RuleHeading}
+use Rattle.recordings.specs.declared.heading.RecordingHeading.{RecordingHeading}
 use Rattle.program_input.specs.declared.Parts.{Parts}
-use Rattle.report.proofs.ReadTableLaws.{first-is, line-is, rule-is, recording-is, refusal-room, tables-found, nodes-counted, masks-counted, states-counted}
+use Rattle.report.proofs.ReadTableLaws.{texts-refused, texts-tables, taken-laws}
 use Rattle.evidence_text.specs.Behind.{behindOf, BehindReady}
 use Rattle.program_input.specs.Asking.{askedIn, AskedIs}
-use Rattle.why_program.specs.Output.{maxWhyBytes, FoundRoom, WhyRoom, InputRoom}
+use Rattle.why_program.specs.Output.{maxWhyBytes, WhyRoom, InputRoom}
 use Rattle.program_input.specs.declared.asked.Asked.{Asked}
 use Rattle.program_input.specs.declared.asked.Asked.the-variants.{Reading, Nothing}
 use Rattle.program_input.proofs.AskedLaws.{reading-inside, nothing-counts}
 
--- ---- `put_found`
-module _ (heading nodes masks states text : List ℕ) (f : FoundRoom heading nodes masks states text) where
-  pub found-nodes : getD heading 2 0 ≡ length (take (getD heading 2 0) nodes)
-  found-nodes = nodes-counted heading nodes masks states (f .found)
-
-  pub found-masks : getD heading 3 0 ≡ length (take (getD heading 3 0) masks)
-  found-masks = masks-counted heading nodes masks states (f .found)
-
-  pub found-states : getD heading 4 0 ≡ length (take (getD heading 4 0) states)
-  found-states = states-counted heading nodes masks states (f .found)
-
-  -- `put_found`: the tables found and the space for the text are what `put_behind` asks
-  pub found-ready : BehindReady (foundRule heading nodes) (foundRecording heading masks states) text
-  found-ready = record { accepted = f .found .both; room = f .room }
-
-pub ruleset found-laws = (needs, found-nodes, found-masks, found-states, found-ready)
-
 -- ---- `why_texts`
-module _ (weak : Bool) (x y r : RefT (List ℕ)) (nodes masks states nodes′ masks′ states′ heading text : List ℕ)
-    (j : ReadJoint x y nodes masks states r nodes′ masks′ states′ heading) (room : WhyRoom (x .now) (y .now) text)
-    (nodesRoom : maxRuleNodes ≤ length nodes) (masksRoom : maxControllers ≤ length masks) (statesRoom : maxStates ≤ length states) where
-  abbrev R : ℕ
-  R = jointNumber (x .now) (y .now)
+module _ (x y text : List ℕ) (r : Read) (nodes masks states text′ : List ℕ) (t : TextsRead x y text r nodes masks states text′) where
+  -- `why_texts`, refused: what `read_tables` printed is `whyTexts`
+  pub refused-printed : (weak : Bool) (end : ℕ) → r ≡ Refused end → Printed (whyTexts weak x y) text 0 end text′
+  unfolding whyTexts pick
+  refused-printed weak end e =
+      let f = texts-refused x y text r nodes masks states text′ t end e in
+      rw (ne-eqb (jointNumber x y) 0 (f .refused)) (f .printed)
 
-  number-is : getD heading 0 0 ≡ R
-  number-is = first-is x y r nodes masks states nodes′ masks′ states′ heading text j (room .texts) nodesRoom masksRoom statesRoom
+  module _ (h : RuleHeading) (g : RecordingHeading) (e : r ≡ Tables h g) where
+    abbrev tables : AcceptedTexts x y text h g nodes masks states text′
+    tables = texts-tables x y text r nodes masks states text′ t h g e
 
-  -- refused
-  module _ (z : getD heading 0 0 ≡ 0 → ⊥) where
-    pub refused-room : length (refusedText (getD heading 0 0) (r .now)) ≤ length text
-    refused-room = refusal-room x y r nodes masks states nodes′ masks′ states′ heading text j (room .texts) nodesRoom masksRoom statesRoom z
-
-    -- `why_texts`, refused: the number and the line printed are `whyTexts`
-    pub refused-printed : (e : ℕ) (text′ : List ℕ) → Printed (refusedText (getD heading 0 0) (r .now)) text 0 e text′ →
-        Printed (whyTexts weak (x .now) (y .now)) text 0 e text′
-    unfolding whyTexts pick
-    refused-printed e text′ p =
-        rw (
-          ne-eqb R 0 (λ q. z (number-is ∙ q)),
-          ← line-is x y r nodes masks states nodes′ masks′ states′ heading text j (room .texts) nodesRoom masksRoom statesRoom z,
-          ← number-is,
-        ) p
-
-  -- accepted
-  module _ (z : getD heading 0 0 ≡ 0) where
-    pub found-room : FoundRoom heading nodes′ masks′ states′ text
-    found-room = record {
-      found = tables-found x y r nodes masks states nodes′ masks′ states′ heading text j (room .texts) nodesRoom masksRoom statesRoom z;
-      room = room .room;
-    }
+    pub behind-ready : WhyRoom x y text → BehindReady (ruleAt h nodes) (recordingAt g masks states) text′
+    behind-ready room = record { accepted = tables .both; room = omega (arith, room .room, ap length (tables .unprinted)) }
 
     -- `why_texts`, accepted: what is behind the verdict, `behindOf`, is `whyTexts`
-    pub found-printed : (e : ℕ) (text′ : List ℕ) → Printed (behindOf weak (foundRule heading nodes′) (foundRecording heading masks′ states′)) text 0 e text′ →
-        Printed (whyTexts weak (x .now) (y .now)) text 0 e text′
+    pub behind-printed : (weak : Bool) (end : ℕ) (text″ : List ℕ) → Printed (behindOf weak (ruleAt h nodes) (recordingAt g masks states)) text′ 0 end text″ →
+        Printed (whyTexts weak x y) text 0 end text″
     unfolding whyTexts pick
-    found-printed e text′ p =
-        let same = ap₂ (behindOf weak)
-        (rule-is x y r nodes masks states nodes′ masks′ states′ heading text j (room .texts) nodesRoom masksRoom statesRoom z)
-        (recording-is x y r nodes masks states nodes′ masks′ states′ heading text j (room .texts) nodesRoom masksRoom statesRoom z) in
-        rw (eq-eqb R 0 (sym number-is ∙ z), ← same) p
+    behind-printed weak end text″ p =
+        rw (eq-eqb (jointNumber x y) 0 (tables .accepts), ← ap₂ (behindOf weak) (tables .ruleIs) (tables .recordingIs), ← tables .unprinted) p
 
-pub ruleset texts-laws = (needs, refused-room, refused-printed, found-room, found-printed)
+pub why-room : (x y text : List ℕ) → WhyRoom x y text → TextsRoom x y text
+why-room x y text room = room .texts
+
+pub ruleset texts-laws = (taken-laws, why-room, refused-printed, behind-ready, behind-printed)
 
 -- ---- `why_asked`
 module _ (input text : List ℕ) (room : InputRoom input text) (s : Parts) (is : SplitAt input s) where

@@ -3,17 +3,12 @@ use Prim.Native.Nat.{ℕ, _≤_}
 use mathlib.Core.List.{List}
 use lib.ListN.{length}
 use Rattle.definitions.specs.Limits.{maxInputBytes}
-use Rattle.report.specs.ReadTables.{TextsRoom, Found}
+use Rattle.report.specs.ReadTables.{TextsRoom}
 use Rattle.evidence_text.specs.Behind.{maxBehindBytes}
 
 -- the longest output: that of an accepted rule and recording; a refusal has fewer bytes
 abbrev pub maxWhyBytes : ℕ
 maxWhyBytes = maxBehindBytes
-
--- accepted tables in lent space, and space for what is printed of them
-pub record FoundRoom (heading nodes masks states text : List ℕ) : Type 0 where
-  pub found : Found heading nodes masks states
-  pub room : maxWhyBytes ≤ length text
 
 -- two texts of one input, and space for what is printed of them
 pub record WhyRoom (rule recording text : List ℕ) : Type 0 where

@@ -1,5 +1,6 @@
 -- `join_whole` meets its contract: what was scanned, then zeroed (JoinLaws).
-use Rattle.joint_reading.proofs.JoinLaws.{whole-laws, join-done}
+use native.Mathlib.Omega.{arith}
+use Rattle.joint_reading.proofs.JoinLaws.{join-clears, join-done}
 use borrow.Author.Needs.{needs}
 use Rattle.joint_reading.proofs.join_whole.Statement.{statement}
 use Rattle.joint_reading.proofs.join_whole.Tie as tie
@@ -17,16 +18,16 @@ cast-clear-past-3 : tie.Need-cast-clear-past-3
 cast-clear-past-3 c = search needs
 
 clear-past-requires : tie.Need-clear-past-requires
-clear-past-requires c κs = search whole-laws
+clear-past-requires c κs = search join-clears
 
 same-length : tie.Need-same-length
-same-length c = search needs
+same-length c = omega arith
 
 same-length-2 : tie.Need-same-length-2
-same-length-2 c = search needs
+same-length-2 c = omega arith
 
 same-length-3 : tie.Need-same-length-3
-same-length-3 c = search needs
+same-length-3 c = omega arith
 
 returns : tie.Need-returns
 returns c =

@@ -1,5 +1,6 @@
--- `read_rule` meets its contract (ReadLaws: read-laws, read-short, read-accepted, read-refused).
-use Rattle.rule_reader.proofs.ReadLaws.{read-laws, read-short, read-accepted, read-refused}
+-- `read_rule` meets its contract (ReadLaws: read-fits, read-short, read-accepted, read-refused).
+use native.Mathlib.Omega.{arith}
+use Rattle.rule_reader.proofs.ReadLaws.{read-fits, read-short, read-accepted, read-refused}
 use borrow.Author.Needs.{needs}
 use Rattle.rule_reader.proofs.read_rule.Statement.{statement}
 use Rattle.rule_reader.proofs.read_rule.Tie as tie
@@ -14,16 +15,16 @@ pick-index-requires : tie.Need-pick-index-requires
 pick-index-requires c κs = search needs
 
 clear-u32-requires : tie.Need-clear-u32-requires
-clear-u32-requires c κs = search read-laws
+clear-u32-requires c κs = search (needs, read-fits)
 
 same-length : tie.Need-same-length
-same-length c = search needs
+same-length c = omega arith
 
 returns-2 : tie.Need-returns-2
 returns-2 c = search read-accepted
 
 same-length-2 : tie.Need-same-length-2
-same-length-2 c = search needs
+same-length-2 c = omega arith
 
 returns-3 : tie.Need-returns-3
 returns-3 c = search read-refused

@@ -4,44 +4,41 @@ use Rattle.why_program.proofs.WhyLaws.{texts-laws}
 use Rattle.why_program.proofs.why_texts.Statement.{statement}
 use Rattle.why_program.proofs.why_texts.Tie as tie
 
-slice-aggregate-read-joint : tie.Need-slice-aggregate-read-joint
-slice-aggregate-read-joint c = search needs
+read-tables-requires : tie.Need-read-tables-requires
+read-tables-requires c κs = search needs
 
-slice-aggregate-read-joint-2 : tie.Need-slice-aggregate-read-joint-2
-slice-aggregate-read-joint-2 c = search needs
+enum-known-end : tie.Need-enum-known-end
+enum-known-end c = search needs
 
-slice-aggregate-read-joint-3 : tie.Need-slice-aggregate-read-joint-3
-slice-aggregate-read-joint-3 c = search needs
+enum-known-of-rule : tie.Need-enum-known-of-rule
+enum-known-of-rule c = search needs
 
-read-joint-requires : tie.Need-read-joint-requires
-read-joint-requires c κs = search needs
+array-share-prefix-nodes : tie.Need-array-share-prefix-nodes
+array-share-prefix-nodes c = search texts-laws
 
-array-read-number : tie.Need-array-read-number
-array-read-number c = search needs
+slice-aggregate-put-behind : tie.Need-slice-aggregate-put-behind
+slice-aggregate-put-behind c = search texts-laws
 
-cast-if1 : tie.Need-cast-if1
-cast-if1 c = search needs
+array-share-prefix-masks : tie.Need-array-share-prefix-masks
+array-share-prefix-masks c = search texts-laws
 
-put-refused-requires : tie.Need-put-refused-requires
-put-refused-requires c κs = search texts-laws
+slice-aggregate-put-behind-2 : tie.Need-slice-aggregate-put-behind-2
+slice-aggregate-put-behind-2 c = search texts-laws
+
+array-share-prefix-states : tie.Need-array-share-prefix-states
+array-share-prefix-states c = search texts-laws
+
+slice-aggregate-put-behind-3 : tie.Need-slice-aggregate-put-behind-3
+slice-aggregate-put-behind-3 c = search texts-laws
+
+put-behind-requires : tie.Need-put-behind-requires
+put-behind-requires c κs = search texts-laws
 
 same-length : tie.Need-same-length
 same-length c = search needs
 
 returns : tie.Need-returns
 returns c = search texts-laws
-
-slice-aggregate-put-found : tie.Need-slice-aggregate-put-found
-slice-aggregate-put-found c = search needs
-
-slice-aggregate-put-found-2 : tie.Need-slice-aggregate-put-found-2
-slice-aggregate-put-found-2 c = search needs
-
-slice-aggregate-put-found-3 : tie.Need-slice-aggregate-put-found-3
-slice-aggregate-put-found-3 c = search needs
-
-put-found-requires : tie.Need-put-found-requires
-put-found-requires c κs = search texts-laws
 
 same-length-2 : tie.Need-same-length-2
 same-length-2 c = search needs
@@ -53,18 +50,17 @@ pub why-texts-spec : {M : Type 1} → statement M
 why-texts-spec =
     tie.close
     (tie.spec
-    slice-aggregate-read-joint
-    slice-aggregate-read-joint-2
-    slice-aggregate-read-joint-3
-    read-joint-requires
-    array-read-number
-    cast-if1
-    put-refused-requires
+    read-tables-requires
+    enum-known-end
+    enum-known-of-rule
+    array-share-prefix-nodes
+    slice-aggregate-put-behind
+    array-share-prefix-masks
+    slice-aggregate-put-behind-2
+    array-share-prefix-states
+    slice-aggregate-put-behind-3
+    put-behind-requires
     same-length
     returns
-    slice-aggregate-put-found
-    slice-aggregate-put-found-2
-    slice-aggregate-put-found-3
-    put-found-requires
     same-length-2
     returns-2)

@@ -1,5 +1,6 @@
 -- `scan_joint` meets its contract: one law for each return (ScanLaws).
-use Rattle.joint_reading.proofs.ScanLaws.{scan-laws, count-fits, rule-refused, recording-refused, joint-accepted, joining-refused}
+use native.Mathlib.Omega.{arith}
+use Rattle.joint_reading.proofs.ScanLaws.{count-fits, rule-refused, recording-refused, joint-accepted, joining-refused}
 use borrow.Author.Needs.{needs}
 use Rattle.joint_reading.proofs.scan.scan_joint.Statement.{statement}
 use Rattle.joint_reading.proofs.scan.scan_joint.Tie as tie
@@ -11,7 +12,7 @@ refused-at-requires : tie.Need-refused-at-requires
 refused-at-requires c κs = search needs
 
 same-length : tie.Need-same-length
-same-length c = search needs
+same-length c = omega arith
 
 returns : tie.Need-returns
 returns c = search rule-refused
@@ -23,37 +24,37 @@ refused-at-requires-2 : tie.Need-refused-at-requires-2
 refused-at-requires-2 c κs = search needs
 
 same-length-2 : tie.Need-same-length-2
-same-length-2 c = search needs
+same-length-2 c = omega arith
 
 same-length-3 : tie.Need-same-length-3
-same-length-3 c = search needs
+same-length-3 c = omega arith
 
 same-length-4 : tie.Need-same-length-4
-same-length-4 c = search needs
+same-length-4 c = omega arith
 
 returns-2 : tie.Need-returns-2
 returns-2 c = search recording-refused
 
 cast-t15 : tie.Need-cast-t15
-cast-t15 c = search scan-laws
+cast-t15 c = omega arith
 
 cast-t16 : tie.Need-cast-t16
 cast-t16 c = search count-fits
 
 cast-t17 : tie.Need-cast-t17
-cast-t17 c = search scan-laws
+cast-t17 c = omega arith
 
 cast-t18 : tie.Need-cast-t18
-cast-t18 c = search scan-laws
+cast-t18 c = omega arith
 
 same-length-5 : tie.Need-same-length-5
-same-length-5 c = search needs
+same-length-5 c = omega arith
 
 same-length-6 : tie.Need-same-length-6
-same-length-6 c = search needs
+same-length-6 c = omega arith
 
 same-length-7 : tie.Need-same-length-7
-same-length-7 c = search needs
+same-length-7 c = omega arith
 
 returns-3 : tie.Need-returns-3
 returns-3 c = search joint-accepted
@@ -62,13 +63,13 @@ refused-at-requires-3 : tie.Need-refused-at-requires-3
 refused-at-requires-3 c κs = search needs
 
 same-length-8 : tie.Need-same-length-8
-same-length-8 c = search needs
+same-length-8 c = omega arith
 
 same-length-9 : tie.Need-same-length-9
-same-length-9 c = search needs
+same-length-9 c = omega arith
 
 same-length-10 : tie.Need-same-length-10
-same-length-10 c = search needs
+same-length-10 c = omega arith
 
 returns-4 : tie.Need-returns-4
 returns-4 c = search joining-refused

@@ -1,7 +1,7 @@
--- `scan_masks` meets its contract (LoopLaws: scan-mask-laws, masks-start, masks-next, masks-refused, masks-done).
+-- `scan_masks` meets its contract (LoopLaws: mask-next-fits, masks-start, masks-next, masks-refused, masks-done).
 use borrow.Author.Needs.{needs}
 use Prim.Native.Nat.{_-_}
-use Rattle.recording_reader.proofs.LoopLaws.{scan-mask-laws, MasksLeft, masks-start, masks-next, masks-refused, masks-done}
+use Rattle.recording_reader.proofs.LoopLaws.{mask-next-fits, MasksLeft, masks-start, masks-next, masks-refused, masks-done}
 use Rattle.recording_reader.proofs.scan.scan_masks.Statement.{statement}
 use Rattle.recording_reader.proofs.scan.scan_masks.Tie as tie
 
@@ -15,34 +15,34 @@ loop-holds : tie.Need-loop-holds Inv-loop μ-loop
 loop-holds c = search masks-start
 
 sub-t : tie.Need-sub-t Inv-loop μ-loop
-sub-t c = search scan-mask-laws
+sub-t c = search needs
 
 part-t-start : tie.Need-part-t-start Inv-loop μ-loop
-part-t-start c = search scan-mask-laws
+part-t-start c = search needs
 
 part-t-end : tie.Need-part-t-end Inv-loop μ-loop
-part-t-end c = search scan-mask-laws
+part-t-end c = search needs
 
 first-line-requires : tie.Need-first-line-requires Inv-loop μ-loop
-first-line-requires c κs = search scan-mask-laws
+first-line-requires c κs = search needs
 
 next-mask-requires : tie.Need-next-mask-requires Inv-loop μ-loop
-next-mask-requires c κs = search scan-mask-laws
+next-mask-requires c κs = search needs
 
 enum-known-mask : tie.Need-enum-known-mask Inv-loop μ-loop
-enum-known-mask c = search scan-mask-laws
+enum-known-mask c = search needs
 
 mul-masks : tie.Need-mul-masks Inv-loop μ-loop
-mul-masks c = search scan-mask-laws
+mul-masks c = search needs
 
 slice-write-masks : tie.Need-slice-write-masks Inv-loop μ-loop
-slice-write-masks c = search scan-mask-laws
+slice-write-masks c = search needs
 
 add-at : tie.Need-add-at Inv-loop μ-loop
-add-at c = search scan-mask-laws
+add-at c = search mask-next-fits
 
 add-c : tie.Need-add-c Inv-loop μ-loop
-add-c c = search scan-mask-laws
+add-c c = search needs
 
 loop-less : tie.Need-loop-less Inv-loop μ-loop
 loop-less c = search needs
@@ -51,16 +51,16 @@ loop-again : tie.Need-loop-again Inv-loop μ-loop
 loop-again c = search masks-next
 
 enum-known-number : tie.Need-enum-known-number Inv-loop μ-loop
-enum-known-number c = search scan-mask-laws
+enum-known-number c = search needs
 
 same-length : tie.Need-same-length Inv-loop μ-loop
-same-length c = search scan-mask-laws
+same-length c = search needs
 
 returns : tie.Need-returns Inv-loop μ-loop
 returns c = search masks-refused
 
 same-length-2 : tie.Need-same-length-2 Inv-loop μ-loop
-same-length-2 c = search scan-mask-laws
+same-length-2 c = search needs
 
 returns-2 : tie.Need-returns-2 Inv-loop μ-loop
 returns-2 c = search masks-done

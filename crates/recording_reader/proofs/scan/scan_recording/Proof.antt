@@ -1,5 +1,6 @@
--- `scan_recording` meets its contract (RecordingLaws: scan-laws).
-use Rattle.recording_reader.proofs.RecordingLaws.{scan-laws}
+-- `scan_recording` meets its contract: one law for each return, and the room that masks and states ask (RecordingLaws).
+use native.Mathlib.Omega.{arith}
+use Rattle.recording_reader.proofs.RecordingLaws.{heading-refused, mask-room, masks-refused, state-room, recording-scanned}
 use borrow.Author.Needs.{needs}
 use Rattle.recording_reader.proofs.scan.scan_recording.Statement.{statement}
 use Rattle.recording_reader.proofs.scan.scan_recording.Tie as tie
@@ -14,19 +15,19 @@ enum-known-controllers : tie.Need-enum-known-controllers
 enum-known-controllers c = search needs
 
 scan-masks-requires : tie.Need-scan-masks-requires
-scan-masks-requires c κs = search scan-laws
+scan-masks-requires c κs = search mask-room
 
 unread-requires : tie.Need-unread-requires
 unread-requires c κs = search needs
 
 same-length : tie.Need-same-length
-same-length c = search needs
+same-length c = omega arith
 
 returns : tie.Need-returns
-returns c = search scan-laws
+returns c = search masks-refused
 
 scan-states-requires : tie.Need-scan-states-requires
-scan-states-requires c κs = search scan-laws
+scan-states-requires c κs = search state-room
 
 enum-known-number : tie.Need-enum-known-number
 enum-known-number c = search needs
@@ -35,16 +36,16 @@ unread-requires-2 : tie.Need-unread-requires-2
 unread-requires-2 c κs = search needs
 
 same-length-2 : tie.Need-same-length-2
-same-length-2 c = search needs
+same-length-2 c = omega arith
 
 same-length-3 : tie.Need-same-length-3
-same-length-3 c = search needs
+same-length-3 c = omega arith
 
 returns-2 : tie.Need-returns-2
-returns-2 c = search scan-laws
+returns-2 c = search recording-scanned
 
 returns-3 : tie.Need-returns-3
-returns-3 c = search scan-laws
+returns-3 c = search heading-refused
 
 pub scan-recording-spec : {M : Type 1} → statement M
 scan-recording-spec =

@@ -1,5 +1,5 @@
--- `known_form` meets its contract (FormLaws: known-laws, known-malformed, known-read).
-use Rattle.rule_reader.proofs.FormLaws.{known-laws, known-malformed, known-read}
+-- `known_form` meets its contract (FormLaws: first-fits, second-fits, known-malformed, known-read).
+use Rattle.rule_reader.proofs.FormLaws.{first-fits, second-fits, known-malformed, known-read}
 use borrow.Author.Needs.{needs}
 use Rattle.rule_reader.proofs.node_line.known_form.Statement.{statement}
 use Rattle.rule_reader.proofs.node_line.known_form.Tie as tie
@@ -20,10 +20,10 @@ returns : tie.Need-returns
 returns c = search known-malformed
 
 cast-of-kind : tie.Need-cast-of-kind
-cast-of-kind c = search known-laws
+cast-of-kind c = search first-fits
 
 cast-of-kind-2 : tie.Need-cast-of-kind-2
-cast-of-kind-2 c = search known-laws
+cast-of-kind-2 c = search second-fits
 
 of-kind-requires : tie.Need-of-kind-requires
 of-kind-requires c κs = search needs

@@ -1,5 +1,6 @@
--- `next_node` meets its contract (NodeLaws: node-laws).
-use Rattle.rule_reader.proofs.NodeLaws.{node-laws}
+-- `next_node` meets its contract (NodeLaws: node-unread, node-malformed, node-refused, node-wordable, node-read).
+use Rattle.lines.proofs.NextLaws.{line-part-laws}
+use Rattle.rule_reader.proofs.NodeLaws.{node-unread, node-malformed, node-refused, node-wordable, node-read}
 use borrow.Author.Needs.{needs}
 use Rattle.rule_reader.proofs.node_line.next_node.Statement.{statement}
 use Rattle.rule_reader.proofs.node_line.next_node.Tie as tie
@@ -8,10 +9,10 @@ end-refusal-requires : tie.Need-end-refusal-requires
 end-refusal-requires c κs = search needs
 
 returns : tie.Need-returns
-returns c = search node-laws
+returns c = search node-unread
 
 slice-aggregate-node-form : tie.Need-slice-aggregate-node-form
-slice-aggregate-node-form c = search node-laws
+slice-aggregate-node-form c = search line-part-laws
 
 node-form-requires : tie.Need-node-form-requires
 node-form-requires c κs = search needs
@@ -23,7 +24,7 @@ enum-told : tie.Need-enum-told
 enum-told c = search needs
 
 returns-2 : tie.Need-returns-2
-returns-2 c = search node-laws
+returns-2 c = search node-malformed
 
 cast-node-refusal : tie.Need-cast-node-refusal
 cast-node-refusal c = search needs
@@ -32,13 +33,13 @@ node-refusal-requires : tie.Need-node-refusal-requires
 node-refusal-requires c κs = search needs
 
 returns-3 : tie.Need-returns-3
-returns-3 c = search node-laws
+returns-3 c = search node-refused
 
 word-requires : tie.Need-word-requires
-word-requires c κs = search node-laws
+word-requires c κs = search node-wordable
 
 returns-4 : tie.Need-returns-4
-returns-4 c = search node-laws
+returns-4 c = search node-read
 
 pub next-node-spec : {M : Type 1} → statement M
 next-node-spec =

@@ -1,5 +1,6 @@
--- `node_form` meets its contract (FormLaws: form-laws).
-use Rattle.rule_reader.proofs.FormLaws.{form-laws}
+-- `node_form` meets its contract (FormLaws: line-unknown, known-low, line-known).
+use Rattle.lines.proofs.PartLaws.{part-laws}
+use Rattle.rule_reader.proofs.FormLaws.{known-low, line-unknown, line-known}
 use borrow.Author.Needs.{needs}
 use Rattle.rule_reader.proofs.node_line.node_form.Statement.{statement}
 use Rattle.rule_reader.proofs.node_line.node_form.Tie as tie
@@ -8,7 +9,7 @@ until-byte-requires : tie.Need-until-byte-requires
 until-byte-requires c κs = search needs
 
 slice-aggregate-kind-of-word : tie.Need-slice-aggregate-kind-of-word
-slice-aggregate-kind-of-word c = search form-laws
+slice-aggregate-kind-of-word c = search part-laws
 
 kind-of-word-requires : tie.Need-kind-of-word-requires
 kind-of-word-requires c κs = search needs
@@ -20,13 +21,13 @@ unknown-form-requires : tie.Need-unknown-form-requires
 unknown-form-requires c κs = search needs
 
 returns : tie.Need-returns
-returns c = search form-laws
+returns c = search line-unknown
 
 known-form-requires : tie.Need-known-form-requires
-known-form-requires c κs = search form-laws
+known-form-requires c κs = search known-low
 
 returns-2 : tie.Need-returns-2
-returns-2 c = search form-laws
+returns-2 c = search line-known
 
 pub node-form-spec : {M : Type 1} → statement M
 node-form-spec =
