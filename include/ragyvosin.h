@@ -17,10 +17,11 @@
  *
  * Lent space (the slices that are written) has the full size that stands at
  * each function; more may be lent and is never touched. After
- * RGV_LENT_SHORT it is untouched; after another refusal its full size is zero;
- * accepted, the entries that the answer doesn't use are zero. A slice that is
- * only read may have any length: entries past the count aren't read, and
- * fewer entries than the count are a line missing (4 or 8).
+ * RGV_LENT_SHORT it is untouched; after another refusal its full size is zero,
+ * but a session is left as it was; accepted, the entries that the answer
+ * doesn't use are zero. A slice that is only read may have any length: entries
+ * past the count aren't read, and fewer entries than the count are a line
+ * missing (4 or 8).
  *
  * A rule is a controller, 0 to 10, and 1 to 64 nodes; the last node is the
  * rule, the others are its parts. A node is
@@ -48,6 +49,17 @@
  *
  * A row pair is six words: the weak row's marks 0 to 63, its marks 64 to 127,
  * the count of states, and the same three of the strong row.
+ *
+ * A session is a recording that is judged while it is made. It lives in four
+ * places that the caller keeps: a heading of four numbers (C, the rule's
+ * controller, its node count, states held), masks, nodes and states. Open it
+ * with rgv_open_session; a state that happened arrives, and the last one can be
+ * withdrawn again; rgv_session_verdicts may be asked at any time. After every
+ * list of these calls, refused ones included, the verdicts are those of
+ * rgv_judge_local over the states that remain. A refused call, the opening too,
+ * leaves all as it was. Entries that aren't used are zero, a withdrawn state's
+ * too. A session may be copied; what only its own calls write is always sound,
+ * and on any other contents each call still ends and answers as it says below.
  */
 #ifndef RAGYVOSIN_H
 #define RAGYVOSIN_H
@@ -76,7 +88,9 @@ enum {
     RGV_LENT_SHORT = 13,       /* lent space shorter than its full size */
     RGV_INPUT_LONG = 14,       /* the program's alone, which takes 16,384 bytes: no function here answers it */
     RGV_LINE_FORM = 15,        /* a rule in one line over 1,024 bytes, or no sentence of the grammar */
-    RGV_BRACKETS_DEEP = 16     /* a rule in one line with over 16 brackets open at once */
+    RGV_BRACKETS_DEEP = 16,    /* a rule in one line with over 16 brackets open at once */
+    RGV_SESSION_FULL = 17,     /* a state arrives in a session that holds 128 */
+    RGV_SESSION_EMPTY = 18     /* a state is withdrawn from a session that holds none */
 };
 
 /* Node kinds; run and end stand only in rewritten tables: c runs, c runs no more from here on. */
@@ -95,7 +109,8 @@ enum {
     RGV_PAIR_WORDS = 6,
     RGV_ROW_WORDS = 6144,      /* 1,024 row pairs */
     RGV_RULE_BYTES = 1024,
-    RGV_PAIRS = 8192           /* a node and a place: 64 times 128 */
+    RGV_PAIRS = 8192,          /* a node and a place: 64 times 128 */
+    RGV_HEADING = 4            /* the numbers of a session's heading, no more and no fewer */
 };
 
 /*
@@ -230,6 +245,59 @@ uint8_t rgv_judge_recording(size_t count,
                             size_t c,
                             uint64_t *rows, size_t rows_len,
                             size_t values[2]);
+
+/*
+ * Opens a session on C controllers, the masks of the atoms that they own, and
+ * a rule of one of them. It holds no state: heading is C, controller, count, 0.
+ * What stood in the four places before is overwritten, an older session too;
+ * refused, all of it is left as it was. Full sizes: masks RGV_MASKS, nodes
+ * RGV_RULE_NODES, states RGV_STATES.
+ * Refusals: 13, those of the rule (2, 3, 4), 6 (C), 7, 8 (a mask), 11.
+ */
+uint8_t rgv_open_session(size_t controllers,
+                         const uint32_t *owned, size_t owned_len,
+                         size_t controller, size_t count,
+                         const uint32_t *rule, size_t rule_len,
+                         size_t heading[4],
+                         uint32_t *masks, size_t masks_len,
+                         uint32_t *nodes, size_t nodes_len,
+                         uint64_t *states, size_t states_len);
+
+/*
+ * A state arrives: it becomes the last of the states held. It obeys the output
+ * rule against the state before it, in which a run mark is a run now that its
+ * result is there. The heading's last number and one entry of the states
+ * are written, refused nothing. Full size: states RGV_STATES.
+ * Refusals: 13, 17, 6, 10. On contents that no call made: 17 from 128 held on;
+ * 6 for a C outside its limits; 10 by the first C masks that are there.
+ */
+uint8_t rgv_arrive(uint64_t state,
+                   size_t heading[4],
+                   const uint32_t *masks, size_t masks_len,
+                   uint64_t *states, size_t states_len);
+
+/*
+ * Withdraws the last state held: its entry is zero again, and the heading's
+ * last number one less, so that all is as it was before that state arrived.
+ * Refused, nothing is written. Full size: states RGV_STATES.
+ * Refusals: 13, 18; on contents that no call made also 6, over 128 held.
+ */
+uint8_t rgv_withdraw(size_t heading[4],
+                     uint64_t *states, size_t states_len);
+
+/*
+ * The verdicts of a session: those of rgv_judge_local of its rule over the
+ * states held. Lends nothing and writes nothing but the values.
+ * values: 1, weak verdict, strong verdict, 1 for yes; or three zeros where no
+ * state is held, for an empty session has no verdict, whatever it holds else.
+ * Refusals: none of a session that its own calls made; on other contents those
+ * of rgv_judge_local: 2, 3, 4, 6, 7, 10, 8, 11.
+ */
+uint8_t rgv_session_verdicts(const size_t heading[4],
+                             const uint32_t *masks, size_t masks_len,
+                             const uint32_t *nodes, size_t nodes_len,
+                             const uint64_t *states, size_t states_len,
+                             size_t values[3]);
 
 #ifdef __cplusplus
 }

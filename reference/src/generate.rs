@@ -1,6 +1,6 @@
 //! Inputs for the comparison: deterministic pseudo-random tables, texts and
-//! lent space, valid and damaged, every small rule and recording, and every
-//! short list of signs.
+//! lent space, valid and damaged, every small rule and recording, every short
+//! list of signs, and the calls of sessions.
 
 pub mod endings;
 pub mod exhaustive;
@@ -9,4 +9,5 @@ pub mod lines;
 pub mod random;
 pub mod recordings;
 pub mod rules;
+pub mod sessions;
 pub mod texts;

@@ -4,7 +4,8 @@
 //! Every operation says first what it answers as a pure function of what it
 //! reads, then leaves that in lent space: untouched after 13, the full size
 //! zero after another refusal, and the content followed by zeros when
-//! accepted. What is lent past the full size is never touched.
+//! accepted. What is lent past the full size is never touched. The calls of a
+//! session, which a refusal leaves as it was, are in [`session`].
 
 pub mod early;
 pub mod evidence;
@@ -15,7 +16,9 @@ pub mod refusal;
 pub mod rewriting;
 pub mod rule;
 pub mod semantics;
+pub mod session;
 pub mod text;
+pub mod watching;
 pub mod why;
 
 use evidence::{walk, AsWorded, Pair};

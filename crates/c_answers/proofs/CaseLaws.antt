@@ -25,6 +25,9 @@ use Rattle.judges.specs.Verdicts.{answerOf as judged}
 use Rattle.judges.specs.declared.verdicts.Verdicts.{Verdicts}
 use Rattle.judges.specs.declared.verdicts.Judgement.{Judgement}
 use Rattle.judges.specs.declared.verdicts.Judgement.the-variants as judgement
+use Rattle.sessions.specs.Answers.{answerOf as sessionJudged}
+use Rattle.sessions.specs.declared.query.SessionVerdicts.{SessionVerdicts}
+use Rattle.sessions.specs.declared.query.SessionVerdicts.the-variants as session
 use Rattle.evidence.specs.Answers.{answerOf as explained}
 use Rattle.evidence.specs.declared.Explanation.{Explanation}
 use Rattle.evidence.specs.declared.Explanation.the-variants as explanation
@@ -34,7 +37,7 @@ use Rattle.rewriting.specs.declared.Rewriting.the-variants as rewriting
 use Rattle.joint_reading.specs.Scanning.{partOf}
 use Rattle.joint_reading.specs.declared.scan.Found.{Found}
 use Rattle.joint_reading.specs.Joining.{headingOf}
-use Rattle.c_answers.specs.Values.{heading, partValues}
+use Rattle.c_answers.specs.Values.{heading, partValues, sessionValues}
 
 -- ---- the cases of each answer
 module _ (w : RuleRead) where
@@ -102,6 +105,22 @@ module _ (w : Judgement) where
   unfolding heading judged answer
   judgement-refused number e = rw (e, refused-values number)
 
+module _ (w : SessionVerdicts) where
+  -- `of_session_verdicts`, no state is held: zeros alone are `sessionValues` of the answer
+  pub session-none : w ≡ session.NoState → 0 ∷ 0 ∷ 0 ∷ 0 ∷ [] ≡ sessionValues (sessionJudged w)
+  unfolding sessionValues sessionJudged answer pick
+  session-none e = rw e
+
+  -- `of_session_verdicts`, judged: 0, 1 and the two verdicts are `sessionValues` of the answer
+  pub session-laid : (v : Verdicts) → w ≡ session.Judged v → 0 ∷ 1 ∷ boolByte (v .weak) ∷ boolByte (v .strong) ∷ [] ≡ sessionValues (sessionJudged w)
+  unfolding sessionValues sessionJudged answer pick
+  session-laid v e = rw (e, cast-bit (v .weak), cast-bit (v .strong))
+
+  -- `of_session_verdicts`, refused: the number and zeros are `sessionValues` of the answer
+  pub session-refused : (number : ℕ) → w ≡ session.Refused number → number ∷ 0 ∷ 0 ∷ 0 ∷ [] ≡ sessionValues (sessionJudged w)
+  unfolding sessionValues sessionJudged answer
+  session-refused number e = rw (e, refused-values number)
+
 module _ (w : Explanation) where
   -- `of_explanation`, accepted: 0 and the number of pairs are `heading` of the answer
   pub explanation-laid : (n : ℕ) → w ≡ explanation.Pairs n → 0 ∷ n ∷ [] ≡ heading 1 (explained w)
@@ -136,6 +155,9 @@ pub ruleset case-laws = (
   projection-refused,
   judgement-laid,
   judgement-refused,
+  session-none,
+  session-laid,
+  session-refused,
   explanation-laid,
   explanation-refused,
   rewriting-laid,

@@ -12,6 +12,14 @@ use Rattle.definitions.specs.RecordingText.{Part}
 unfoldable pub heading : ℕ → Answer → List ℕ
 heading width a = a .number ∷ (a .values ++ replicate (width - length (a .values)) 0)
 
+-- the query of a session: a first value 1, then weak and strong, or three zeros where no state is held, or on a refusal
+unfoldable pub sessionValues : Answer → List ℕ
+sessionValues a = a .number ∷ verdictsIn (a .values)
+  where
+    verdictsIn : List ℕ → List ℕ
+    verdictsIn [] = 0 ∷ 0 ∷ 0 ∷ []
+    verdictsIn (weak ∷ strong) = 1 ∷ weak ∷ strong
+
 -- a part of a text: 0 for the rule text or 1 for the recording text, its start and its length
 unfoldable pub partValues : Part → List ℕ
 partValues p = pick (p .ofRule) 0 1 ∷ p .from ∷ p .count ∷ []

@@ -6,11 +6,12 @@ ghost use Rattle.rule_writer.specs.Writing.{writeAnswer as ruleWritten};
 ghost use Rattle.recording_reader.specs.Reading.{readAnswer as recordingRead};
 ghost use Rattle.projection.specs.Answers.{answerOf as projected};
 ghost use Rattle.judges.specs.Verdicts.{answerOf as judged};
+ghost use Rattle.sessions.specs.Answers.{answerOf as sessionJudged};
 ghost use Rattle.evidence.specs.Answers.{answerOf as explained};
 ghost use Rattle.rewriting.specs.Answers.{answerOf as rewritten};
 ghost use Rattle.joint_reading.specs.Scanning.{partOf};
 ghost use Rattle.joint_reading.specs.Joining.{headingOf};
-ghost use Rattle.c_answers.specs.Values.{heading, partValues};
+ghost use Rattle.c_answers.specs.Values.{heading, partValues, sessionValues};
 use evidence::Explanation;
 use joint_reading::scan::Found;
 use judges::verdicts::Judgement;
@@ -21,6 +22,7 @@ use rule_reader::RuleRead;
 use rule_writer::RuleWritten;
 use rules::choice::pick_index;
 use rules::limits::Refusal;
+use sessions::query::SessionVerdicts;
 
 // A number and one value.
 pub struct OneValue {
@@ -50,6 +52,9 @@ pub struct SevenValues {
 const RULE_TEXT: usize = 0;
 
 const RECORDING_TEXT: usize = 1;
+
+// The values of a session without a verdict.
+const NO_VERDICT: [usize; 3] = [0, 0, 0];
 
 pub fn of_rule_read(answer: RuleRead) -> TwoValues
     ensures { λ r. ⌜ r .number ∷ r .values ≡ heading 2 (ruleRead answer) ⌝ }
@@ -122,6 +127,26 @@ pub fn of_judgement(answer: Judgement) -> TwoValues
         Judgement::Refused(number) => TwoValues {
             number,
             values: [0, 0],
+        },
+    }
+}
+
+// 1, then the verdicts.
+pub fn of_session_verdicts(answer: SessionVerdicts) -> ThreeValues
+    ensures { λ r. ⌜ r .number ∷ r .values ≡ sessionValues (sessionJudged answer) ⌝ }
+{
+    match answer {
+        SessionVerdicts::NoState => ThreeValues {
+            number: Refusal::NONE,
+            values: NO_VERDICT,
+        },
+        SessionVerdicts::Judged(verdicts) => ThreeValues {
+            number: Refusal::NONE,
+            values: [1, verdicts.weak as usize, verdicts.strong as usize],
+        },
+        SessionVerdicts::Refused(number) => ThreeValues {
+            number,
+            values: NO_VERDICT,
         },
     }
 }

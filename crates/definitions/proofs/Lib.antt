@@ -12,3 +12,4 @@ pub mod LongestTrials
 pub mod ElevenTrials
 pub mod PastTrials
 pub mod SessionTrials
+pub mod WatchTrials

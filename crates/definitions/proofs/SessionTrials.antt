@@ -17,12 +17,12 @@ unfolding computed spaceOf controllersRefusal openMasksRefusal openRefusal openN
 calls = true
 
 -- lent slices of these sizes: every entry is 7
-abbrev lentOf : (heading masks nodes states : ℕ) → Space
-lentOf heading masks nodes states = record { heading = replicate heading 7; masks = replicate masks 7; nodes = replicate nodes 7; states = replicate states 7 }
+abbrev lentOf : (masks nodes states : ℕ) → Space
+lentOf masks nodes states = record { heading = replicate 4 7; masks = replicate masks 7; nodes = replicate nodes 7; states = replicate states 7 }
 
 -- one entry more than each full size
 abbrev lent : Space
-lent = lentOf 5 12 65 129
+lent = lentOf 12 65 129
 
 -- document 01's example, "after a feed order, its next step opens the gate"; next of the foreign atom 1; next of the own atom 0
 abbrev example : Rule
@@ -107,16 +107,16 @@ isArriving = record {
 -- ---- what each slice holds: C, controller, node count, states held; zero past what is used, and 7 past the full size
 pub record InLentSpace : Type 0 where
   pub empty : session nextGate [] ≡ record {
-    heading = 2 ∷ 0 ∷ 2 ∷ 0 ∷ 7 ∷ [];
+    heading = 2 ∷ 0 ∷ 2 ∷ 0 ∷ [];
     masks = 1 ∷ 2 ∷ (replicate 9 0 ++ (7 ∷ []));
     nodes = nodeWord (node Atom 0 0) ∷ nodeWord (node Next 0 0) ∷ (replicate 62 0 ++ (7 ∷ []));
     states = replicate 128 0 ++ (7 ∷ []);
   }
-  pub one : (session nextGate (first 1)) .heading ≡ 2 ∷ 0 ∷ 2 ∷ 1 ∷ 7 ∷ []
+  pub one : (session nextGate (first 1)) .heading ≡ 2 ∷ 0 ∷ 2 ∷ 1 ∷ []
   pub oneState : (session nextGate (first 1)) .states ≡ stateOf 1 2 ∷ (replicate 127 0 ++ (7 ∷ []))
   -- "entries past the count aren't read": another node, and a second mask that meets the first
   pub entriesPast : leaves (Open 1 (1 ∷ 1 ∷ []) (ruleOf 0 1 (nodeWord (node True 0 0) ∷ 255 ∷ []))) lent ≡ record {
-    heading = 1 ∷ 0 ∷ 1 ∷ 0 ∷ 7 ∷ [];
+    heading = 1 ∷ 0 ∷ 1 ∷ 0 ∷ [];
     masks = 1 ∷ (replicate 10 0 ++ (7 ∷ []));
     nodes = nodeWord (node True 0 0) ∷ (replicate 63 0 ++ (7 ∷ []));
     states = replicate 128 0 ++ (7 ∷ []);
@@ -136,11 +136,10 @@ inLentSpace = record { empty = refl; one = refl; oneState = refl; entriesPast = 
 -- ---- every number
 pub record OpeningRefused : Type 0 where
   -- 13 of each slice that is one entry short, before the rule
-  pub headingShort : openNumber 12 [] (rule []) (lentOf 3 11 64 128) ≡ 13
-  pub masksShort : openNumber 12 [] (rule []) (lentOf 4 10 64 128) ≡ 13
-  pub nodesShort : openNumber 12 [] (rule []) (lentOf 4 11 63 128) ≡ 13
-  pub statesShort : openNumber 12 [] (rule []) (lentOf 4 11 64 127) ≡ 13
-  pub fullSizes : openNumber 2 (1 ∷ 2 ∷ []) example (lentOf 4 11 64 128) ≡ 0
+  pub masksShort : openNumber 12 [] (rule []) (lentOf 10 64 128) ≡ 13
+  pub nodesShort : openNumber 12 [] (rule []) (lentOf 11 63 128) ≡ 13
+  pub statesShort : openNumber 12 [] (rule []) (lentOf 11 64 127) ≡ 13
+  pub fullSizes : openNumber 2 (1 ∷ 2 ∷ []) example (lentOf 11 64 128) ≡ 0
   -- the rule, before C: 2, 3, 4
   pub noNodes : openNumber 12 [] (rule []) lent ≡ 2
   pub ruleOfEleven : openNumber 12 [] (ruleFor 11 (node True 0 0 ∷ [])) lent ≡ 2
@@ -160,7 +159,6 @@ pub record OpeningRefused : Type 0 where
 openingRefused : OpeningRefused
 unfolding calls
 openingRefused = record {
-  headingShort = refl;
   masksShort = refl;
   nodesShort = refl;
   statesShort = refl;
@@ -187,10 +185,8 @@ abbrev holding128 : Space
 holding128 = spaceOf (record { masks = 1 ∷ 2 ∷ []; rule = nextGate; states = replicate 128 0 }) lent
 
 pub record CallsRefused : Type 0 where
-  -- 13 of the slices that are written, before 17 and 18
-  pub arrivalHeadingShort : arriveNumber (stateOf 2048 0) (lentOf 3 11 64 128) ≡ 13
+  -- 13 of the states, which are written, before 17 and 18; a short slice that is only read is not 13
   pub arrivalStatesShort : arriveNumber (stateOf 2048 0) (record { heading = 1 ∷ 0 ∷ 1 ∷ 128 ∷ []; masks = []; nodes = []; states = replicate 127 0 }) ≡ 13
-  pub withdrawalHeadingShort : withdrawNumber (lentOf 3 11 64 128) ≡ 13
   pub withdrawalStatesShort : withdrawNumber (record { heading = 1 ∷ 0 ∷ 1 ∷ 0 ∷ []; masks = []; nodes = []; states = replicate 127 0 }) ≡ 13
   -- 6 before 10, 10 against the state before, none for the first state; then 128 are held and it is 17 "before 6 and 10", up to a withdrawal
   pub arrivals : numbers (Arrive (stateOf 4 3) ∷ Arrive 3 ∷ Arrive (stateOf 4 0) ∷ Arrive (stateOf 0 1) ∷ Arrive 7 ∷ []) (session nextGate []) ≡ 6 ∷ 0 ∷ 6 ∷ 10 ∷ 0 ∷ []
@@ -207,9 +203,7 @@ pub record CallsRefused : Type 0 where
 callsRefused : CallsRefused
 unfolding calls
 callsRefused = record {
-  arrivalHeadingShort = refl;
   arrivalStatesShort = refl;
-  withdrawalHeadingShort = refl;
   withdrawalStatesShort = refl;
   arrivals = refl;
   full = refl;
@@ -223,11 +217,11 @@ callsRefused = record {
 -- "A refused call, the opening too, changes nothing, lent space included"
 pub record Untouched : Type 0 where
   pub limits : leaves (Open 12 (1 ∷ 2 ∷ []) example) lent ≡ lent
-  pub lentShort : leaves (Open 2 (1 ∷ 2 ∷ []) example) (lentOf 4 11 64 127) ≡ lentOf 4 11 64 127
+  pub lentShort : leaves (Open 2 (1 ∷ 2 ∷ []) example) (lentOf 11 64 127) ≡ lentOf 11 64 127
   pub oldSession : leaves (Open 2 (1 ∷ 3 ∷ []) nextGate) (session example (first 5)) ≡ session example (first 5)
   pub arrival : leaves (Arrive (stateOf 4 0)) (session example (first 5)) ≡ session example (first 5)
   pub outputBroken : leaves (Arrive 0) (session example (first 5)) ≡ session example (first 5)
-  pub arrivalShort : leaves (Arrive 0) (lentOf 4 11 64 127) ≡ lentOf 4 11 64 127
+  pub arrivalShort : leaves (Arrive 0) (lentOf 11 64 127) ≡ lentOf 11 64 127
   pub arrivalFull : leaves (Arrive 0) (saying (1 ∷ 0 ∷ 1 ∷ 128 ∷ [])) ≡ saying (1 ∷ 0 ∷ 1 ∷ 128 ∷ [])
   pub withdrawal : leaves Withdraw (session example []) ≡ session example []
 

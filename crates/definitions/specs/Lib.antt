@@ -15,6 +15,7 @@ pub mod RecordingText
 pub mod Operations
 pub mod Sessions
 pub mod Program
+pub mod Watching
 pub mod LinePrograms
 pub mod Longest
 pub mod Why

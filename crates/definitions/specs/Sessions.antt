@@ -14,16 +14,16 @@ use Rattle.definitions.specs.Operations.{Answer, answer, tooShort, left,
 
 -- ---- what a session holds
 
--- the heading: C, controller, node count, states held
-abbrev pub headingSize : ℕ
-headingSize = 4
-
--- the lent slices of a session, whatever stands in them
+-- the lent space of a session, whatever stands in it; the heading is an array of four: C, controller, node count, states held
 pub record Space : Type 0 where
   pub heading : List ℕ
   pub masks : List ℕ
   pub nodes : List ℕ
   pub states : List ℕ
+
+-- the space that a call is lent, part by part; a call that isn't lent a part doesn't read it (`arrival-unlent`, `withdrawal-unlent`)
+abbrev pub lentSpace : (heading masks nodes states : List ℕ) → Space
+lentSpace heading masks nodes states = record { heading = heading; masks = masks; nodes = nodes; states = states }
 
 -- what a session holds: "masks, a rule and its controller", and the states that arrived and weren't withdrawn
 pub record Held : Type 0 where
@@ -42,7 +42,7 @@ headingOf a = length (a .masks) ∷ a .rule .controller ∷ a .rule .count ∷ l
 -- a session in lent space: "Accepted, unused entries are zero. What is lent past the full size is never touched"
 unfoldable pub spaceOf : (a : Held) (h : Space) → Space
 spaceOf a h = record {
-  heading = left accepted headingSize (headingOf a) (h .heading);
+  heading = headingOf a;
   masks = left accepted maxControllers (a .masks) (h .masks);
   nodes = left accepted maxRuleNodes (a .rule .nodes) (h .nodes);
   states = left accepted maxStates (a .states) (h .states);
@@ -79,11 +79,10 @@ unfoldable pub openRefusal : (C : ℕ) (masks : List ℕ) (r : Rule) → ℕ
 openRefusal C masks r =
     orElse (ruleRefusal r) (orElse (controllersRefusal C) (orElse (openMasksRefusal C masks) (controllerRefusal C (r .controller))))
 
--- the opening: 13 for each of the four slices, then this
+-- the opening: 13 for each of the three slices, then this
 unfoldable pub openNumber : (C : ℕ) (masks : List ℕ) (r : Rule) (h : Space) → ℕ
 openNumber C masks r h =
-    pick (tooShort headingSize (h .heading) || tooShort maxControllers (h .masks) || tooShort maxRuleNodes (h .nodes) || tooShort maxStates (h .states)) lentShort
-    (openRefusal C masks r)
+    pick (tooShort maxControllers (h .masks) || tooShort maxRuleNodes (h .nodes) || tooShort maxStates (h .states)) lentShort (openRefusal C masks r)
 
 -- "17, an arrival when 128 states are held, tested before 6 and 10"; "Arriving states obey the output rule against the state before". C too has its
 -- limits, in contents that no call made
@@ -91,19 +90,17 @@ unfoldable pub arrivalRefusal : (C : ℕ) (masks : List ℕ) (held : ℕ) (state
 arrivalRefusal C masks held states s =
     pick (leb maxStates held) sessionFull (orElse (controllersRefusal C) (stateRefusal C (take C masks) held (getD states (held - 1) 0) s))
 
--- an arrival: 13 for the two slices that it writes, then this
+-- an arrival: 13 for the states, the slice that it writes, then this
 unfoldable pub arriveNumber : (s : ℕ) (h : Space) → ℕ
-arriveNumber s h =
-    pick (tooShort headingSize (h .heading) || tooShort maxStates (h .states)) lentShort
-    (arrivalRefusal (controllersIn h) (h .masks) (heldIn h) (h .states) s)
+arriveNumber s h = pick (tooShort maxStates (h .states)) lentShort (arrivalRefusal (controllersIn h) (h .masks) (heldIn h) (h .states) s)
 
 -- "18, a withdrawal from an empty session". Over 128 states, in contents that no call made, are outside their limits
 unfoldable pub withdrawalRefusal : (held : ℕ) → ℕ
 withdrawalRefusal held = pick (eqb held 0) sessionEmpty (pick (ltb maxStates held) recordingLimits accepted)
 
--- a withdrawal: 13 for the two slices that it writes, then this
+-- a withdrawal: 13 for the states, then this
 unfoldable pub withdrawNumber : (h : Space) → ℕ
-withdrawNumber h = pick (tooShort headingSize (h .heading) || tooShort maxStates (h .states)) lentShort (withdrawalRefusal (heldIn h))
+withdrawNumber h = pick (tooShort maxStates (h .states)) lentShort (withdrawalRefusal (heldIn h))
 
 -- ---- what an accepted call leaves
 
@@ -204,7 +201,6 @@ pub record Sound (a : Held) : Type 0 where
 
 -- each slice has its full size
 pub record Full (h : Space) : Type 0 where
-  pub heading : headingSize ≤ length (h .heading)
   pub masks : maxControllers ≤ length (h .masks)
   pub nodes : maxRuleNodes ≤ length (h .nodes)
   pub states : maxStates ≤ length (h .states)

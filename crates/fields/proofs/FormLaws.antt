@@ -57,6 +57,10 @@ field-none : (p : Parsed ℕ) → p ≡ malformed → field.Malformed ≡ exact 
 unfolding exact
 field-none p e = rw e
 
+field-capped : (p : Parsed ℕ) → p ≡ malformed → field.Malformed ≡ capped p
+unfolding capped
+field-capped p e = rw e
+
 -- ---- `decimals`
 module _ (s : List ℕ) (i : ℕ) (is : i ≡ before tab s) where
   -- `decimals`, no tab: `twoFields` is malformed
@@ -166,6 +170,10 @@ module _ (s w : List ℕ) (r : Bool) (rs : r ≡ (same (upTo tab s) w && has tab
   unfolding headingForm
   decimals-other f = capped-none _ (other-word (twoFields decimal decimal heading) f)
 
+  -- `worded_decimal`, the word doesn't open the line: `worded` is malformed
+  pub decimal-other : r ≡ false → field.Malformed ≡ capped (worded w decimal s)
+  decimal-other f = field-capped _ (other-word decimal f)
+
   -- `worded_hexadecimal`, the word doesn't open the line: `worded` is malformed
   pub hexadecimal-other : (n : ℕ) → r ≡ false → field.Malformed ≡ exact (worded w (hexadecimal n) s)
   hexadecimal-other n f = field-none _ (other-word (hexadecimal n) f)
@@ -180,6 +188,10 @@ module _ (s w : List ℕ) (r : Bool) (rs : r ≡ (same (upTo tab s) w && has tab
     unfolding headingForm
     decimals-right p e = rw (right-word (twoFields decimal decimal heading) f, ← after-part tab s i is t ts) e
 
+    -- `worded_decimal`, the word opens the line: the field after it is `worded`
+    pub decimal-right : (p : Field) → p ≡ capped (decimal t) → p ≡ capped (worded w decimal s)
+    decimal-right p e = rw (right-word decimal f, ← after-part tab s i is t ts) e
+
     -- `worded_hexadecimal`, the word opens the line: the field after it is `worded`
     pub hexadecimal-right : (n : ℕ) (p : Field) → p ≡ exact (hexadecimal n t) → p ≡ exact (worded w (hexadecimal n) s)
     hexadecimal-right n p e = rw (right-word (hexadecimal n) f, ← after-part tab s i is t ts) e
@@ -189,7 +201,7 @@ module _ (s w : List ℕ) (r : Bool) (rs : r ≡ (same (upTo tab s) w && has tab
         → p ≡ exactPair (worded w (twoFields (hexadecimal m) (hexadecimal n) heading) s)
     hexadecimals-right m n p e = rw (right-word (twoFields (hexadecimal m) (hexadecimal n) heading) f, ← after-part tab s i is t ts) e
 
-pub ruleset worded-laws = (part-laws, word-ends, decimals-other, hexadecimal-other, hexadecimals-other, decimals-right, hexadecimal-right, hexadecimals-right)
+pub ruleset worded-laws = (part-laws, word-ends, decimals-other, decimal-other, hexadecimal-other, hexadecimals-other, decimals-right, decimal-right, hexadecimal-right, hexadecimals-right)
 
 -- ---- two fields made into one thing
 abbrev pub made : {A : Type 0} → (ℕ → ℕ → A) → Parsed Heading → Parsed A

@@ -3,7 +3,7 @@ ghost use mathlib.Core.Path.{_≡_};
 ghost use mathlib.Core.Bool.{_&&_};
 ghost use Prim.Native.Nat.{_≤_};
 ghost use Rattle.definitions.specs.Lines.{tab, before, has, upTo, same, decimal, hexadecimal, heading, twoFields, worded, headingForm};
-ghost use Rattle.fields.specs.Fields.{widest, exact};
+ghost use Rattle.fields.specs.Fields.{widest, capped, exact};
 ghost use Rattle.fields.specs.Forms.{exactPair, cappedPair, Widths};
 use super::number;
 use super::number::Field;
@@ -70,6 +70,17 @@ pub fn worded_decimals(s: &[u8], word: &[u8]) -> Pair
         return decimals(scan::after(s, i));
     }
     Pair::Malformed
+}
+
+// A line of a word and a decimal field.
+pub fn worded_decimal(s: &[u8], word: &[u8]) -> Field
+    ensures { λ r. ⌜ r ≡ capped (worded (now (word .entry)) decimal (now (s .entry))) ⌝ }
+{
+    let i = scan::until_byte(s, scan::TAB);
+    if opens(s, i, word) {
+        return number::decimal(scan::after(s, i));
+    }
+    Field::Malformed
 }
 
 // A line of a word and a hexadecimal field.

@@ -1,8 +1,11 @@
-// Lent space: zeroing a part of it. What an operation leaves there is in proofs/LeftLaws.
+// Lent space: zeroing a part of it, and laying words over its start. What an operation leaves there is in proofs/LeftLaws.
 ghost use mathlib.Core.Path.{_≡_};
+ghost use mathlib.Core.List.{_++_};
 ghost use Prim.Native.Nat.{_≤_};
-ghost use lib.ListN.{length};
-ghost use Rattle.lent.specs.Space.{cleared};
+ghost use lib.ListN.{length, take, drop};
+ghost use Rattle.definitions.specs.Limits.{accepted};
+ghost use Rattle.definitions.specs.Operations.{left};
+ghost use Rattle.lent.specs.Space.{cleared, Layable};
 
 // Zeroes the entries from..to of states or rows.
 pub fn clear_u64(longs: &mut [u64], from: usize, to: usize)
@@ -32,4 +35,23 @@ pub fn clear_u8(bytes: &mut [u8], from: usize, to: usize)
     for i in from..to {
         bytes[i] = 0;
     }
+}
+
+// Copies the first n words.
+fn copy_u32(words: &[u32], n: usize, lent: &mut [u32])
+    requires { ⌜ (n ≤ length (now words)) × (n ≤ length (now lent)) ⌝ }
+    ensures { λ _. ⌜ now (lent .exit) ≡ take n (now (words .entry)) ++ drop n (now (lent .entry)) ⌝ }
+{
+    for i in 0..n {
+        lent[i] = words[i];
+    }
+}
+
+// Lays the first n words over lent space: "Accepted, unused entries are zero".
+pub fn lay_u32(words: &[u32], n: usize, full: usize, lent: &mut [u32])
+    requires { ⌜ Layable (now words) n full (now lent) ⌝ }
+    ensures { λ _. ⌜ now (lent .exit) ≡ left accepted full (take n (now (words .entry))) (now (lent .entry)) ⌝ }
+{
+    copy_u32(words, n, lent);
+    clear_u32(lent, n, full);
 }

@@ -1,21 +1,26 @@
-// The operations of document 01, reading a rule in one line, and the readings behind a verdict: each answer and each lent slice is what the definition
+// The operations of document 01, reading a rule in one line, the readings behind a verdict, and sessions: each answer and each lent slice is what the definition
 // of its operation says, on every input. `ruleRead` to `rewritten` list document 01's number and values for each case of an answer.
 // What these contracts give together: `same-verdicts-all-four-times` (proofs/SameVerdicts), schedule independence, and `same-bits-same-verdict`
 // (proofs/SameEvidence), what the readings behind a verdict promise; `announced-verdicts-stay` (proofs/EarlyVerdicts), which verdicts stay when the
 // recording goes on.
 ghost use mathlib.Core.Path.{_≡_};
 ghost use mathlib.Core.Bool.{true, false};
+ghost use mathlib.Core.List.{[]};
+ghost use lib.Dec.{eqb};
+ghost use lib.ListN.{getD};
 ghost use Rattle.definitions.specs.Tables.{ruleOf, tableOf};
 ghost use Rattle.definitions.specs.Recordings.{recordingOf};
 ghost use Rattle.definitions.specs.Operations.{readRuleAnswer, readRuleNodes, writeRuleAnswer, writeRuleText, readRecordingAnswer, readRecordingMasks, readRecordingStates};
 ghost use Rattle.definitions.specs.Operations.{readJointHeading, readJointNodes, readJointMasks, readJointStates, readJointPart, projectAnswer, projectPlaces, judgeLocalAnswer};
 ghost use Rattle.definitions.specs.Operations.{evidenceAnswer, evidencePairs, rewriteAnswer, rewriteTable, judgeRecordingAnswer, judgeRecordingRows};
 ghost use Rattle.definitions.specs.OneLine.{readLineAnswer, readLineNodes};
+ghost use Rattle.definitions.specs.Sessions.{lentSpace, openNumber, arriveNumber, withdrawNumber, leaves, Open, Arrive, Withdraw, verdictsAnswer};
 ghost use Rattle.rule_reader.specs.Reading.{readAnswer as ruleRead};
 ghost use Rattle.rule_writer.specs.Writing.{writeAnswer as ruleWritten};
 ghost use Rattle.recording_reader.specs.Reading.{readAnswer as recordingRead};
 ghost use Rattle.projection.specs.Answers.{answerOf as projected};
 ghost use Rattle.judges.specs.Verdicts.{answerOf as judged};
+ghost use Rattle.sessions.specs.Answers.{answerOf as sessionJudged, saysNone};
 ghost use Rattle.evidence.specs.Answers.{answerOf as explained};
 ghost use Rattle.rewriting.specs.Answers.{answerOf as rewritten};
 ghost use Rattle.ragyvosin.specs.Parts.{placeIn, bytesIn};
@@ -30,6 +35,8 @@ pub use rule_reader::RuleRead;
 pub use rule_writer::RuleWritten;
 use rules::headings::RuleHeading;
 use rules::headings::TableHeading;
+use sessions::opening::Opening;
+pub use sessions::query::SessionVerdicts;
 
 // "read a rule (controller, count, nodes)"
 pub fn read_rule(text: &[u8], nodes: &mut [u32]) -> RuleRead
@@ -201,4 +208,61 @@ pub fn judge_recording(
         count: states_count,
     };
     judges::whole::judge_recording(table, nodes, recording, masks, states, c, rows)
+}
+
+// "A session opens on masks, a rule and its controller": the number; the heading is C, controller, node count, states held
+pub fn open_session(
+    controllers: usize,
+    owned: &[u32],
+    controller: usize,
+    count: usize,
+    rule: &[u32],
+    heading: &mut [usize; 4],
+    masks: &mut [u32],
+    nodes: &mut [u32],
+    states: &mut [u64],
+) -> u8
+    ensures { λ r. ⌜ r ≡ openNumber controllers (now (owned .entry)) (ruleOf controller count (now (rule .entry))) (lentSpace (now (heading .entry)) (now (masks .entry)) (now (nodes .entry)) (now (states .entry))) ⌝ }
+    ensures { λ _. ⌜ now (heading .exit) ≡ (leaves (Open controllers (now (owned .entry)) (ruleOf controller count (now (rule .entry)))) (lentSpace (now (heading .entry)) (now (masks .entry)) (now (nodes .entry)) (now (states .entry)))) .heading ⌝ }
+    ensures { λ _. ⌜ now (masks .exit) ≡ (leaves (Open controllers (now (owned .entry)) (ruleOf controller count (now (rule .entry)))) (lentSpace (now (heading .entry)) (now (masks .entry)) (now (nodes .entry)) (now (states .entry)))) .masks ⌝ }
+    ensures { λ _. ⌜ now (nodes .exit) ≡ (leaves (Open controllers (now (owned .entry)) (ruleOf controller count (now (rule .entry)))) (lentSpace (now (heading .entry)) (now (masks .entry)) (now (nodes .entry)) (now (states .entry)))) .nodes ⌝ }
+    ensures { λ _. ⌜ now (states .exit) ≡ (leaves (Open controllers (now (owned .entry)) (ruleOf controller count (now (rule .entry)))) (lentSpace (now (heading .entry)) (now (masks .entry)) (now (nodes .entry)) (now (states .entry)))) .states ⌝ }
+{
+    let opening = Opening {
+        controllers: controllers,
+        controller: controller,
+        count: count,
+    };
+    sessions::opening::open_session(opening, owned, rule, heading, masks, nodes, states)
+}
+
+// "Take states as they arrive": the number
+pub fn arrive(state: u64, heading: &mut [usize; 4], masks: &[u32], states: &mut [u64]) -> u8
+    ensures { λ r. ⌜ r ≡ arriveNumber state (lentSpace (now (heading .entry)) (now (masks .entry)) [] (now (states .entry))) ⌝ }
+    ensures { λ _. ⌜ now (heading .exit) ≡ (leaves (Arrive state) (lentSpace (now (heading .entry)) (now (masks .entry)) [] (now (states .entry)))) .heading ⌝ }
+    ensures { λ _. ⌜ now (states .exit) ≡ (leaves (Arrive state) (lentSpace (now (heading .entry)) (now (masks .entry)) [] (now (states .entry)))) .states ⌝ }
+{
+    sessions::arrival::arrive(state, heading, masks, states)
+}
+
+// "let the last one be withdrawn": the number
+pub fn withdraw(heading: &mut [usize; 4], states: &mut [u64]) -> u8
+    ensures { λ r. ⌜ r ≡ withdrawNumber (lentSpace (now (heading .entry)) [] [] (now (states .entry))) ⌝ }
+    ensures { λ _. ⌜ now (heading .exit) ≡ (leaves Withdraw (lentSpace (now (heading .entry)) [] [] (now (states .entry)))) .heading ⌝ }
+    ensures { λ _. ⌜ now (states .exit) ≡ (leaves Withdraw (lentSpace (now (heading .entry)) [] [] (now (states .entry)))) .states ⌝ }
+{
+    sessions::withdrawal::withdraw(heading, states)
+}
+
+// "both verdicts" of a session; "An empty session has no verdict, and its answer says so"
+pub fn session_verdicts(
+    heading: &[usize; 4],
+    masks: &[u32],
+    nodes: &[u32],
+    states: &[u64],
+) -> SessionVerdicts
+    ensures { λ r. ⌜ sessionJudged r ≡ verdictsAnswer (lentSpace (now (heading .entry)) (now (masks .entry)) (now (nodes .entry)) (now (states .entry))) ⌝ }
+    ensures { λ r. ⌜ saysNone r ≡ eqb (getD (now (heading .entry)) 3 0) 0 ⌝ }
+{
+    sessions::query::session_verdicts(heading, masks, nodes, states)
 }

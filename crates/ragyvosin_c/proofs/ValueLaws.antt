@@ -8,14 +8,18 @@ use Rattle.definitions.specs.Operations.{Answer, readJointHeading, readJointPar
 use Rattle.joint_reading.specs.Scanning.{partOf}
 use Rattle.joint_reading.specs.Joining.{headingOf, Joined}
 use Rattle.joint_reading.specs.declared.scan.Found.{Found}
-use Rattle.c_answers.specs.Values.{heading, partValues}
+use Rattle.c_answers.specs.Values.{heading, partValues, sessionValues}
 
 -- ---- the operations: what was laid is the operation's answer
 -- each `rgv_` operation but `rgv_read_joint`: the values laid are `heading` of the operation's answer
 pub carried : (width : ℕ) (l : List ℕ) (a b : Answer) → l ≡ heading width a → a ≡ b → l ≡ heading width b
 carried width l a b e f = e ∙ ap (heading width) f
 
-pub ruleset operation-laws = (needs, carried)
+-- `rgv_session_verdicts`: the values laid are `sessionValues` of the query's answer
+pub carried-session : (l : List ℕ) (a b : Answer) → l ≡ sessionValues a → a ≡ b → l ≡ sessionValues b
+carried-session l a b e f = e ∙ ap sessionValues f
+
+pub ruleset operation-laws = (needs, carried, carried-session)
 
 -- ---- the joint reading
 -- `rgv_read_joint`: the values laid are `readJointHeading` and `partValues` of `readJointPart`

@@ -1,14 +1,15 @@
 // The operations for C: each returns its number, and its values lie in `values`, zeros on a refusal.
 ghost use mathlib.Core.Path.{_≡_};
 ghost use mathlib.Core.Bool.{true, false};
-ghost use mathlib.Core.List.{_∷_, _++_};
+ghost use mathlib.Core.List.{[], _∷_, _++_};
 ghost use Rattle.definitions.specs.Tables.{ruleOf, tableOf};
 ghost use Rattle.definitions.specs.Recordings.{recordingOf};
 ghost use Rattle.definitions.specs.Operations.{readRuleAnswer, readRuleNodes, writeRuleAnswer, writeRuleText, readRecordingAnswer, readRecordingMasks, readRecordingStates};
 ghost use Rattle.definitions.specs.Operations.{readJointHeading, readJointNodes, readJointMasks, readJointStates, readJointPart, projectAnswer, projectPlaces, judgeLocalAnswer};
 ghost use Rattle.definitions.specs.Operations.{evidenceAnswer, evidencePairs, rewriteAnswer, rewriteTable, judgeRecordingAnswer, judgeRecordingRows};
 ghost use Rattle.definitions.specs.OneLine.{readLineAnswer, readLineNodes};
-ghost use Rattle.c_answers.specs.Values.{heading, partValues, isSet};
+ghost use Rattle.definitions.specs.Sessions.{lentSpace, openNumber, arriveNumber, withdrawNumber, leaves, Open, Arrive, Withdraw, verdictsAnswer};
+ghost use Rattle.c_answers.specs.Values.{heading, partValues, sessionValues, isSet};
 use c_answers::of_explanation;
 use c_answers::of_found;
 use c_answers::of_judgement;
@@ -17,6 +18,7 @@ use c_answers::of_recording_read;
 use c_answers::of_rewriting;
 use c_answers::of_rule_read;
 use c_answers::of_rule_written;
+use c_answers::of_session_verdicts;
 use joint_reading::join;
 
 // Values: controller, node count.
@@ -265,6 +267,79 @@ pub extern "C" fn rgv_judge_recording(
         rows,
     );
     let laid = of_judgement(answer);
+    let laid_values = laid.values;
+    *values = laid_values;
+    laid.number
+}
+
+// The heading: C, controller, node count, states held.
+#[no_mangle]
+pub extern "C" fn rgv_open_session(
+    controllers: usize,
+    owned: &[u32],
+    controller: usize,
+    count: usize,
+    rule: &[u32],
+    heading: &mut [usize; 4],
+    masks: &mut [u32],
+    nodes: &mut [u32],
+    states: &mut [u64],
+) -> u8
+    ensures { λ r. ⌜ r ≡ openNumber controllers (now (owned .entry)) (ruleOf controller count (now (rule .entry))) (lentSpace (now (heading .entry)) (now (masks .entry)) (now (nodes .entry)) (now (states .entry))) ⌝ }
+    ensures { λ _. ⌜ now (heading .exit) ≡ (leaves (Open controllers (now (owned .entry)) (ruleOf controller count (now (rule .entry)))) (lentSpace (now (heading .entry)) (now (masks .entry)) (now (nodes .entry)) (now (states .entry)))) .heading ⌝ }
+    ensures { λ _. ⌜ now (masks .exit) ≡ (leaves (Open controllers (now (owned .entry)) (ruleOf controller count (now (rule .entry)))) (lentSpace (now (heading .entry)) (now (masks .entry)) (now (nodes .entry)) (now (states .entry)))) .masks ⌝ }
+    ensures { λ _. ⌜ now (nodes .exit) ≡ (leaves (Open controllers (now (owned .entry)) (ruleOf controller count (now (rule .entry)))) (lentSpace (now (heading .entry)) (now (masks .entry)) (now (nodes .entry)) (now (states .entry)))) .nodes ⌝ }
+    ensures { λ _. ⌜ now (states .exit) ≡ (leaves (Open controllers (now (owned .entry)) (ruleOf controller count (now (rule .entry)))) (lentSpace (now (heading .entry)) (now (masks .entry)) (now (nodes .entry)) (now (states .entry)))) .states ⌝ }
+{
+    ragyvosin::open_session(
+        controllers,
+        owned,
+        controller,
+        count,
+        rule,
+        heading,
+        masks,
+        nodes,
+        states,
+    )
+}
+
+#[no_mangle]
+pub extern "C" fn rgv_arrive(
+    state: u64,
+    heading: &mut [usize; 4],
+    masks: &[u32],
+    states: &mut [u64],
+) -> u8
+    ensures { λ r. ⌜ r ≡ arriveNumber state (lentSpace (now (heading .entry)) (now (masks .entry)) [] (now (states .entry))) ⌝ }
+    ensures { λ _. ⌜ now (heading .exit) ≡ (leaves (Arrive state) (lentSpace (now (heading .entry)) (now (masks .entry)) [] (now (states .entry)))) .heading ⌝ }
+    ensures { λ _. ⌜ now (states .exit) ≡ (leaves (Arrive state) (lentSpace (now (heading .entry)) (now (masks .entry)) [] (now (states .entry)))) .states ⌝ }
+{
+    ragyvosin::arrive(state, heading, masks, states)
+}
+
+#[no_mangle]
+pub extern "C" fn rgv_withdraw(heading: &mut [usize; 4], states: &mut [u64]) -> u8
+    ensures { λ r. ⌜ r ≡ withdrawNumber (lentSpace (now (heading .entry)) [] [] (now (states .entry))) ⌝ }
+    ensures { λ _. ⌜ now (heading .exit) ≡ (leaves Withdraw (lentSpace (now (heading .entry)) [] [] (now (states .entry)))) .heading ⌝ }
+    ensures { λ _. ⌜ now (states .exit) ≡ (leaves Withdraw (lentSpace (now (heading .entry)) [] [] (now (states .entry)))) .states ⌝ }
+{
+    ragyvosin::withdraw(heading, states)
+}
+
+// Values: 1, weak verdict, strong verdict; zeros where no state is held.
+#[no_mangle]
+pub extern "C" fn rgv_session_verdicts(
+    heading: &[usize; 4],
+    masks: &[u32],
+    nodes: &[u32],
+    states: &[u64],
+    values: &mut [usize; 3],
+) -> u8
+    ensures { λ r. ⌜ r ∷ now (values .exit) ≡ sessionValues (verdictsAnswer (lentSpace (now (heading .entry)) (now (masks .entry)) (now (nodes .entry)) (now (states .entry)))) ⌝ }
+{
+    let answer = ragyvosin::session_verdicts(heading, masks, nodes, states);
+    let laid = of_session_verdicts(answer);
     let laid_values = laid.values;
     *values = laid_values;
     laid.number

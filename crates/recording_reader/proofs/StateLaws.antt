@@ -44,11 +44,11 @@ digits-few C r e =
     (λ z. let is : r ≡ 3 = e ∙ pick-true {A = ℕ} (ltb twoDigitControllers C) 3 2 z in record { one = omega arith; two = omega arith })
     (λ z. let is : r ≡ 2 = e ∙ pick-false {A = ℕ} (ltb twoDigitControllers C) 3 2 z in record { one = omega arith; two = omega arith })
 
-state-not : (C : ℕ) (s : List ℕ) → worded atWord (twoFields (hexadecimal (markDigits C)) (hexadecimal wordDigits) heading) s ≡ malformed → stateForm C s ≡ malformed
+pub state-not : (C : ℕ) (s : List ℕ) → worded atWord (twoFields (hexadecimal (markDigits C)) (hexadecimal wordDigits) heading) s ≡ malformed → stateForm C s ≡ malformed
 unfolding stateForm onParsed
 state-not C s e = worded-made stateOf (hexadecimal (markDigits C)) (hexadecimal wordDigits) atWord s ∙ rw e
 
-state-formed : (C : ℕ) (s : List ℕ) (a b : ℕ) → worded atWord (twoFields (hexadecimal (markDigits C)) (hexadecimal wordDigits) heading) s ≡ formed (heading a b) → stateForm C s ≡ formed (stateOf a b)
+pub state-formed : (C : ℕ) (s : List ℕ) (a b : ℕ) → worded atWord (twoFields (hexadecimal (markDigits C)) (hexadecimal wordDigits) heading) s ≡ formed (heading a b) → stateForm C s ≡ formed (stateOf a b)
 unfolding stateForm onParsed
 state-formed C s a b e = worded-made stateOf (hexadecimal (markDigits C)) (hexadecimal wordDigits) atWord s ∙ rw e
 

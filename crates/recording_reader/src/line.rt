@@ -33,10 +33,10 @@ pub enum StateRead {
 }
 
 // The digits of a mask, and of a word of atoms.
-const WORD_DIGITS: usize = 8;
+pub const WORD_DIGITS: usize = 8;
 
 // The digits of run marks.
-fn mark_digits(controllers: usize) -> usize
+pub fn mark_digits(controllers: usize) -> usize
     ensures { λ r. ⌜ r ≡ markDigits controllers ⌝ }
 {
     pick_index(Limits::TWO_DIGIT_CONTROLLERS < controllers, 3, 2)

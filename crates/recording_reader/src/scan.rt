@@ -25,7 +25,7 @@ pub struct Scanned {
 }
 
 // The mask lines from `start` on, into `masks`, up to the first refusal.
-fn scan_masks(text: &[u8], start: usize, controllers: usize, masks: &mut [u32]) -> Stopped
+pub fn scan_masks(text: &[u8], start: usize, controllers: usize, masks: &mut [u32]) -> Stopped
     requires { ⌜ MaskRoom controllers start (now text) (now masks) ⌝ }
     ensures { λ r. ⌜ LinesScanned (scanMasks controllers [] (drop start (now (text .entry)))) (now (text .entry)) (now (masks .entry)) r (now (masks .exit)) ⌝ }
 {

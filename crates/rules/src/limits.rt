@@ -65,4 +65,8 @@ impl Refusal {
     pub const LINE_FORM: u8 = 15;
 
     pub const BRACKETS_DEEP: u8 = 16;
+
+    pub const SESSION_FULL: u8 = 17;
+
+    pub const SESSION_EMPTY: u8 = 18;
 }

@@ -68,9 +68,12 @@ module _ (r : Rule) (R : Recording) (good : Accepted r R) where
   settled-both : (weak : Bool) → own r R weak ≡ not weak → (d : Bool) → own r R d ≡ not weak
   settled-both = both-settled (own r R) own-strong-is-weak
 
+  settled-local : (weak : Bool) → own r R weak ≡ not weak → judgeLocalAnswer r R ≡ answer accepted (bit (not weak) ∷ bit (not weak) ∷ [])
+  settled-local weak e = local-judging r R good ∙ rw (settled-both weak e true, settled-both weak e false)
+
   settled-each : (weak : Bool) → own r R weak ≡ not weak → (l₁ l₂ : Lent) → Stays r R l₁ l₂ (bit (not weak))
   settled-each weak e l₁ l₂ =
-      let a : judgeLocalAnswer r R ≡ answer accepted (bit (not weak) ∷ bit (not weak) ∷ []) = local-judging r R good ∙ rw (settled-both weak e true, settled-both weak e false) in
+      let a = settled-local weak e in
       record {
         locally = a;
         plain = rewritten-judging false r R (l₁ .table) (l₁ .rows) good (l₁ .fullTable) (l₁ .fullRows) ∙ a;
@@ -90,9 +93,16 @@ module _ (r : Rule) (A B : Recording) (goodA : Accepted r A) (goodB : Accepted r
       ∙ verdict-stays (maskOf A (r .controller)) (localTrace A (r .controller)) (localTrace B (r .controller)) goes-on
       (nodesIn (r .count) (r .nodes)) (length (nodesIn (r .count) (r .nodes)) - 1) weak (places-some r A goodA true) e
 
+  settled-own : (weak : Bool) → chosen weak (judgeLocalAnswer r A) ≡ bit (not weak) → own r B weak ≡ not weak
+  settled-own weak e = own-stays weak (bit-injective (own r A weak) (not weak) (sym (chosen-own r A goodA weak) ∙ e))
+
   -- for either reading: a strong yes or a weak no
   pub settled-stays : (weak : Bool) → chosen weak (judgeLocalAnswer r A) ≡ bit (not weak) → (l₁ l₂ : Lent) → Stays r B l₁ l₂ (bit (not weak))
-  settled-stays weak e = settled-each r B goodB weak (own-stays weak (bit-injective (own r A weak) (not weak) (sym (chosen-own r A goodA weak) ∙ e)))
+  settled-stays weak e = settled-each r B goodB weak (settled-own weak e)
+
+  -- the same, on the local trace alone
+  pub settled-stays-locally : (weak : Bool) → chosen weak (judgeLocalAnswer r A) ≡ bit (not weak) → judgeLocalAnswer r B ≡ answer accepted (bit (not weak) ∷ bit (not weak) ∷ [])
+  settled-stays-locally weak e = settled-local r B goodB weak (settled-own weak e)
 
   -- verdicts that may be announced are those of every such recording
   pub announced-same : announced (verdictsOn r A) ≡ true → verdictsOn r B ≡ verdictsOn r A

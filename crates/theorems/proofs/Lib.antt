@@ -74,4 +74,5 @@ pub mod SessionChecks
 pub mod Sessions
 pub mod SessionCalls
 pub mod SessionVerdicts
+pub mod SessionEarly
 pub mod MadeSessions

@@ -14,8 +14,8 @@ use Rattle.definitions.specs.Bounded.{pick}
 use Rattle.definitions.specs.Tables.{Rule}
 use Rattle.definitions.specs.Recordings.{stateRefusal, recordingRefusal}
 use Rattle.definitions.specs.Operations.{tooShort}
-use Rattle.definitions.specs.Sessions.{headingSize, Space, Held, recordingHeld, spaceOf, controllersRefusal, openRefusal, openNumber, arrivalRefusal, arriveNumber, withdrawalRefusal, withdrawNumber, opened, arrived, withdrawn, Call, Open, Arrive, Withdraw, numberOf, acceptedLeaves, leaves, leavesAll, withStates, oneMore, oneLess, admits, heldAfter, heldAfterAll, Sound, Full, Made}
-use Rattle.theorems.proofs.Choice.{both-false, pick-true, pick-false, pick-must, pick-other}
+use Rattle.definitions.specs.Sessions.{Space, lentSpace, Held, recordingHeld, spaceOf, controllersRefusal, openRefusal, openNumber, arrivalRefusal, arriveNumber, withdrawalRefusal, withdrawNumber, opened, arrived, withdrawn, Call, Open, Arrive, Withdraw, numberOf, acceptedLeaves, leaves, leavesAll, withStates, oneMore, oneLess, admits, heldAfter, heldAfterAll, Sound, Full, Made}
+use Rattle.theorems.proofs.Choice.{by-test, both-false, pick-true, pick-false, pick-must, pick-other}
 use Rattle.theorems.proofs.Inversions.{first-accepted}
 use Rattle.theorems.proofs.SessionChecks.{held-limits, few-states, first-state, recording-more, opened-sound, less-sound}
 use Rattle.theorems.proofs.Sessions.{space-controllers, space-held, space-masks, space-last, space-full, space-over, space-arrived, space-withdrawn}
@@ -25,6 +25,26 @@ pub refused-changes-nothing : (c : Call) (h : Space) → (numberOf c h ≡ 0 →
 unfolding leaves
 refused-changes-nothing c h n = pick-false (eqb (numberOf c h) accepted) (acceptedLeaves c h) h (ne-eqb (numberOf c h) accepted n)
 
+-- ---- a call that isn't lent a part neither reads it nor changes it
+
+-- an arrival, and the nodes
+pub arrival-unlent : (s : ℕ) (heading masks nodes states : List ℕ) →
+    (arriveNumber s (lentSpace heading masks [] states) ≡ arriveNumber s (lentSpace heading masks nodes states))
+    × (lentSpace ((leaves (Arrive s) (lentSpace heading masks [] states)) .heading) masks nodes ((leaves (Arrive s) (lentSpace heading masks [] states)) .states)
+    ≡ leaves (Arrive s) (lentSpace heading masks nodes states))
+unfolding arriveNumber leaves arrived pick
+arrival-unlent s heading masks nodes states =
+    by-test (eqb (arriveNumber s (lentSpace heading masks [] states)) accepted) (λ e. (refl, rw e)) (λ e. (refl, rw e))
+
+-- a withdrawal, the masks and the nodes
+pub withdrawal-unlent : (heading masks nodes states : List ℕ) →
+    (withdrawNumber (lentSpace heading [] [] states) ≡ withdrawNumber (lentSpace heading masks nodes states))
+    × (lentSpace ((leaves Withdraw (lentSpace heading [] [] states)) .heading) masks nodes ((leaves Withdraw (lentSpace heading [] [] states)) .states)
+    ≡ leaves Withdraw (lentSpace heading masks nodes states))
+unfolding withdrawNumber leaves withdrawn pick
+withdrawal-unlent heading masks nodes states =
+    by-test (eqb (withdrawNumber (lentSpace heading [] [] states)) accepted) (λ e. (refl, rw e)) (λ e. (refl, rw e))
+
 pub accepted-leaves : (c : Call) (h : Space) → numberOf c h ≡ 0 → leaves c h ≡ acceptedLeaves c h
 unfolding leaves
 accepted-leaves c h e = pick-true (eqb (numberOf c h) accepted) (acceptedLeaves c h) h (eq-eqb (numberOf c h) accepted e)
@@ -33,9 +53,6 @@ accepted-leaves c h e = pick-true (eqb (numberOf c h) accepted) (acceptedLeaves 
 module _ (a : Held) (h : Space) (k : Sound a) (f : Full h) where
   full : Full (spaceOf a h)
   full = space-full a h k f
-
-  enough-heading : tooShort headingSize ((spaceOf a h) .heading) ≡ false
-  enough-heading = le-ltb (length ((spaceOf a h) .heading)) headingSize (full .heading)
 
   enough-masks : tooShort maxControllers ((spaceOf a h) .masks) ≡ false
   enough-masks = le-ltb (length ((spaceOf a h) .masks)) maxControllers (full .masks)
@@ -49,7 +66,7 @@ module _ (a : Held) (h : Space) (k : Sound a) (f : Full h) where
   -- an opening over a session
   pub open-number : (C : ℕ) (masks : List ℕ) (r : Rule) → openNumber C masks r (spaceOf a h) ≡ openRefusal C masks r
   unfolding openNumber pick
-  open-number C masks r = rw (enough-heading, enough-masks, enough-nodes, enough-states)
+  open-number C masks r = rw (enough-masks, enough-nodes, enough-states)
 
   -- the state before an arrival
   state-before : (s : ℕ) →
@@ -69,23 +86,23 @@ module _ (a : Held) (h : Space) (k : Sound a) (f : Full h) where
   pub arrive-number : (s : ℕ) → length (a .states) < maxStates → arriveNumber s (spaceOf a h) ≡ recordingRefusal (recordingHeld (oneMore s a))
   unfolding arriveNumber arrivalRefusal pick
   arrive-number s l =
-      rw (enough-heading, enough-states, space-held a h, space-controllers a h, space-masks a h, lt-leb maxStates (length (a .states)) l)
+      rw (enough-states, space-held a h, space-controllers a h, space-masks a h, lt-leb maxStates (length (a .states)) l)
       (first-accepted (controllersRefusal (length (a .masks))) _ (held-limits a k) ∙ (state-before s ∙ sym (recording-more a s k l)))
 
   -- "17, an arrival when 128 states are held", whatever arrives
   pub arrive-full : (s : ℕ) → length (a .states) ≡ maxStates → arriveNumber s (spaceOf a h) ≡ sessionFull
   unfolding arriveNumber arrivalRefusal pick
-  arrive-full s e = rw (enough-heading, enough-states, space-held a h, e)
+  arrive-full s e = rw (enough-states, space-held a h, e)
 
   pub withdraw-number : 0 < length (a .states) → withdrawNumber (spaceOf a h) ≡ 0
   unfolding withdrawNumber withdrawalRefusal pick
   withdraw-number p =
-      rw (enough-heading, enough-states, space-held a h, ne-eqb (length (a .states)) 0 (λ e. omega arith), le-ltb maxStates (length (a .states)) (few-states a k))
+      rw (enough-states, space-held a h, ne-eqb (length (a .states)) 0 (λ e. omega arith), le-ltb maxStates (length (a .states)) (few-states a k))
 
   -- "18, a withdrawal from an empty session"
   pub withdraw-empty : length (a .states) ≡ 0 → withdrawNumber (spaceOf a h) ≡ sessionEmpty
   unfolding withdrawNumber withdrawalRefusal pick
-  withdraw-empty z = rw (enough-heading, enough-states, space-held a h, z)
+  withdraw-empty z = rw (enough-states, space-held a h, z)
 
   pub arrive-admits : (s : ℕ) → eqb (arriveNumber s (spaceOf a h)) accepted ≡ admits s a
   unfolding admits pick
@@ -196,19 +213,16 @@ steps-rule cs t a = steps-keep (λ x. x .rule) (λ x ss. refl) cs t a
 pub open-parts : (C : ℕ) (masks : List ℕ) (r : Rule) (h : Space) → openNumber C masks r h ≡ 0 → Full h × (openRefusal C masks r ≡ 0)
 unfolding openNumber
 open-parts C masks r h e =
-    let a = tooShort headingSize (h .heading) in
-    let b = tooShort maxControllers (h .masks) in
-    let c = tooShort maxRuleNodes (h .nodes) in
-    let d = tooShort maxStates (h .states) in
-    let (s, z) = pick-other 0 (a || b || c || d) lentShort (openRefusal C masks r) e (λ q. omega arith) in
-    let (abc, u) = both-false (a || b || c) d s in
-    let (ab, t) = both-false (a || b) c abc in
+    let a = tooShort maxControllers (h .masks) in
+    let b = tooShort maxRuleNodes (h .nodes) in
+    let c = tooShort maxStates (h .states) in
+    let (s, z) = pick-other 0 (a || b || c) lentShort (openRefusal C masks r) e (λ q. omega arith) in
+    let (ab, t) = both-false (a || b) c s in
     let (p, q) = both-false a b ab in (
       record {
-        heading = ltb-false (length (h .heading)) headingSize p;
-        masks = ltb-false (length (h .masks)) maxControllers q;
-        nodes = ltb-false (length (h .nodes)) maxRuleNodes t;
-        states = ltb-false (length (h .states)) maxStates u;
+        masks = ltb-false (length (h .masks)) maxControllers p;
+        nodes = ltb-false (length (h .nodes)) maxRuleNodes q;
+        states = ltb-false (length (h .states)) maxStates t;
       },
       z,
     )

@@ -170,7 +170,8 @@ remainingRecording C masks r cs = recordingOf C (length (remaining C masks r cs)
 
 -- what is said of the contents g after them
 pub record Running (C : ℕ) (masks : List ℕ) (r : Rule) (cs : List Call) (g : Space) : Type 0 where
-  pub accepts : 0 < length (remaining C masks r cs) → recordingRefusal (remainingRecording C masks r cs) ≡ 0
+  pub held : heldIn g ≡ length (remaining C masks r cs)
+  pub accepts : 0 < length (remaining C masks r cs) → Accepted r (remainingRecording C masks r cs)
   pub verdicts : 0 < length (remaining C masks r cs) → verdictsAnswer g ≡ judgeLocalAnswer r (remainingRecording C masks r cs)
   pub none : length (remaining C masks r cs) ≡ 0 → verdictsAnswer g ≡ answer 0 []
 
@@ -206,13 +207,16 @@ module _ (C : ℕ) (masks : List ℕ) (r : Rule) (h : Space) (e : openNumber C m
         = record { some = p; few = omega arith; controllers = sym count-masks; masks = masks-read; states = sym (ap (take (length (a .states))) (take-length (a .states))) } in
         beginnings-accepted (remainingRecording C masks r cs) (recordingHeld a) B (holds .accepted p)
 
+    rule-accepted : Accepted r (remainingRecording C masks r cs)
+    rule-accepted = record { rule = given .rule; recording = remaining-accepted; controller = given .controller }
+
     remaining-judged : verdictsAnswer (leavesAll (Open C masks r ∷ cs) h) ≡ judgeLocalAnswer r (remainingRecording C masks r cs)
     remaining-judged =
         holds .verdicts p
         ∙ same-judged (a .rule) r (recordingHeld a) (remainingRecording C masks r cs)
         (record { rule = held-rule a (holds .sound); recording = holds .accepted p; controller = held-controller a (holds .sound) })
-        (record { rule = given .rule; recording = remaining-accepted; controller = given .controller })
+        rule-accepted
         (ap (λ (q : Rule). q .controller) same-rule) nodes-read refl (sym masks-read) refl
 
   pub the-rack-as-it-runs : Running C masks r cs (leavesAll (Open C masks r ∷ cs) h)
-  the-rack-as-it-runs = record { accepts = remaining-accepted; verdicts = remaining-judged; none = holds .none }
+  the-rack-as-it-runs = record { held = ap heldIn (holds .contents) ∙ space-held a h; accepts = rule-accepted; verdicts = remaining-judged; none = holds .none }

@@ -8,7 +8,7 @@ use lib.Seq.{take-length, take-suc}
 use Rattle.definitions.specs.Limits.{maxControllers, maxStates, maxRuleNodes, accepted}
 use Rattle.definitions.specs.Bounded.{pick}
 use Rattle.definitions.specs.Operations.{left}
-use Rattle.definitions.specs.Sessions.{headingSize, Space, Held, headingOf, spaceOf, controllersIn, heldIn, sessionRule, arrived, withdrawn, oneMore, oneLess, Sound, Full, Made}
+use Rattle.definitions.specs.Sessions.{Space, Held, headingOf, spaceOf, controllersIn, heldIn, sessionRule, arrived, withdrawn, oneMore, oneLess, Sound, Full, Made}
 use Rattle.theorems.proofs.LentContents.{left-take, left-at, left-length, left-over, left-more, left-less}
 use Rattle.theorems.proofs.SessionChecks.{few-masks, few-nodes, few-states, length-less}
 
@@ -18,9 +18,8 @@ space-same : (h g m l n o s t : List ℕ) → h ≡ g → m ≡ l → n ≡ o �
 space-same h g m l n o s t a b c d = rw (a, b, c, d)
 
 -- the number of states set in a heading
-heading-states : (C c m n x : ℕ) (e : List ℕ) → set (left accepted headingSize (C ∷ c ∷ m ∷ n ∷ []) e) 3 x ≡ left accepted headingSize (C ∷ c ∷ m ∷ x ∷ []) e
-unfolding left pick
-heading-states C c m n x e = refl
+heading-states : (C c m n x : ℕ) → set (C ∷ c ∷ m ∷ n ∷ []) 3 x ≡ C ∷ c ∷ m ∷ x ∷ []
+heading-states C c m n x = refl
 
 -- the states but the last, and the last
 last-split : (ss : List ℕ) → 0 < length ss → take (length ss - 1) ss ++ (getD ss (length ss - 1) 0 ∷ []) ≡ ss
@@ -68,7 +67,6 @@ module _ (a : Held) (h : Space) where
     pub space-full : Full h → Full (spaceOf a h)
     unfolding spaceOf
     space-full f = record {
-      heading = omega (arith, left-length headingSize (headingOf a) (h .heading) (omega arith) (f .heading), f .heading);
       masks = omega (arith, left-length maxControllers (a .masks) (h .masks) (few-masks a k) (f .masks), f .masks);
       nodes = omega (arith, left-length maxRuleNodes (a .rule .nodes) (h .nodes) (few-nodes a k) (f .nodes), f .nodes);
       states = omega (arith, left-length maxStates (a .states) (h .states) (few-states a k) (f .states), f .states);
@@ -79,7 +77,7 @@ module _ (a : Held) (h : Space) where
     unfolding spaceOf
     space-over b =
         space-same _ _ _ _ _ _ _ _
-        (left-over headingSize (headingOf a) (h .heading) (headingOf b) (omega arith))
+        refl
         (left-over maxControllers (a .masks) (h .masks) (b .masks) (few-masks a k))
         (left-over maxRuleNodes (a .rule .nodes) (h .nodes) (b .rule .nodes) (few-nodes a k))
         (left-over maxStates (a .states) (h .states) (b .states) (few-states a k))
@@ -92,8 +90,8 @@ module _ (a : Held) (h : Space) where
     unfolding spaceOf arrived
     space-arrived s l =
         let n : length (a .states ++ (s ∷ [])) ≡ length (a .states) + 1 = length-append (a .states) (s ∷ []) in
-        let e : set (left accepted headingSize (headingOf a) (h .heading)) 3 (length (a .states) + 1) ≡ left accepted headingSize (headingOf (oneMore s a)) (h .heading)
-        = rw n (heading-states (length (a .masks)) (a .rule .controller) (a .rule .count) (length (a .states)) (length (a .states) + 1) (h .heading)) in
+        let e : set (headingOf a) 3 (length (a .states) + 1) ≡ headingOf (oneMore s a)
+        = rw n (heading-states (length (a .masks)) (a .rule .controller) (a .rule .count) (length (a .states)) (length (a .states) + 1)) in
         rw (space-held) (space-same _ _ _ _ _ _ _ _ e refl refl (left-more maxStates (a .states) (h .states) s (length (a .states)) refl l))
 
     pub space-withdrawn : 0 < length (a .states) → withdrawn (spaceOf a h) ≡ spaceOf (oneLess a) h
@@ -102,8 +100,8 @@ module _ (a : Held) (h : Space) where
         let j : ℕ = length (a .states) - 1 in
         let s : ℕ = getD (a .states) j 0 in
         let n : length (take j (a .states)) ≡ j = length-less (a .states) in
-        let e : set (left accepted headingSize (headingOf a) (h .heading)) 3 j ≡ left accepted headingSize (headingOf (oneLess a)) (h .heading)
-        = rw n (heading-states (length (a .masks)) (a .rule .controller) (a .rule .count) (length (a .states)) j (h .heading)) in
+        let e : set (headingOf a) 3 j ≡ headingOf (oneLess a)
+        = rw n (heading-states (length (a .masks)) (a .rule .controller) (a .rule .count) (length (a .states)) j) in
         let l : j < maxStates = omega (arith, few-states a k) in
         let b : set (left accepted maxStates (take j (a .states) ++ (s ∷ [])) (h .states)) j 0 ≡ left accepted maxStates (take j (a .states)) (h .states)
         = left-less maxStates (take j (a .states)) (h .states) s j n l in

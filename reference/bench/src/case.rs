@@ -13,9 +13,11 @@ pub enum Side {
     Plain,
     /// Rust tuned for speed.
     Tuned,
-    /// The proved library's judge of the same rule and recording: another
-    /// answer, to tell how much more an operation costs.
+    /// The proved library's judge of the same rule and recording: to tell how
+    /// much more an operation costs.
     JudgeLocal,
+    /// The check of one state by hand, and no more: likewise.
+    OneState,
 }
 
 impl Side {
@@ -25,7 +27,14 @@ impl Side {
             Side::Plain => "plain",
             Side::Tuned => "tuned",
             Side::JudgeLocal => "judge_local",
+            Side::OneState => "one_state",
         }
+    }
+
+    /// Does it do the same as the proved side? Else it does less, and answers
+    /// otherwise.
+    fn same(self) -> bool {
+        !matches!(self, Side::JudgeLocal | Side::OneState)
     }
 }
 
@@ -78,7 +87,7 @@ where
         for (number, input) in self.inputs.iter().enumerate() {
             let mut expected = self.lent.clone();
             let answer = self.sides[0].1(input, &mut expected);
-            let others = self.sides[1..].iter().filter(|(side, _)| *side != Side::JudgeLocal);
+            let others = self.sides[1..].iter().filter(|(side, _)| side.same());
             for (side, call) in others {
                 let mut lent = self.lent.clone();
                 let what = format!("{}, {}, input {number}", self.name, side.name());

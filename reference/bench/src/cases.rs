@@ -3,8 +3,11 @@
 use crate::case::{Case, Side, Sides, Timed};
 use crate::hand::{evidence, line, plain, read, rewrite, tuned, write};
 use crate::inputs::{LineInput, RuleInput, TableInput};
+use crate::sessions::{self, Arrival};
 use ragyvosin::{full, Joint};
 use reference::generate::random::Random;
+use reference::generate::sessions::contents;
+use reference::model::session::Contents;
 use std::fmt::Debug;
 
 /// Inputs that a side goes through in turn: so many that the predictor of
@@ -95,6 +98,28 @@ impl Source {
             Source::Any => TableInput::any(&mut random),
         };
         (0..self.count()).map(|_| draw()).collect()
+    }
+}
+
+impl Source {
+    fn sessions(self) -> Vec<Contents> {
+        let mut random = Random::new(7);
+        let mut draw = || match self {
+            Source::Exact { nodes, states } | Source::Rewritten { nodes, states } => {
+                sessions::exact(&mut random, nodes, states)
+            }
+            Source::Any => contents(&mut random),
+        };
+        (0..self.count()).map(|_| draw()).collect()
+    }
+
+    fn arrivals(self) -> (Vec<Contents>, Vec<Arrival>) {
+        match self {
+            Source::Exact { nodes, states } | Source::Rewritten { nodes, states } => {
+                sessions::arrivals(nodes, states, self.count())
+            }
+            Source::Any => sessions::any_arrivals(self.count()),
+        }
     }
 }
 
@@ -212,6 +237,20 @@ fn read_joint(plan: Plan) -> Box<dyn Timed> {
     boxed(plan, plan.source.rules(), ReadSpace::new(), sides)
 }
 
+fn arrive(plan: Plan) -> Box<dyn Timed> {
+    let (lent, inputs) = plan.source.arrivals();
+    boxed(plan, inputs, lent, sessions::arrive())
+}
+
+fn session_verdicts(plan: Plan) -> Box<dyn Timed> {
+    boxed(plan, plan.source.sessions(), (), sessions::verdicts())
+}
+
+/// A session as it runs, the verdicts asked after each state.
+fn session(plan: Plan) -> Box<dyn Timed> {
+    boxed(plan, plan.source.rules(), sessions::space(), sessions::as_it_runs())
+}
+
 /// A case that isn't built yet: its inputs take long to draw.
 #[derive(Clone, Copy)]
 pub struct Plan {
@@ -229,7 +268,7 @@ impl Plan {
             Source::Any => return "any".into(),
         };
         match self.operation {
-            "project" | "read_recording" => format!("{states}"),
+            "project" | "read_recording" | "arrive" => format!("{states}"),
             "read_line" => format!("{}", nodes * LINE_BYTES),
             "rewrite_plain" | "rewrite_short" | "read_rule" | "write_rule" => format!("{nodes}"),
             _ => format!("{nodes}x{states}"),
@@ -248,13 +287,16 @@ impl Plan {
             "write_rule" => write_rule(self),
             "read_recording" => read_recording(self),
             "read_joint" => read_joint(self),
+            "arrive" => arrive(self),
+            "session_verdicts" => session_verdicts(self),
+            "session" => session(self),
             _ => judge_recording(self),
         }
     }
 }
 
 /// The operations that take a rule, a recording or both.
-const OF_RULES: [&str; 10] = [
+const OF_RULES: [&str; 13] = [
     "judge_local",
     "evidence",
     "project",
@@ -265,6 +307,9 @@ const OF_RULES: [&str; 10] = [
     "write_rule",
     "read_recording",
     "read_joint",
+    "arrive",
+    "session_verdicts",
+    "session",
 ];
 
 /// Every operation, the judge of tables over its own source.

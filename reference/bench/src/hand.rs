@@ -7,6 +7,7 @@ pub mod line;
 pub mod plain;
 pub mod read;
 pub mod rewrite;
+pub mod session;
 pub mod tuned;
 pub mod write;
 

@@ -12,6 +12,7 @@ mod hand;
 mod inputs;
 mod interlocks;
 mod report;
+mod sessions;
 mod timing;
 
 use report::Counts;

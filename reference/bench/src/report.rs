@@ -41,10 +41,19 @@ fn thousands(number: u64) -> String {
 
 /// The largest ratio that is wanted.
 fn target(plan: Plan, side: Side) -> f64 {
-    let judges = ["judge_recording", "judge_rewritten", "judge_local", "project"];
+    let judges = [
+        "judge_recording",
+        "judge_rewritten",
+        "judge_local",
+        "project",
+        "session_verdicts",
+        "session",
+    ];
     match side {
         Side::Tuned => 1.3,
+        Side::JudgeLocal if plan.operation == "session_verdicts" => 1.05,
         Side::JudgeLocal => 10.0,
+        Side::OneState => 2.0,
         _ if judges.contains(&plan.operation) => 1.0,
         _ => 1.5,
     }
@@ -75,7 +84,7 @@ pub fn lines(plan: Plan, times: &[(Side, f64)], counts: &Counts) {
         let (ratio, target) = (proved_ns / ns, target(plan, *side));
         let verdict = if ratio <= target { "met" } else { "missed" };
         println!(
-            "| {} | {} | {} | {} | {} | {ratio:.2} | {} | {} | {target:.1} | {verdict} |",
+            "| {} | {} | {} | {} | {} | {ratio:.2} | {} | {} | {target:?} | {verdict} |",
             plan.operation,
             plan.size(),
             side.name(),

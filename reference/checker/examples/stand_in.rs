@@ -1,7 +1,7 @@
 //! Stands in for a program where only the checker itself is tried: the model's
 //! answer to the whole standard input, and what it says of it. Its own name, a
-//! link's or a copy's, tells which program: `rule`, `why`, `longest`, or
-//! else `judge`.
+//! link's or a copy's, tells which program: `rule`, `why`, `longest`, `watch`,
+//! or else `judge`.
 
 #![forbid(unsafe_code)]
 
@@ -9,7 +9,7 @@ use std::env;
 use std::io::{self, Read, Write};
 use std::path::Path;
 
-use reference::model::{longest_program, program, program_says, rule_program, why};
+use reference::model::{longest_program, program, program_says, rule_program, watching, why};
 
 fn main() -> io::Result<()> {
     let mut input = Vec::new();
@@ -19,6 +19,7 @@ fn main() -> io::Result<()> {
     let (output, errors) = match name {
         Some("rule") => (rule_program(&input), Vec::new()),
         Some("longest") => (longest_program(&input), Vec::new()),
+        Some("watch") => (watching::program(&input), Vec::new()),
         Some("why") => (why::program(&input), why::says(&input)),
         _ => (program(&input), program_says(&input)),
     };

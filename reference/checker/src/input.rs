@@ -77,6 +77,15 @@ impl Entry for u64 {
     }
 }
 
+impl Entry for usize {
+    fn of(word: u64) -> usize {
+        word as usize
+    }
+    fn word(self) -> u64 {
+        self as u64
+    }
+}
+
 /// The entries of lent space, with guards on both sides.
 #[derive(Clone, PartialEq, Eq, Debug)]
 pub struct Space<T> {
@@ -90,10 +99,22 @@ impl<T: Entry> Space<T> {
         Space { entries }
     }
 
+    /// Space that holds these entries.
+    pub fn holding(held: &[T]) -> Space<T> {
+        let mut space = Space::new(Lent { length: held.len(), pattern: held.len() as u64 });
+        space.lend().copy_from_slice(held);
+        space
+    }
+
     /// What is lent.
     pub fn lend(&mut self) -> &mut [T] {
         let end = self.entries.len() - GUARD;
         &mut self.entries[GUARD..end]
+    }
+
+    /// What is lent, to be read.
+    pub fn held(&self) -> &[T] {
+        &self.entries[GUARD..self.entries.len() - GUARD]
     }
 
     /// All entries, guards included.

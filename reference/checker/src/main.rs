@@ -31,6 +31,7 @@ mod program;
 mod reused;
 mod sampled;
 mod sections;
+mod sessions;
 mod small;
 mod tally;
 mod texts;

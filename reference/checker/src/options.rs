@@ -9,7 +9,7 @@ usage: checker [--seed N] [--long] [--only SECTION]... [--wrong NAME | --show-ca
   --seed N        what random inputs depend on (default 1)
   --long          the longer run
   --only SECTION  trials, texts, endings, lines, lent, random, program, small,
-                  evidence or early; may come again
+                  evidence, early or sessions; may come again
   --wrong NAME    expect one wrong answer: the run must report a difference
   --show-caught   only show that each wrong answer is caught";
 

@@ -27,6 +27,10 @@ pub struct Plan {
     pub evidence_batches: usize,
     /// Batches of verdicts that may be announced early.
     pub early_batches: usize,
+    /// All lists of calls of a session up to this length.
+    pub session_calls: usize,
+    /// Batches of long lists, and of calls on any contents.
+    pub session_batches: usize,
     /// All small rules on all small recordings.
     pub small: SmallPlan,
 }
@@ -70,6 +74,8 @@ impl Plan {
             program_runs: 3000,
             evidence_batches: 200,
             early_batches: 100,
+            session_calls: 4,
+            session_batches: 100,
             small: SmallPlan {
                 nodes: 3,
                 states: 4,
@@ -96,6 +102,7 @@ impl Plan {
             program_runs: 30_000,
             evidence_batches: 2000,
             early_batches: 1000,
+            session_batches: 1000,
             small: SmallPlan {
                 every_recording_nodes: 3,
                 every_recording_states: 4,
@@ -124,6 +131,8 @@ impl Plan {
             program_runs: 2,
             evidence_batches: 2,
             early_batches: 2,
+            session_calls: 2,
+            session_batches: 1,
             small: SmallPlan {
                 nodes: 1,
                 states: 2,

@@ -4,7 +4,9 @@ mod asked;
 mod judged;
 mod longest;
 pub mod misprint;
+pub mod miswatched;
 mod typed;
+mod watched;
 
 use std::env;
 use std::io::{self, Read, Write};
@@ -14,7 +16,7 @@ use std::thread::{self, JoinHandle};
 use std::time::{Duration, Instant};
 
 use reference::generate::random::Random;
-use reference::model::{longest_program, program, program_says, rule_program, why};
+use reference::model::{longest_program, program, program_says, rule_program, watching, why};
 
 use crate::check::Check;
 use crate::difference::Difference;
@@ -72,12 +74,26 @@ const LONGEST: Program = Program {
     says: |_| Vec::new(),
 };
 
+/// The program that follows a session.
+const WATCH: Program = Program {
+    operation: Operation::WatchProgram,
+    name: "watch",
+    variable: "RAGYVOSIN_WATCH",
+    model: watching::program,
+    says: |_| Vec::new(),
+};
+
 /// Makes the runs of a program.
 type Runs = fn(&Plan) -> Vec<Job<'_>>;
 
 /// All programs, each with its runs.
-const PROGRAMS: [(Program, Runs); 4] =
-    [(JUDGE, judged::jobs), (RULE, typed::jobs), (WHY, asked::jobs), (LONGEST, longest::jobs)];
+const PROGRAMS: [(Program, Runs); 5] = [
+    (JUDGE, judged::jobs),
+    (RULE, typed::jobs),
+    (WHY, asked::jobs),
+    (LONGEST, longest::jobs),
+    (WATCH, watched::jobs),
+];
 
 /// Runs of one job.
 const RUNS: usize = 25;
@@ -244,8 +260,18 @@ fn require(
     let output =
         run(program, input, pieces).map_err(|error| failed(format!("running: {error}")))?;
     check.count(program.operation, 1, output.stdout.len() as u64);
-    check.tally.met(program.operation, refusal(&expected.output));
+    for answer in answers(program, &expected.output) {
+        check.tally.met(program.operation, refusal(answer));
+    }
     run_difference(expected, &output).map_or(Ok(()), |place| Err(failed(place)))
+}
+
+/// The answers of an output: all of it, or of `watch` each line.
+fn answers(program: Program, output: &[u8]) -> Vec<&[u8]> {
+    match program.operation {
+        Operation::WatchProgram => output.split_inclusive(|byte| *byte == b'\n').collect(),
+        _ => vec![output],
+    }
 }
 
 /// The refusal number of an output, 0 if it isn't a refusal.

@@ -4,6 +4,7 @@ use crate::difference::Difference;
 use crate::early::Early;
 use crate::evidence::Evidence;
 use crate::plan::Plan;
+use crate::sessions::Sessions;
 use crate::small::Small;
 use crate::tally::{Section, Tally};
 use crate::wrong::WrongAnswer;
@@ -22,5 +23,6 @@ pub fn run(section: Section, plan: &Plan, wrong: &WrongAnswer) -> Result<Tally, 
         Section::Small => work::run(section, wrong, &Small::new(plan).jobs()),
         Section::Evidence => work::run(section, wrong, &Evidence::new(plan).jobs()),
         Section::Early => work::run(section, wrong, &Early::new(plan).jobs()),
+        Section::Sessions => work::run(section, wrong, &Sessions::new(plan).jobs()),
     }
 }

@@ -26,11 +26,13 @@ pub enum Section {
     Evidence,
     /// Verdicts that may be announced early.
     Early,
+    /// Sessions: lists of calls, and calls on any contents.
+    Sessions,
 }
 
 impl Section {
     /// Every section, in order.
-    pub const ALL: [Section; 10] = [
+    pub const ALL: [Section; 11] = [
         Section::Trials,
         Section::Texts,
         Section::Endings,
@@ -41,6 +43,7 @@ impl Section {
         Section::Small,
         Section::Evidence,
         Section::Early,
+        Section::Sessions,
     ];
 
     /// The name that is printed and that `--only` takes.
@@ -56,11 +59,13 @@ impl Section {
             Section::Small => "small",
             Section::Evidence => "evidence",
             Section::Early => "early",
+            Section::Sessions => "sessions",
         }
     }
 }
 
-/// What is compared: the operations, seven laws and the programs.
+/// What is compared: the operations, the calls of a session, eight laws and the
+/// programs.
 #[derive(Clone, Copy, PartialEq, Eq, PartialOrd, Ord, Debug)]
 pub enum Operation {
     /// Reading a rule text.
@@ -85,6 +90,14 @@ pub enum Operation {
     JudgeRecording,
     /// The readings behind a verdict.
     Evidence,
+    /// A session opens.
+    OpenSession,
+    /// A state arrives in a session.
+    Arrive,
+    /// The last state of a session is withdrawn.
+    Withdraw,
+    /// The verdicts of a session.
+    SessionVerdicts,
     /// An accepted text, read and written, is the same text with byte 10 at
     /// each line.
     RoundTrip,
@@ -99,6 +112,9 @@ pub enum Operation {
     Promise,
     /// Announced verdicts stay on a recording that goes on.
     Early,
+    /// A session's verdicts are those of judging the remaining states from the
+    /// start.
+    Remaining,
     /// No rule's rewritings exceed those of the rule that grows most.
     Growth,
     /// The program.
@@ -109,10 +125,12 @@ pub enum Operation {
     WhyProgram,
     /// The program `longest`.
     LongestProgram,
+    /// The program `watch`.
+    WatchProgram,
 }
 
 impl Operation {
-    /// The operations.
+    /// The operations on texts and tables.
     pub const ALL: [Operation; 11] = [
         Operation::ReadRule,
         Operation::ReadLine,
@@ -125,6 +143,14 @@ impl Operation {
         Operation::RewriteShort,
         Operation::JudgeRecording,
         Operation::Evidence,
+    ];
+
+    /// The calls of a session.
+    pub const OF_SESSIONS: [Operation; 4] = [
+        Operation::OpenSession,
+        Operation::Arrive,
+        Operation::Withdraw,
+        Operation::SessionVerdicts,
     ];
 
     /// The name that is printed.
@@ -141,17 +167,23 @@ impl Operation {
             Operation::RewriteShort => "rewrite_short",
             Operation::JudgeRecording => "judge_recording",
             Operation::Evidence => "evidence",
+            Operation::OpenSession => "open_session",
+            Operation::Arrive => "arrive",
+            Operation::Withdraw => "withdraw",
+            Operation::SessionVerdicts => "session_verdicts",
             Operation::RoundTrip => "round_trip",
             Operation::Endings => "endings",
             Operation::Schedules => "schedules",
             Operation::Beginnings => "beginnings",
             Operation::Promise => "promise",
             Operation::Early => "early",
+            Operation::Remaining => "remaining",
             Operation::Growth => "growth",
             Operation::Program => "judge",
             Operation::RuleProgram => "rule",
             Operation::WhyProgram => "why",
             Operation::LongestProgram => "longest",
+            Operation::WatchProgram => "watch",
         }
     }
 }
@@ -167,7 +199,7 @@ pub struct Counts {
 }
 
 /// How many refusal numbers there are, with 0 for accepted.
-const NUMBERS: usize = 17;
+const NUMBERS: usize = 19;
 
 /// What was compared of all kinds, and how often each number was answered.
 #[derive(Default, Debug)]
@@ -189,10 +221,15 @@ const ANSWERABLE: &[(Operation, &[usize])] = &[
     (Operation::RewriteShort, &[0, 2, 3, 4, 13]),
     (Operation::JudgeRecording, &[0, 2, 3, 4, 6, 7, 8, 10, 11, 13]),
     (Operation::Evidence, &[0, 2, 3, 4, 6, 7, 8, 10, 11, 13]),
+    (Operation::OpenSession, &[0, 2, 3, 4, 6, 7, 8, 11, 13]),
+    (Operation::Arrive, &[0, 6, 10, 13, 17]),
+    (Operation::Withdraw, &[0, 6, 13, 18]),
+    (Operation::SessionVerdicts, &[0, 2, 3, 4, 6, 7, 8, 10, 11]),
     (Operation::Program, &[0, 1, 2, 3, 4, 5, 6, 7, 8, 10, 11, 14]),
     (Operation::RuleProgram, &[0, 1, 2, 14, 15, 16]),
     (Operation::WhyProgram, &[0, 1, 2, 3, 4, 5, 6, 7, 8, 10, 11, 14]),
     (Operation::LongestProgram, &[0, 1, 2, 14]),
+    (Operation::WatchProgram, &[0, 1, 2, 3, 4, 5, 6, 7, 8, 10, 11, 14, 17, 18]),
 ];
 
 impl Tally {

@@ -12,6 +12,7 @@ use crate::check::Check;
 use crate::difference::Difference;
 use crate::input::Input;
 use crate::outcome::Outcome;
+use crate::sessions;
 use crate::work::Job;
 use crate::wrong::Place;
 
@@ -597,7 +598,7 @@ fn walked(check: &mut Check) -> Result<(), Difference> {
 
 /// All trials.
 pub fn jobs<'a>() -> Vec<Job<'a>> {
-    vec![
+    let mut jobs: Vec<Job> = vec![
         Box::new(starred),
         Box::new(node_limit),
         Box::new(table_limit),
@@ -616,5 +617,7 @@ pub fn jobs<'a>() -> Vec<Job<'a>> {
         Box::new(eleven_in_texts),
         Box::new(eleven_in_tables),
         Box::new(eleven_masks_lent),
-    ]
+    ];
+    jobs.extend(sessions::trials::jobs());
+    jobs
 }

@@ -10,6 +10,8 @@ use crate::misrewrite::Misrewriting;
 use crate::misstep::Misstep;
 use crate::of_eight::OfEight;
 use crate::program::misprint::Misprint;
+use crate::program::miswatched::Miswatched;
+use crate::sessions::miskept::Miskept;
 use crate::tally::{Operation, Section};
 
 /// The places of an expected answer that can be altered.
@@ -27,7 +29,7 @@ pub enum Place {
     Unused,
     /// An entry after a refusal that isn't 13.
     Zero,
-    /// An entry after 13.
+    /// An entry after 13, or after any refusal of a session's call.
     Untouched,
     /// An entry lent past the full size.
     Beyond,
@@ -41,7 +43,7 @@ pub enum Place {
     Misrewrite(Misrewriting),
     /// The pairs, by a wrong walk.
     Misstep(Misstep),
-    /// What the program `why` or `longest` writes, by a wrong printer.
+    /// What the program `why`, `longest` or `watch` writes, by a wrong printer.
     Misprint(Misprint),
     /// All of it, by a library that still assumes eight controllers.
     OfEight(OfEight),
@@ -55,6 +57,8 @@ pub enum Place {
     LeftOut(Asked),
     /// A weak yes or a strong no, announced.
     Open,
+    /// What a session answers or leaves, by one that is kept wrongly.
+    Miskept(Miskept),
 }
 
 impl Place {
@@ -85,6 +89,7 @@ impl Place {
             Place::LeftOut(Asked::Words) => "another_word",
             Place::LeftOut(Asked::OwnAtoms) => "another_own_atom",
             Place::Open => "open",
+            Place::Miskept(miskept) => miskept.name(),
         }
     }
 }
@@ -132,6 +137,10 @@ impl Wrong {
             all.extend(libraries.map(place).map(wrong));
         }
         all.extend(misrewriters());
+        all.extend(Miskept::ALL.map(|(miskept, operation, _)| {
+            let section = Section::Sessions;
+            Wrong { section, operation, place: Place::Miskept(miskept) }
+        }));
         all
     }
 }
@@ -164,6 +173,18 @@ const LONGEST_PRINTERS: &[Place] = &[
     Place::Misprint(Misprint::Wrapped),
 ];
 
+/// The wrong printers of the program `watch`.
+const WATCH_PRINTERS: &[Place] = &[
+    Place::Misprint(Misprint::Watched(Miswatched::OpenKept)),
+    Place::Misprint(Misprint::Watched(Miswatched::EmptyOpen)),
+    Place::Misprint(Misprint::Watched(Miswatched::Silent)),
+    Place::Misprint(Misprint::Watched(Miswatched::GivesUp)),
+    Place::Misprint(Misprint::Watched(Miswatched::GoesOn)),
+    Place::Misprint(Misprint::Watched(Miswatched::WholeLine)),
+    Place::Misprint(Misprint::Watched(Miswatched::UnclosedEvent)),
+    Place::Misprint(Misprint::Watched(Miswatched::LastIgnored)),
+];
+
 /// What of a recording that goes on isn't asked.
 const LEFT_OUT: &[Place] = &[
     Place::LeftOut(Asked::Longer),
@@ -185,6 +206,10 @@ fn lists() -> Vec<(Section, Operation, &'static [Place])> {
             lists.push((Section::Random, operation, &[Content, Unused, Zero, Untouched, Beyond]));
             lists.push((Section::Lent, operation, &[Number, Content, Zero, Untouched, Beyond]));
         }
+    }
+    for operation in Operation::OF_SESSIONS {
+        lists.push((Section::Trials, operation, &[Named]));
+        lists.push((Section::Sessions, operation, &[Number]));
     }
     lists.extend([
         (Section::Random, Operation::ReadJoint, &[Line][..]),
@@ -213,6 +238,8 @@ fn lists() -> Vec<(Section, Operation, &'static [Place])> {
         (Section::Program, Operation::WhyProgram, WHY_PRINTERS),
         (Section::Program, Operation::LongestProgram, &[Named, Content, Length]),
         (Section::Program, Operation::LongestProgram, LONGEST_PRINTERS),
+        (Section::Program, Operation::WatchProgram, &[Named, Content, Length]),
+        (Section::Program, Operation::WatchProgram, WATCH_PRINTERS),
         (Section::Small, Operation::Project, &[Number, Value, Content]),
         (Section::Small, Operation::Beginnings, &[Number, Content]),
         (Section::Small, Operation::RewritePlain, &[Value, Content]),
@@ -226,6 +253,11 @@ fn lists() -> Vec<(Section, Operation, &'static [Place])> {
         (Section::Early, Operation::Early, &[Value, Open]),
         (Section::Early, Operation::Early, LEFT_OUT),
         (Section::Early, Operation::Promise, &[Value, Content]),
+        (Section::Sessions, Operation::OpenSession, &[Content, Unused, Untouched, Beyond]),
+        (Section::Sessions, Operation::Arrive, &[Content, Unused, Untouched, Beyond]),
+        (Section::Sessions, Operation::Withdraw, &[Content, Unused, Untouched, Beyond]),
+        (Section::Sessions, Operation::SessionVerdicts, &[Value]),
+        (Section::Sessions, Operation::Remaining, &[Value]),
     ]);
     lists
 }
@@ -251,6 +283,7 @@ fn misreaders() -> Vec<(Section, Operation, Vec<Misreading>)> {
     let program = [&joint[..], &[Split, SplitNewlineOnly, Counted]].concat();
     let why = [&reader[..], &[Split, SplitNewlineOnly, Counted]].concat();
     let line_program = vec![NewlineOnly, Stripped, Alone, Swallowed, Counted];
+    let watch = [&reader[..], &[Split, SplitNewlineOnly]].concat();
     vec![
         (Section::Endings, Operation::ReadRule, reader.clone()),
         (Section::Endings, Operation::ReadRecording, reader),
@@ -259,6 +292,7 @@ fn misreaders() -> Vec<(Section, Operation, Vec<Misreading>)> {
         (Section::Program, Operation::RuleProgram, line_program.clone()),
         (Section::Program, Operation::LongestProgram, line_program),
         (Section::Program, Operation::WhyProgram, why),
+        (Section::Program, Operation::WatchProgram, watch),
     ]
 }
 

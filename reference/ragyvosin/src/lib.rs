@@ -5,10 +5,16 @@
 //! code passes is outside what the library takes: it has no precondition.
 //!
 //! Words of a node, a state, a row pair and a reading are those of `include/ragyvosin.h`.
+//!
+//! [`Session`] keeps a session in space of its own; [`open_session`], [`arrive`],
+//! [`withdraw`] and [`session_verdicts`] are the same calls over any lent space.
 
 #![warn(missing_docs)]
 
+mod session;
 mod sys;
+
+pub use session::{arrive, open_session, session_verdicts, withdraw, Heading, Session};
 
 /// The number of an accepted input.
 pub const ACCEPTED: u8 = 0;
@@ -31,6 +37,8 @@ pub mod full {
     pub const RULE_BYTES: usize = 1024;
     /// Pairs of a node and a place.
     pub const PAIRS: usize = RULE_NODES * PLACES;
+    /// Numbers of a session's heading.
+    pub const HEADING: usize = 4;
 }
 
 /// A rule as tables have it; `nodes` may have any length.

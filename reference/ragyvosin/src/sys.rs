@@ -136,4 +136,43 @@ extern "C" {
         rows_len: usize,
         values: *mut [usize; 2],
     ) -> u8;
+
+    pub fn rgv_open_session(
+        controllers: usize,
+        owned: *const u32,
+        owned_len: usize,
+        controller: usize,
+        count: usize,
+        rule: *const u32,
+        rule_len: usize,
+        heading: *mut [usize; 4],
+        masks: *mut u32,
+        masks_len: usize,
+        nodes: *mut u32,
+        nodes_len: usize,
+        states: *mut u64,
+        states_len: usize,
+    ) -> u8;
+
+    pub fn rgv_arrive(
+        state: u64,
+        heading: *mut [usize; 4],
+        masks: *const u32,
+        masks_len: usize,
+        states: *mut u64,
+        states_len: usize,
+    ) -> u8;
+
+    pub fn rgv_withdraw(heading: *mut [usize; 4], states: *mut u64, states_len: usize) -> u8;
+
+    pub fn rgv_session_verdicts(
+        heading: *const [usize; 4],
+        masks: *const u32,
+        masks_len: usize,
+        nodes: *const u32,
+        nodes_len: usize,
+        states: *const u64,
+        states_len: usize,
+        values: *mut [usize; 3],
+    ) -> u8;
 }

@@ -72,6 +72,20 @@ fn states(random: &mut Random, masks: &[u32], length: usize) -> Vec<u64> {
     words
 }
 
+/// Run marks of so many controllers: few, half, most or all.
+pub fn marks(random: &mut Random, controllers: usize) -> u64 {
+    let [one, other] = [random.word(), random.word()];
+    let word = random.pick(&[one & other, one, one | other, u32::MAX]);
+    u64::from(word % (1 << controllers))
+}
+
+/// A state that may follow this one.
+pub fn following(random: &mut Random, masks: &[u32], before: u64) -> u64 {
+    let State { atoms, scheduled } = State::of_word(before);
+    let atoms = atoms ^ (some_bits(random) & may_change(masks, scheduled));
+    marks(random, masks.len()) << limits::ATOMS | u64::from(atoms)
+}
+
 /// An accepted recording of at most so many controllers and states.
 pub fn recording(
     random: &mut Random,

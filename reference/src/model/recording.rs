@@ -60,10 +60,18 @@ impl Recording {
     }
 }
 
+/// Refusal 6 of C: from 1 to 11.
+pub fn check_controllers(controllers: usize) -> Result<(), u8> {
+    if !(1..=limits::CONTROLLERS).contains(&controllers) {
+        return Err(refusal::RECORDING_LIMIT);
+    }
+    Ok(())
+}
+
 /// Refusal 6 of the heading: C from 1 to 11, N from 1 to 128.
 pub fn check_heading(controllers: usize, length: usize) -> Result<(), u8> {
-    if !(1..=limits::CONTROLLERS).contains(&controllers) || !(1..=limits::STATES).contains(&length)
-    {
+    check_controllers(controllers)?;
+    if !(1..=limits::STATES).contains(&length) {
         return Err(refusal::RECORDING_LIMIT);
     }
     Ok(())
@@ -85,23 +93,31 @@ pub fn obeys_output_rule(masks: &[u32], before: State, after: State) -> bool {
     })
 }
 
-/// Refusals 6 and 10 of the state after `earlier`, in a recording of
-/// `controllers` controllers.
+/// Refusals 6 and 10 of a state after the one before it, if there is one, in a
+/// recording of `controllers` controllers.
 pub fn check_state(
     controllers: usize,
     masks: &[u32],
-    earlier: &[State],
+    before: Option<State>,
     state: State,
 ) -> Result<(), u8> {
     if (controllers..32).any(|controller| bit(state.scheduled, controller)) {
         return Err(refusal::RECORDING_LIMIT);
     }
-    if let Some(before) = earlier.last() {
-        if !obeys_output_rule(masks, *before, state) {
-            return Err(refusal::OUTPUT_RULE);
-        }
+    if before.is_some_and(|before| !obeys_output_rule(masks, before, state)) {
+        return Err(refusal::OUTPUT_RULE);
     }
     Ok(())
+}
+
+/// Refusal 7 of the masks that are there, C at most.
+pub fn check_masks(controllers: usize, words: &[u32]) -> Result<Vec<u32>, u8> {
+    let mut masks = Vec::new();
+    for mask in words.iter().take(controllers) {
+        check_mask(&masks, *mask)?;
+        masks.push(*mask);
+    }
+    Ok(masks)
 }
 
 /// A recording as tables: C and N, the masks that are there, the states that
@@ -113,15 +129,11 @@ pub fn check_recording(
     state_words: &[u64],
 ) -> Result<Recording, u8> {
     check_heading(controllers, length)?;
-    let mut masks = Vec::new();
-    for mask in mask_words.iter().take(controllers) {
-        check_mask(&masks, *mask)?;
-        masks.push(*mask);
-    }
+    let masks = check_masks(controllers, mask_words)?;
     let mut states = Vec::new();
     for word in state_words.iter().take(length) {
         let state = State::of_word(*word);
-        check_state(controllers, &masks, &states, state)?;
+        check_state(controllers, &masks, states.last().copied(), state)?;
         states.push(state);
     }
     if masks.len() < controllers || states.len() < length {

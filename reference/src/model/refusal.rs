@@ -28,3 +28,7 @@ pub const PROGRAM_INPUT: u8 = 14;
 pub const LINE_FORM: u8 = 15;
 /// A rule in one line has over 16 brackets open at once.
 pub const BRACKETS_DEEP: u8 = 16;
+/// A state arrives in a session that holds 128.
+pub const SESSION_FULL: u8 = 17;
+/// A state is withdrawn from a session that holds none.
+pub const SESSION_EMPTY: u8 = 18;

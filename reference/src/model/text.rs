@@ -188,7 +188,7 @@ fn recording_heading(line: &[u8]) -> Result<(usize, usize), u8> {
 }
 
 /// The line `owns`, mask.
-fn mask_of_line(line: &[u8]) -> Result<u32, u8> {
+pub fn mask_of_line(line: &[u8]) -> Result<u32, u8> {
     let fields = fields(line);
     if fields.len() != 2 || fields[0] != b"owns" {
         return Err(refusal::RECORDING_FORM);
@@ -207,7 +207,7 @@ pub fn mark_digits(controllers: usize) -> usize {
 }
 
 /// The line `at`, run marks, word, in a recording of so many controllers.
-fn state_of_line(controllers: usize, line: &[u8]) -> Result<State, u8> {
+pub fn state_of_line(controllers: usize, line: &[u8]) -> Result<State, u8> {
     let fields = fields(line);
     if fields.len() != 3 || fields[0] != b"at" {
         return Err(refusal::RECORDING_FORM);
@@ -235,7 +235,7 @@ pub fn read_recording(text: &[u8]) -> Result<Recording, RefusedLine> {
     for _ in 0..length {
         states.push(lines.read(|line| {
             let state = state_of_line(controllers, line)?;
-            recording::check_state(controllers, &masks, &states, state)?;
+            recording::check_state(controllers, &masks, states.last().copied(), state)?;
             Ok(state)
         })?);
     }

@@ -1,8 +1,9 @@
-//! Wrong printers on purpose: of the program `why`, and of `longest`.
+//! Wrong printers on purpose: of the programs `why`, `longest` and `watch`.
 
 use reference::model::limits::RULE_NODES;
 use reference::model::{longest_program, longest_rule, text};
 
+use crate::program::miswatched::Miswatched;
 use crate::program::{Expected, WHY};
 
 /// The wrong printers.
@@ -28,6 +29,8 @@ pub enum Misprint {
     LineField,
     /// A number taken in 64 bits, whatever comes before.
     Wrapped,
+    /// A wrong printer of `watch`.
+    Watched(Miswatched),
 }
 
 /// Where the numbers are among the fields of a pair's line.
@@ -91,6 +94,7 @@ impl Misprint {
             Misprint::Unclosed => "unclosed",
             Misprint::LineField => "line_field",
             Misprint::Wrapped => "wrapped",
+            Misprint::Watched(miswatched) => miswatched.name(),
         }
     }
 
@@ -130,6 +134,9 @@ impl Misprint {
                 Expected { output: closed(&lines), errors: errors.clone() }
             }
             Misprint::FirstCounted => Expected { output: output.clone(), errors: counted(errors) },
+            Misprint::Watched(miswatched) => {
+                Expected { output: miswatched.of(input, output), errors: errors.clone() }
+            }
             _ => Expected { output: self.longest(input, output), errors: errors.clone() },
         }
     }

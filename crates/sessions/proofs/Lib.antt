@@ -1,0 +1,4 @@
+pub mod ArrivalLaws
+pub mod OpeningLaws
+pub mod QueryLaws
+pub mod WithdrawalLaws

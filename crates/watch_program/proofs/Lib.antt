@@ -1,0 +1,5 @@
+pub mod StatusLaws
+pub mod EventLaws
+pub mod SessionLines
+pub mod OpeningLaws
+pub mod StepLaws

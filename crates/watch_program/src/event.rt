@@ -1,0 +1,87 @@
+// A line of the input as an event: the call that it is, taken where it isn't refused.
+ghost use mathlib.Core.Path.{_≡_};
+ghost use Rattle.definitions.specs.Lines.{lineLength};
+ghost use Rattle.definitions.specs.Sessions.{lentSpace};
+ghost use Rattle.definitions.specs.Watching.{callOf};
+ghost use Rattle.watch_program.specs.Events.{meant, Taken, EventRoom, EventIs};
+use super::status::put_status;
+use fields::form;
+use fields::form::Pair;
+use lines::first_line;
+use lines::scan;
+use recording_reader::line::WORD_DIGITS;
+use recording_reader::line::mark_digits;
+use recordings::state::state_of;
+use report::put_refused;
+use rules::choice::least;
+use rules::limits::Limits;
+use rules::limits::Refusal;
+use sessions::arrival::arrive;
+use sessions::heading::Heading;
+use sessions::withdrawal::withdraw;
+
+pub enum Event {
+    Arrival(u64),
+    Withdrawal,
+    Malformed,
+}
+
+// The line, of `len` bytes without its ending, in a session of so many controllers.
+fn event_of(controllers: usize, line: &[u8], len: usize) -> Event
+    requires { ⌜ len ≡ lineLength (now line) ⌝ }
+    ensures { λ r. ⌜ meant r ≡ callOf controllers (now (line .entry)) ⌝ }
+{
+    if len == line.len() {
+        return Event::Malformed;
+    }
+    if scan::same(&line[..len], b"withdraw") {
+        return Event::Withdrawal;
+    }
+    let Pair::Numbers(marks, word) = form::worded_hexadecimals(
+        &line[..len],
+        b"at",
+        mark_digits(controllers),
+        WORD_DIGITS,
+    ) else {
+        return Event::Malformed;
+    };
+    Event::Arrival(state_of(marks, word))
+}
+
+// The call's number, or 5 where it is none.
+fn take_event(
+    event: Event,
+    heading: &mut [usize; Heading::NUMBERS],
+    masks: &[u32],
+    states: &mut [u64],
+) -> u8
+    ensures { λ r. ⌜ Taken event (now (heading .entry)) (now (masks .entry)) (now (states .entry)) r (now (heading .exit)) (now (states .exit)) ⌝ }
+{
+    match event {
+        Event::Arrival(state) => arrive(state, heading, masks, states),
+        Event::Withdrawal => withdraw(heading, states),
+        Event::Malformed => Refusal::RECORDING_FORM,
+    }
+}
+
+// Takes the event of a line, and prints the session's line, or the refused line itself.
+pub fn follow(
+    line: &[u8],
+    heading: &mut [usize; Heading::NUMBERS],
+    masks: &[u32],
+    nodes: &[u32],
+    states: &mut [u64],
+    text: &mut [u8],
+) -> usize
+    requires { ⌜ EventRoom (now line) (now text) ⌝ }
+    ensures { λ r. ⌜ EventIs (now (line .entry)) (lentSpace (now (heading .entry)) (now (masks .entry)) (now (nodes .entry)) (now (states .entry))) (now (text .entry)) r (lentSpace (now (heading .exit)) (now (masks .entry)) (now (nodes .entry)) (now (states .exit))) (now (text .exit)) ⌝ }
+{
+    let first = first_line(line);
+    let event = event_of(heading[Heading::CONTROLLERS], line, first.len);
+    let number = take_event(event, heading, masks, states);
+    if number != Refusal::NONE {
+        let shown = least(first.len, Limits::LINE_BYTES);
+        return put_refused(number as u32, &line[..shown], text);
+    }
+    put_status(heading, masks, nodes, states, text)
+}
