@@ -9,8 +9,8 @@ use rules::choice::least;
 use rules::limits::Limits;
 use sessions::heading::Heading;
 use standard_streams::failures;
-use watch_program::phase::OUTPUT_BYTES;
-use watch_program::phase::Phase;
+use watch_opening::phase::OUTPUT_BYTES;
+use watch_opening::phase::Phase;
 
 // One byte more than the limit tells an opening that is too long.
 const SPACE_BYTES: usize = Limits::INPUT_BYTES + 1;

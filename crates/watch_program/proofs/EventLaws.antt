@@ -31,7 +31,7 @@ use Rattle.printing.specs.Printing.{Printed}
 use Rattle.printing.proofs.PrintLaws.{digits-fit}
 use Rattle.recording_reader.proofs.StateLaws.{digits-few, state-not, state-formed}
 use Rattle.sessions.specs.Calls.{ArriveIs, WithdrawIs}
-use Rattle.watch_program.specs.Status.{StatusRoom}
+use Rattle.session_status.specs.Status.{StatusRoom}
 use Rattle.watch_program.specs.Events.{meant, eventNumber, eventLeaves, Taken, EventRoom, EventIs}
 use Rattle.watch_program.specs.declared.event.Event.{Event}
 use Rattle.watch_program.specs.declared.event.Event.the-variants.{Arrival, Withdrawal, Malformed}

@@ -1,5 +1,3 @@
-pub mod StatusLaws
 pub mod EventLaws
-pub mod SessionLines
-pub mod OpeningLaws
 pub mod StepLaws
+pub mod Told

@@ -18,12 +18,12 @@ use Rattle.lines.proofs.PartLaws.{part-to-end}
 use Rattle.printing.specs.Printing.{OutputIs}
 use Rattle.printing.proofs.PrintLaws.{printed-none}
 use Rattle.printing.proofs.LineLaws.{printed-all}
-use Rattle.watch_program.specs.Status.{maxPrinted}
+use Rattle.session_status.specs.Status.{maxPrinted}
 use Rattle.watch_program.specs.Events.{EventRoom, EventIs}
-use Rattle.watch_program.specs.Openings.{watchOf, spaceAfter, SteppedIs}
-use Rattle.watch_program.specs.declared.phase.Phase.{Phase}
-use Rattle.watch_program.specs.declared.phase.Phase.the-variants.{Opening, Running, Ended}
-use Rattle.watch_program.specs.declared.phase.Stepped.{Stepped}
+use Rattle.watch_opening.specs.Openings.{watchOf, spaceAfter, SteppedIs}
+use Rattle.watch_opening.specs.declared.phase.Phase.{Phase}
+use Rattle.watch_opening.specs.declared.phase.Phase.the-variants.{Opening, Running, Ended}
+use Rattle.watch_opening.specs.declared.phase.Stepped.{Stepped}
 
 -- nothing is left of the text where the line begins at its end
 ended-is : (text : List ℕ) (from : ℕ) → isEmpty (drop from text) ≡ leb (length text) from

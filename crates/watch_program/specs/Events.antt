@@ -8,7 +8,7 @@ use Rattle.definitions.specs.Lines.{Parsed, formed, malformed}
 use Rattle.definitions.specs.Sessions.{Space, lentSpace, Call, Arrive, Withdraw, numberOf, leaves}
 use Rattle.definitions.specs.Watching.{Running, eventStep}
 use Rattle.printing.specs.Printing.{Printed}
-use Rattle.watch_program.specs.Status.{maxPrinted}
+use Rattle.session_status.specs.Status.{maxPrinted}
 use Rattle.watch_program.specs.declared.event.Event.{Event}
 use Rattle.watch_program.specs.declared.event.Event.the-variants.{Arrival, Withdrawal, Malformed}
 

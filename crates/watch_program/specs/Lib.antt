@@ -1,3 +1,1 @@
-pub mod Status
 pub mod Events
-pub mod Openings

@@ -1,21 +1,17 @@
-// The program `watch`, one line after the other. `opening`: the text that a session opens on; `event`: a line as a call; `status`: the line that is printed of
-// a session; `phase`: the program between two lines. Nothing is read or written here.
+// The program `watch`, one line after the other. `event`: a line as a call. Nothing is read or written here. What its lines tell: proofs/Told.
 pub mod event;
-pub mod opening;
-pub mod phase;
-pub mod status;
 
 ghost use lib.ListN.{take, drop};
 ghost use Rattle.definitions.specs.Sessions.{lentSpace};
 ghost use Rattle.definitions.specs.Watching.{step};
-ghost use Rattle.watch_program.specs.Openings.{watchOf, SteppedIs};
+ghost use Rattle.watch_opening.specs.Openings.{watchOf, SteppedIs};
 use event::follow;
-use opening::open;
-use phase::OUTPUT_BYTES;
-use phase::Phase;
-use phase::Stepped;
 use rules::limits::Limits;
 use sessions::heading::Heading;
+use watch_opening::open;
+use watch_opening::phase::OUTPUT_BYTES;
+use watch_opening::phase::Phase;
+use watch_opening::phase::Stepped;
 
 // The line from `from` on, the last of `text`; no line is the end of the input. While the session is not open yet, what stands before it is the opening's
 // text so far.
