@@ -192,7 +192,7 @@ expected() {
         printf '`owns`, one tab and eight lower-case hexadecimal digits'
     else
         printf '`at`, %s digits and eight digits, lower-case hexadecimal, each after one tab' "$marks"
-        [ "$1" = recording ] || printf ', or `withdraw` alone'
+        [ "$1" = recording ] || printf ', `withdraw` alone, or the text of a new rule'
     fi
 }
 
@@ -251,6 +251,7 @@ reason() {
         7) printf 'this mask has an atom of an earlier mask' ;;
         10) printf 'an atom changed here though its controller did not run in the state before' ;;
         11) printf '%s has no controller of that number' "$(named "$second_name")" ;;
+        14) printf 'the text of the rule has more than 16,384 bytes' ;;
         17) printf 'a state more than the %d that are held, which is the most' "$most_states" ;;
         18) printf 'no state is held that could be withdrawn' ;;
     esac

@@ -54,9 +54,10 @@
  * places that the caller keeps: a heading of four numbers (C, the rule's
  * controller, its node count, states held), masks, nodes and states. Open it
  * with rgv_open_session; a state that happened arrives, and the last one can be
- * withdrawn again; rgv_session_verdicts may be asked at any time. After every
- * list of these calls, refused ones included, the verdicts are those of
- * rgv_judge_local over the states that remain. A refused call, the opening too,
+ * withdrawn again; rgv_replace_rule takes another rule in between;
+ * rgv_session_verdicts may be asked at any time. After every list of these
+ * calls, refused ones included, the verdicts are those of rgv_judge_local of the
+ * rule in force over the states that remain. A refused call, the opening too,
  * leaves all as it was. Entries that aren't used are zero, a withdrawn state's
  * too. A session may be copied; what only its own calls write is always sound,
  * and on any other contents each call still ends and answers as it says below.
@@ -284,6 +285,20 @@ uint8_t rgv_arrive(uint64_t state,
  */
 uint8_t rgv_withdraw(size_t heading[4],
                      uint64_t *states, size_t states_len);
+
+/*
+ * A session takes another rule, of its controller or of another one below C,
+ * and keeps its states: from here all answers are those of a session that had
+ * this rule from the first state. The heading's controller and count and the
+ * nodes are written, refused nothing: then the former rule is in force. It
+ * needs no state held. Full size: nodes RGV_RULE_NODES.
+ * Refusals: 13, those of the rule (2, 3, 4), 11. On contents that no call made
+ * 11 goes by the heading's C, whatever it is.
+ */
+uint8_t rgv_replace_rule(size_t controller, size_t count,
+                         const uint32_t *rule, size_t rule_len,
+                         size_t heading[4],
+                         uint32_t *nodes, size_t nodes_len);
 
 /*
  * The verdicts of a session: those of rgv_judge_local of its rule over the

@@ -1,7 +1,7 @@
 /*
  * A rack as it runs, from C: a session opens on a rule in one line, states arrive, the last one turns out to be a bench
- * test and is withdrawn. After each call it prints how many states are held and the verdicts on them, weak and strong;
- * of a refused call its number, after which all is as it was.
+ * test and is withdrawn, and the protocol is revised in mid trial. After each call it prints how many states are held
+ * and the verdicts on them, weak and strong; of a refused call its number, after which all is as it was.
  * The exit status is 0 where the session opened, 2 where it was refused, 3 where the output can't be written.
  */
 #include <errno.h>
@@ -24,6 +24,9 @@ static const uint32_t owned[2] = {1, 2};
 
 /* Controller 0 answers a request at its next step, always. */
 static const char rule[] = "G (a1 -> X a0)";
+
+/* The protocol as it is revised: it answers at some step. */
+static const char revised[] = "F a0";
 
 static const char *yes_no(size_t verdict)
 {
@@ -57,6 +60,17 @@ static uint8_t opens(struct session *session)
                             RGV_MASKS, session->nodes, RGV_RULE_NODES, session->states, RGV_STATES);
 }
 
+/* A new rule for a controller, and all states are kept. */
+static uint8_t takes(struct session *session, size_t controller, const char *line)
+{
+    size_t read[2];
+    uint32_t nodes[RGV_RULE_NODES];
+    uint8_t number = rgv_read_line(controller, (const uint8_t *)line, strlen(line), nodes, RGV_RULE_NODES, read);
+    if (number != RGV_ACCEPTED)
+        return number;
+    return rgv_replace_rule(read[0], read[1], nodes, RGV_RULE_NODES, session->heading, session->nodes, RGV_RULE_NODES);
+}
+
 /* A state arrives: which controllers run in it, a bit for each, and its atoms. */
 static void arrives(struct session *session, uint64_t marks, uint64_t atoms)
 {
@@ -79,6 +93,8 @@ int main(void)
     arrives(&session, 2, 3); /* it does answer; controller 1 runs */
     arrives(&session, 1, 0); /* refused: controller 0 didn't run, and its answer is gone */
     arrives(&session, 1, 1); /* the request is gone */
+    told(takes(&session, 2, revised), &session); /* refused: there is no controller 2, and the rule stays */
+    told(takes(&session, 0, revised), &session); /* the same states by the new rule: kept */
     if (fflush(stdout) != 0 || ferror(stdout)) {
         fprintf(stderr, "standard output: %s\n", strerror(errno));
         return FAILED;

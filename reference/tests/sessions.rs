@@ -1,5 +1,6 @@
-//! "The rack as it runs": every number and its place, what a refusal leaves,
-//! what a session is judged by, and the calls on contents that none made.
+//! "The rack as it runs" and "A new rule without stopping the rack": every
+//! number and its place, what a refusal leaves, what a session is judged by, and
+//! the calls on contents that none made.
 
 use reference::generate::exhaustive;
 use reference::generate::random::Random;
@@ -9,7 +10,7 @@ use reference::generate::sessions::{self, Call, OpeningTable};
 use reference::model::limits::{CONTROLLERS, RULE_NODES, STATES};
 use reference::model::recording::State;
 use reference::model::session::{
-    arrive, open_session, session_verdicts, withdraw, Contents, Session,
+    arrive, open_session, replace_rule, session_verdicts, withdraw, Contents, Session,
 };
 use reference::model::{self, Verdict};
 
@@ -42,6 +43,9 @@ fn call(contents: &mut Contents, call: &Call) -> u8 {
         Call::Open(table) => open_session(&table.opening(), heading, masks, nodes, states),
         Call::Arrive(word) => arrive(*word, heading, masks, states),
         Call::Withdraw => withdraw(heading, states),
+        Call::Replace(rule) => {
+            replace_rule(rule.controller, rule.count, &rule.nodes, heading, nodes)
+        }
     };
     answer.err().unwrap_or(0)
 }
@@ -419,6 +423,59 @@ fn lent_space_below_its_full_size_is_13_of_what_a_call_writes() {
     }
 }
 
+#[test]
+fn a_new_rule_is_refused_at_its_places_in_order() {
+    let old = opened(&opening("atom 0; next 0"), &[RUN, 1]);
+    let mut short = old.clone();
+    short.nodes.truncate(RULE_NODES - 1);
+    let mut rule = RuleTable { controller: 11, count: 4, nodes: listed("atom 0; next 1") };
+    // All at once, then each mended in turn.
+    refused(&short, Call::Replace(rule.clone()), 13);
+    refused(&old, Call::Replace(rule.clone()), 2);
+    rule.controller = 2;
+    refused(&old, Call::Replace(rule.clone()), 3);
+    rule.nodes = listed("atom 0; not 0; next 1");
+    refused(&old, Call::Replace(rule.clone()), 4);
+    rule.count = 3;
+    refused(&old, Call::Replace(rule.clone()), 11);
+    assert_eq!(verdicts(&old), Ok(Some([true, true])));
+    rule.controller = 0;
+    let mut renewed = old.clone();
+    assert_eq!(call(&mut renewed, &Call::Replace(rule)), 0);
+    assert_eq!(renewed, opened(&opening("atom 0; not 0; next 1"), &[RUN, 1]));
+    assert_eq!(verdicts(&renewed), Ok(Some([false, false])));
+}
+
+#[test]
+fn a_new_rule_leaves_nothing_of_the_former_and_every_state() {
+    let mut table = opening("atom 1; atom 0; until 0 1");
+    let former = [opened(&table, &[]), opened(&table, &[RUN, 1]), opened(&table, &[0; STATES])];
+    table.rule = RuleTable { controller: 1, count: 1, nodes: listed("atom 1") };
+    let mut given = table.rule.clone();
+    given.nodes.extend([7, 7]);
+    for former in former {
+        let mut renewed = former.clone();
+        assert_eq!(call(&mut renewed, &Call::Replace(given.clone())), 0);
+        let states = &former.states[..former.heading[3]];
+        assert_eq!(renewed, opened(&table, states));
+    }
+}
+
+#[test]
+fn a_new_rule_goes_by_the_headings_c_whatever_it_is() {
+    let rule = |controller| Call::Replace(RuleTable { controller, ..opening("true").rule });
+    for (controllers, controller, number) in
+        [(0, 0, 11), (1, 1, 11), (12, 10, 0), (usize::MAX, 10, 0), (usize::MAX, 11, 2)]
+    {
+        let mut contents = garbage();
+        contents.heading[0] = controllers;
+        assert_eq!(call(&mut contents, &rule(controller)), number);
+        contents.masks.clear();
+        contents.states.clear();
+        assert_eq!(call(&mut contents, &rule(controller)), number);
+    }
+}
+
 /// A session as it is worded beside lent space: each call has the same number,
 /// lent space is its image, and the verdicts are its own.
 struct Beside {
@@ -444,6 +501,9 @@ impl Beside {
             }
             (Call::Arrive(word), Some(session)) => session.arrive(State::of_word(*word)),
             (Call::Withdraw, Some(session)) => session.withdraw(),
+            (Call::Replace(rule), Some(session)) => {
+                session.replace_rule(rule.controller, rule.count, &rule.nodes)
+            }
             (_, None) => return number,
         };
         assert_eq!(worded.err().unwrap_or(0), number, "{made:?}");
@@ -465,6 +525,8 @@ fn every_list_of_four_calls_leaves_the_image_of_what_remains() {
         Call::Open(opening("atom 0; atom 1; until 0 1")),
         Call::Open(refused_opening),
         Call::Withdraw,
+        Call::Replace(RuleTable { controller: 1, ..opening("atom 1").rule }),
+        Call::Replace(RuleTable { controller: 2, ..opening("atom 1").rule }),
     ];
     calls.extend([0, RUN, RUN + 1, 1, RUN_1 + 1, 2, RUN_2].map(Call::Arrive));
     for list in 0..calls.len().pow(4) {
@@ -481,7 +543,7 @@ fn every_list_of_four_calls_leaves_the_image_of_what_remains() {
 fn long_lists_leave_the_image_of_what_remains() {
     let mut random = Random::new(51);
     let mut met = [0; 20];
-    for _ in 0..60 {
+    for _ in 0..120 {
         let mut beside = Beside::new();
         let first = sessions::opening(&mut random, 8);
         beside.call(&Call::Open(first));
@@ -492,8 +554,12 @@ fn long_lists_leave_the_image_of_what_remains() {
                 let leaves = phase % 2 == 1;
                 let made = match random.below(64) {
                     0 => Call::Open(sessions::damaged_opening(&mut random)),
-                    1..=8 if !leaves => Call::Withdraw,
-                    1..=48 if leaves => Call::Withdraw,
+                    1..=3 => {
+                        let controllers = session.masks.len();
+                        Call::Replace(sessions::any_new_rule(&mut random, controllers))
+                    }
+                    4..=11 if !leaves => Call::Withdraw,
+                    4..=48 if leaves => Call::Withdraw,
                     _ => Call::Arrive(sessions::any_arrival(&mut random, &session.masks, before)),
                 };
                 met[usize::from(beside.call(&made))] += 1;
@@ -501,7 +567,7 @@ fn long_lists_leave_the_image_of_what_remains() {
         }
     }
     println!("{met:?}");
-    assert!([0, 6, 10, 17, 18].iter().all(|number| met[*number] > 20));
+    assert!([0, 2, 3, 4, 6, 10, 11, 17, 18].iter().all(|number| met[*number] > 20));
 }
 
 #[test]
@@ -525,7 +591,7 @@ fn every_small_recording_arrives_and_is_judged_from_the_start() {
 #[test]
 fn any_contents_have_an_answer_to_every_call() {
     let mut random = Random::new(52);
-    let mut met = [[0; 20]; 4];
+    let mut met = [[0; 20]; 5];
     for _ in 0..20_000 {
         let contents = sessions::contents(&mut random);
         let held = contents.heading[3].min(contents.states.len());
@@ -536,6 +602,7 @@ fn any_contents_have_an_answer_to_every_call() {
             Call::Open(sessions::any_opening(&mut random)),
             Call::Arrive(sessions::any_arrival(&mut random, masks, before)),
             Call::Withdraw,
+            Call::Replace(sessions::any_new_rule(&mut random, contents.heading[0])),
         ];
         for (counts, made) in met.iter_mut().zip(&calls) {
             let mut after = contents.clone();
@@ -543,13 +610,14 @@ fn any_contents_have_an_answer_to_every_call() {
             counts[usize::from(number)] += 1;
             assert!(number == 0 || after == contents);
         }
-        met[3][usize::from(verdicts(&contents).err().unwrap_or(0))] += 1;
+        met[4][usize::from(verdicts(&contents).err().unwrap_or(0))] += 1;
     }
     println!("{met:?}");
-    let answerable: [&[usize]; 4] = [
+    let answerable: [&[usize]; 5] = [
         &[0, 2, 3, 4, 6, 7, 8, 11, 13],
         &[0, 6, 10, 13, 17],
         &[0, 6, 13, 18],
+        &[0, 2, 3, 4, 11, 13],
         &[0, 2, 3, 4, 6, 7, 8, 10, 11],
     ];
     for (counts, numbers) in met.iter().zip(answerable) {

@@ -67,6 +67,44 @@ fn a_refused_opening_is_the_end() {
 }
 
 #[test]
+fn a_new_rule_is_one_event() {
+    let opening = format!("{OPENING}at 01 00000000\nat 00 00000001\n");
+    let before = "states 0\nstates 1 no no broken\nstates 2 no no broken\n";
+    let answered = |events: &str, printed: &str| {
+        let events = format!("{opening}{events}");
+        assert_eq!(watched(OWN_ATOM, &events), format!("{before}{printed}"), "{events}");
+    };
+    answered(
+        "rule 0 2\natom 0\nnext 0\nwithdraw\n",
+        "states 2 yes yes kept\nstates 1 yes no open\n",
+    );
+    answered("rule 1 1\r\ntrue\r\n", "states 2 yes yes kept\n");
+    let former = "states 1 no no broken\n";
+    answered("rule 2 1\ntrue\nwithdraw\n", &format!("refused 11 rule 2 1\n{former}"));
+    answered("rule 11 1\nwithdraw\n", &format!("refused 2 rule 11 1\n{former}"));
+    answered("rule 0 0\nwithdraw\n", &format!("refused 2 rule 0 0\n{former}"));
+    answered("rule\nwithdraw\n", &format!("refused 1 rule\n{former}"));
+    answered("rules\nwithdraw\n", &format!("refused 5 rules\n{former}"));
+    answered("rule 0 2\nnot 0\nwithdraw\n", &format!("refused 3 not 0\n{former}"));
+    answered("rule 0 2\nwithdraw\nwithdraw\n", &format!("refused 2 withdraw\n{former}"));
+    let among = "rule 0 2\ntrue\nat 00 00000001\nwithdraw\n";
+    answered(among, &format!("refused 2 at 00 00000001\n{former}"));
+    let rule_among = "rule 0 2\ntrue\nrule 0 1\ntrue\nwithdraw\n";
+    answered(rule_among, &format!("refused 2 rule 0 1\nrefused 5 true\n{former}"));
+    answered("rule 0 1\n\nwithdraw\n", &format!("refused 1 \n{former}"));
+    answered("rule 0 2\ntrue\n", "refused 4 \n");
+    answered("rule 0 2\ntrue\nnot", "refused 1 not\n");
+    answered("rule 0 2", "refused 1 rule 0 2\n");
+    answered("rule", "refused 1 rule\n");
+    answered("rul", "refused 5 rul\n");
+    for length in [1023, 1024, 1025, 3000] {
+        let line = "a".repeat(length);
+        let shown = &line[..length.min(1024)];
+        answered(&format!("rule 0 1\n{line}\nwithdraw\n"), &format!("refused 2 {shown}\n{former}"));
+    }
+}
+
+#[test]
 fn sizes_at_the_limits() {
     let full = "at 00 00000000\n".repeat(STATES);
     let events = format!("{OPENING}{full}at 04 00000001\nwithdraw\nat 04 00000000\n");
@@ -85,8 +123,8 @@ fn sizes_at_the_limits() {
     assert_eq!(watched(OWN_ATOM, &long_after).lines().count(), 1 + PROGRAM_INPUT);
 }
 
-/// The events of a random session: the states of a recording with withdrawals
-/// and states that may be refused between them.
+/// The events of a random session: the states of a recording with withdrawals,
+/// new rules, and states that may be refused between them.
 fn random_events(random: &mut Random, opening: usize, text: &[u8]) -> Vec<Vec<u8>> {
     let lines: Vec<&[u8]> = text.split_inclusive(|byte| *byte == 10).collect();
     let mut events = Vec::new();
@@ -97,6 +135,10 @@ fn random_events(random: &mut Random, opening: usize, text: &[u8]) -> Vec<Vec<u8
         }
         if random.once_in(3) {
             events.push(lines[random.between(opening, lines.len() - 1)].to_vec());
+        }
+        if random.once_in(3) {
+            let controller = random.below(opening.min(CONTROLLERS));
+            events.push(rule_text(&rules::rule_for(random, controller, 8)));
         }
     }
     events
@@ -115,6 +157,8 @@ impl Remaining {
     fn take(&mut self, event: &[u8]) {
         if event.starts_with(b"withdraw") {
             self.held.pop().expect("one is held");
+        } else if event.starts_with(b"rule") {
+            self.rule = event.to_vec();
         } else {
             self.held.push(event.to_vec());
         }
@@ -164,7 +208,8 @@ fn followed(random: &mut Random) {
         }
         remaining.take(event);
         let word = remaining.answered(answer);
-        if !event.starts_with(b"withdraw") && before.as_ref().is_some_and(|word| word != b"open") {
+        let arrived = event.starts_with(b"at");
+        if arrived && before.as_ref().is_some_and(|word| word != b"open") {
             assert_eq!(word, before);
         }
         before = word;
@@ -173,7 +218,8 @@ fn followed(random: &mut Random) {
 
 /// "After every list of arrivals and withdrawals from an empty session, refused
 /// ones included, both verdicts equal those of judging the remaining states
-/// from the start"; and a settled one stays so while nothing is withdrawn.
+/// from the start", by the rule that is then in force; and a settled one stays
+/// so while nothing is withdrawn and no new rule comes.
 #[test]
 fn the_remaining_states_from_the_start() {
     let mut random = Random::new(10);

@@ -1,4 +1,4 @@
--- Trials of document 02's sessions: "Take states as they arrive, and let the last one be withdrawn".
+-- Trials of document 02's sessions: "Take states as they arrive, and let the last one be withdrawn", and a new rule.
 use mathlib.Core.Path.{_≡_, refl}
 use Prim.Native.Nat.{ℕ}
 use mathlib.Core.Bool.{Bool, true}
@@ -8,12 +8,12 @@ use Rattle.definitions.specs.Nodes.{True, Atom, Not, Or, Next, Until, no
 use Rattle.definitions.specs.Tables.{Rule, ruleOf}
 use Rattle.definitions.specs.Recordings.{stateOf}
 use Rattle.definitions.specs.Operations.{Answer}
-use Rattle.definitions.specs.Sessions.{Space, spaceOf, controllersRefusal, openMasksRefusal, openRefusal, openNumber, arrivalRefusal, arriveNumber, withdrawalRefusal, withdrawNumber, opened, arrived, withdrawn, Call, Open, Arrive, Withdraw, numberOf, leaves, leavesAll, verdictsAnswer, admits, heldAfter, heldAfterAll}
+use Rattle.definitions.specs.Sessions.{Space, spaceOf, controllersRefusal, openMasksRefusal, openRefusal, openNumber, arrivalRefusal, arriveNumber, withdrawalRefusal, withdrawNumber, replacementRefusal, replaceNumber, opened, arrived, withdrawn, replaced, Call, Open, Arrive, Withdraw, Replace, numberOf, leaves, leavesAll, verdictsAnswer, admits, heldAfter, heldAfterAll}
 use Rattle.definitions.proofs.Samples.{computed, R, ruleFor, rule, yes, no}
 
 -- what these trials compute through
 unfoldable calls : Bool
-unfolding computed spaceOf controllersRefusal openMasksRefusal openRefusal openNumber arrivalRefusal arriveNumber withdrawalRefusal withdrawNumber arrived withdrawn leaves leavesAll verdictsAnswer admits heldAfter heldAfterAll
+unfolding computed spaceOf controllersRefusal openMasksRefusal openRefusal openNumber arrivalRefusal arriveNumber withdrawalRefusal withdrawNumber replacementRefusal replaceNumber arrived withdrawn replaced leaves leavesAll verdictsAnswer admits heldAfter heldAfterAll
 calls = true
 
 -- lent slices of these sizes: every entry is 7
@@ -236,4 +236,77 @@ untouched = record {
   arrivalShort = refl;
   arrivalFull = refl;
   withdrawal = refl;
+}
+
+-- ---- "A new rule without stopping the rack"
+abbrev ofOther : Rule
+ofOther = ruleFor 1 (node Atom 1 0 ∷ node Next 0 0 ∷ [])
+
+pub record Replaced : Type 0 where
+  -- "From there its answers are those of a session that had the new rule from the first state": every entry is, with fewer nodes, more, another controller
+  pub shorter : leaves (Replace nextOrder) (session example (first 4)) ≡ session nextOrder (first 4)
+  pub longer : leaves (Replace example) (session nextOrder (first 4)) ≡ session example (first 4)
+  pub otherController : leaves (Replace ofOther) (session example (first 3)) ≡ session ofOther (first 3)
+  -- the verdicts before and after: R's first four states keep the one rule open and break the other
+  pub before : verdictsAnswer (session example (first 4)) ≡ weakStrong yes no
+  pub after : verdictsAnswer (leaves (Replace nextOrder) (session example (first 4))) ≡ weakStrong no no
+  -- and go on: states arrive and are withdrawn as before
+  pub goesOn : verdicts (Replace nextOrder ∷ Arrive (stateOf 2 0) ∷ Withdraw ∷ Replace example ∷ []) (session example (first 3))
+      ≡ weakStrong yes no ∷ weakStrong yes no ∷ weakStrong no no ∷ weakStrong yes no ∷ weakStrong yes no ∷ []
+  -- an empty session takes a new rule too, and a full one
+  pub inEmpty : leaves (Replace nextOrder) (session example []) ≡ session nextOrder []
+  pub inFull : numbers (Replace nextOrder ∷ Arrive 0 ∷ []) holding128 ≡ 0 ∷ 17 ∷ []
+  -- "entries past the count aren't read"
+  pub entriesPast : leaves (Replace (ruleOf 0 1 (nodeWord (node True 0 0) ∷ 255 ∷ []))) (session example (first 2)) ≡ session (rule (node True 0 0 ∷ [])) (first 2)
+  -- what is held, by the checks of the whole
+  pub remaining : spaceOf (heldAfterAll (first 3 ++ (Replace ofOther ∷ Withdraw ∷ [])) (opened 2 (1 ∷ 2 ∷ []) example)) lent ≡ session ofOther (first 2)
+
+isReplaced : Replaced
+unfolding calls
+isReplaced = record {
+  shorter = refl;
+  longer = refl;
+  otherController = refl;
+  before = refl;
+  after = refl;
+  goesOn = refl;
+  inEmpty = refl;
+  inFull = refl;
+  entriesPast = refl;
+  remaining = refl;
+}
+
+pub record ReplacementRefused : Type 0 where
+  -- 13 of the nodes, which are written, before the rule; a short slice that isn't written is not 13
+  pub nodesShort : replaceNumber (ruleFor 11 []) (lentOf 11 63 128) ≡ 13
+  pub othersShort : replaceNumber nextGate (record { heading = 2 ∷ 0 ∷ 1 ∷ 0 ∷ []; masks = []; nodes = replicate 64 0; states = [] }) ≡ 0
+  -- 2, 3 and 4 as document 01 checks a rule, then 11: "a controller below C", by the new rule's controller and not by the former one
+  pub noNodes : replaceNumber (ruleOf 2 0 []) (session example []) ≡ 2
+  pub ruleOfEleven : replaceNumber (ruleFor 11 (node True 0 0 ∷ [])) (session example []) ≡ 2
+  pub operandLate : replaceNumber (ruleFor 2 (node Not 0 0 ∷ [])) (session example []) ≡ 3
+  pub nodeMissing : replaceNumber (ruleOf 2 2 (nodeWord (node True 0 0) ∷ [])) (session example []) ≡ 4
+  pub noController : replaceNumber (ruleFor 2 (node True 0 0 ∷ [])) (session example []) ≡ 11
+  pub lastController : replaceNumber ofOther (session example []) ≡ 0
+  -- "leaves the former one in force", every entry as it was
+  pub formerStays : leaves (Replace (ruleFor 2 (node True 0 0 ∷ []))) (session example (first 5)) ≡ session example (first 5)
+  pub halfRule : leaves (Replace (rule (node Atom 0 0 ∷ node Not 1 0 ∷ []))) (session example (first 5)) ≡ session example (first 5)
+  -- on other contents 11 goes by the heading's C, whatever it is
+  pub controllers0 : replaceNumber nextGate (saying (0 ∷ 0 ∷ 1 ∷ 0 ∷ [])) ≡ 11
+  pub controllers200 : replaceNumber (ruleFor 10 (node True 0 0 ∷ [])) (saying (200 ∷ 0 ∷ 1 ∷ 200 ∷ [])) ≡ 0
+
+isReplacementRefused : ReplacementRefused
+unfolding calls
+isReplacementRefused = record {
+  nodesShort = refl;
+  othersShort = refl;
+  noNodes = refl;
+  ruleOfEleven = refl;
+  operandLate = refl;
+  nodeMissing = refl;
+  noController = refl;
+  lastController = refl;
+  formerStays = refl;
+  halfRule = refl;
+  controllers0 = refl;
+  controllers200 = refl;
 }

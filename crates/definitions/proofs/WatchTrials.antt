@@ -7,13 +7,13 @@ use Prim.Native.String.{String}
 use lib.ListN.{length, replicate}
 use Rattle.definitions.specs.Nodes.{Atom, Next, node}
 use Rattle.definitions.specs.Lines.{bytes}
-use Rattle.definitions.specs.Sessions.{Space, spaceOf, controllersRefusal, openMasksRefusal, openRefusal, openNumber, arrivalRefusal, arriveNumber, withdrawalRefusal, withdrawNumber, arrived, withdrawn, leaves, verdictsAnswer}
-use Rattle.definitions.specs.Watching.{sessionForm, scanSession, openedBy, openedOn, openedTexts, openingOf, verdictWord, verdictFields, valuesEnd, statusText, callOf, Watch, Opening, Running, Ended, stepped, opensOn, openingStep, calls, eventStep, step, withByte, linesIn, printedOf, watchOutput, emptySpace}
+use Rattle.definitions.specs.Sessions.{Space, spaceOf, controllersRefusal, openMasksRefusal, openRefusal, openNumber, arrivalRefusal, arriveNumber, withdrawalRefusal, withdrawNumber, replacementRefusal, replaceNumber, arrived, withdrawn, replaced, leaves, verdictsAnswer}
+use Rattle.definitions.specs.Watching.{sessionForm, scanSession, openedBy, openedOn, openedTexts, openingOf, verdictWord, verdictFields, valuesEnd, statusText, callOf, Watch, Opening, Running, Ruling, Ended, stepped, opensOn, openingStep, calls, ruleSoFar, ruleStep, lineStep, eventStep, step, withByte, linesIn, printedOf, watchOutput, emptySpace}
 use Rattle.definitions.proofs.Samples.{computed, rule}
 
 -- what these trials compute through
 unfoldable watched : Bool
-unfolding computed spaceOf controllersRefusal openMasksRefusal openRefusal openNumber arrivalRefusal arriveNumber withdrawalRefusal withdrawNumber arrived withdrawn leaves verdictsAnswer sessionForm scanSession openedBy openedOn openedTexts openingOf verdictWord verdictFields valuesEnd statusText callOf opensOn openingStep calls eventStep step withByte linesIn printedOf watchOutput
+unfolding computed spaceOf controllersRefusal openMasksRefusal openRefusal openNumber arrivalRefusal arriveNumber withdrawalRefusal withdrawNumber replacementRefusal replaceNumber arrived withdrawn replaced leaves verdictsAnswer sessionForm scanSession openedBy openedOn openedTexts openingOf verdictWord verdictFields valuesEnd statusText callOf opensOn openingStep calls ruleSoFar ruleStep lineStep eventStep step withByte linesIn printedOf watchOutput
 watched = true
 
 abbrev prints : String → List ℕ
@@ -67,6 +67,48 @@ events = record {
   malformed = refl;
   unclosed = refl;
   unclosedArrival = refl;
+  returns = refl;
+}
+
+-- ---- a new rule, the lines of its text
+pub record NewRules : Type 0 where
+  -- with its last line, and not before; the states are carried over: the step keeps next of atom 0 and breaks next of not atom 0
+  pub atOnce : each "rule\t0\t1\ntrue\n-\nsession\t1\nowns\t00000001\nat\t01\t00000000\nat\t00\t00000001\nrule\t0\t3\natom\t0\nnot\t0\nnext\t1\nwithdraw\n"
+      ≡ [] ∷ [] ∷ [] ∷ [] ∷ bytes "states\t0\n" ∷ bytes "states\t1\tyes\tyes\tkept\n" ∷ bytes "states\t2\tyes\tyes\tkept\n" ∷ [] ∷ [] ∷ [] ∷ bytes "states\t2\tno\tno\tbroken\n"
+      ∷ bytes "states\t1\tyes\tno\topen\n" ∷ [] ∷ []
+  -- another controller below C; in an empty session
+  pub otherController : follows "rule\t1\t1\natom\t1\nat\t00\t00000000\n" ≡ bytes "states\t0\nstates\t0\nstates\t1\tno\tno\tbroken\n"
+  -- refused: its number and the refused line, 1, 2, 3 at that line, for 11 the rule's first; the former rule stays
+  pub noController : follows "at\t01\t00000002\nrule\t2\t1\ntrue\nat\t00\t00000003\n"
+      ≡ bytes "states\t0\nstates\t1\tyes\tno\topen\nrefused\t11\trule\t2\t1\nstates\t2\tyes\tyes\tkept\n"
+  pub badHeading : follows "rule\t0\nrule\t0\t65\nrule\nwithdraw\n"
+      ≡ bytes "states\t0\nrefused\t1\trule\t0\nrefused\t2\trule\t0\t65\nrefused\t1\trule\nrefused\t18\twithdraw\n"
+  pub operandLate : follows "rule\t0\t2\nnot\t0\nat\t00\t00000001\n" ≡ bytes "states\t0\nrefused\t3\tnot\t0\nstates\t1\tyes\tno\topen\n"
+  -- a line that can't be part of the rule text ends the event where it stands, and is not read as another one
+  pub stateAmong : follows "at\t00\t00000001\nrule\t0\t2\ntrue\nat\t00\t00000001\nwithdraw\n"
+      ≡ bytes "states\t0\nstates\t1\tyes\tno\topen\nrefused\t2\tat\t00\t00000001\nstates\t0\n"
+  pub withdrawAmong : follows "at\t00\t00000001\nrule\t0\t1\nwithdraw\nwithdraw\n"
+      ≡ bytes "states\t0\nstates\t1\tyes\tno\topen\nrefused\t2\twithdraw\nstates\t0\n"
+  pub ruleAmong : follows "rule\t0\t2\ntrue\nrule\t0\t1\ntrue\n" ≡ bytes "states\t0\nrefused\t2\trule\t0\t1\nrefused\t5\ttrue\n"
+  -- 4 where the input ends before the last line, 1 where it ends inside a line
+  pub linesMissing : follows "rule\t0\t2\ntrue\n" ≡ bytes "states\t0\nrefused\t4\t\n"
+  pub cutInLine : follows "rule\t0\t2\ntru" ≡ bytes "states\t0\nrefused\t1\ttru\n"
+  -- bytes 13 and 10
+  pub returns : follows "rule\t0\t1\r\ntrue\r\nat\t00\t00000000\r\n" ≡ bytes "states\t0\nstates\t0\nstates\t1\tyes\tyes\tkept\n"
+
+newRules : NewRules
+unfolding watched
+newRules = record {
+  atOnce = refl;
+  otherController = refl;
+  noController = refl;
+  badHeading = refl;
+  operandLate = refl;
+  stateAmong = refl;
+  withdrawAmong = refl;
+  ruleAmong = refl;
+  linesMissing = refl;
+  cutInLine = refl;
   returns = refl;
 }
 
@@ -130,6 +172,10 @@ pub record Limits : Type 0 where
   -- 14 where the text of the opening is over 16,384 bytes
   pub long : step (replicate 16384 120) (Opening (120 ∷ [])) ≡ stepped Ended (bytes "refused\t14\t\n")
   pub notLong : step (replicate 16383 120 ++ (10 ∷ [])) (Opening []) ≡ stepped (Opening (replicate 16383 120 ++ (10 ∷ []))) []
+  -- 14 of a new rule's text, whatever its last line is; what is held stays, and the next line is an event
+  pub longRule : step (replicate 16376 120) (Ruling (bytes "rule\t0\t2\n") (holding 1)) ≡ stepped (Running (holding 1)) (bytes "refused\t14\t\n")
+  pub longHeading : (step (bytes "rule\t" ++ replicate 16380 48) (Running (holding 1))) .printed ≡ bytes "refused\t14\t\n"
+  pub notLongRule : (step (replicate 16374 120 ++ (10 ∷ [])) (Ruling (bytes "rule\t0\t2\n") (holding 1))) .printed ≡ bytes "refused\t2\t" ++ (replicate 1024 120 ++ (10 ∷ []))
   -- 17
   pub full : step (bytes "at\t00\t00000000\n") (Running (holding 128)) ≡ stepped (Running (holding 128)) (bytes "refused\t17\tat\t00\t00000000\n")
   pub fullMark : (step (bytes "at\t04\t00000000\n") (Running (holding 128))) .printed ≡ bytes "refused\t17\tat\t04\t00000000\n"
@@ -141,4 +187,4 @@ pub record Limits : Type 0 where
 
 limits : Limits
 unfolding watched
-limits = record { long = refl; notLong = refl; full = refl; fullMark = refl; longLine = refl; lineOf1024 = refl; noVerdict = refl }
+limits = record { long = refl; notLong = refl; longRule = refl; longHeading = refl; notLongRule = refl; full = refl; fullMark = refl; longLine = refl; lineOf1024 = refl; noVerdict = refl }

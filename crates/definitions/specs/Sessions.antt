@@ -1,5 +1,5 @@
--- "The rack as it runs" (document 02): a session in lent space, what its calls answer and leave there on any contents, and the same calls on what
--- is held.
+-- "The rack as it runs" and "A new rule without stopping the rack" (document 02): a session in lent space, what its calls answer and leave there on any
+-- contents, and the same calls on what is held.
 use mathlib.Core.Path.{_≡_}
 use Prim.Native.Nat.{ℕ, _+_, _-_, _≤_, _<_}
 use mathlib.Core.Bool.{Bool, false, _||_}
@@ -102,6 +102,14 @@ withdrawalRefusal held = pick (eqb held 0) sessionEmpty (pick (ltb maxStates hel
 unfoldable pub withdrawNumber : (h : Space) → ℕ
 withdrawNumber h = pick (tooShort maxStates (h .states)) lentShort (withdrawalRefusal (heldIn h))
 
+-- "another rule for a controller below C": "A rule refused with 2, 3, 4 or 11"
+unfoldable pub replacementRefusal : (C : ℕ) (r : Rule) → ℕ
+replacementRefusal C r = orElse (ruleRefusal r) (controllerRefusal C (r .controller))
+
+-- a new rule: 13 for the nodes, then this; C is the heading's, whatever it is
+unfoldable pub replaceNumber : (r : Rule) (h : Space) → ℕ
+replaceNumber r h = pick (tooShort maxRuleNodes (h .nodes)) lentShort (replacementRefusal (controllersIn h) r)
+
 -- ---- what an accepted call leaves
 
 -- "entries past the count aren't read"
@@ -130,26 +138,38 @@ withdrawn h = record {
   states = set (h .states) (heldIn h - 1) 0;
 }
 
+-- after a new rule: its controller, count and nodes; it "carries its states over"
+unfoldable pub replaced : (r : Rule) (h : Space) → Space
+replaced r h = record {
+  heading = set (set (h .heading) 1 (r .controller)) 2 (r .count);
+  masks = h .masks;
+  nodes = left accepted maxRuleNodes (take (r .count) (r .nodes)) (h .nodes);
+  states = h .states;
+}
+
 -- ---- calls
 
 pub data Call : Type 0 where
   Open : (C : ℕ) (masks : List ℕ) (r : Rule) → Call
   Arrive : (s : ℕ) → Call
   Withdraw : Call
+  Replace : (r : Rule) → Call
 
 -- what a call answers: the refusal number or 0
 abbrev pub numberOf : (c : Call) (h : Space) → ℕ
 numberOf (Open C masks r) h = openNumber C masks r h
 numberOf (Arrive s) h = arriveNumber s h
 numberOf Withdraw h = withdrawNumber h
+numberOf (Replace r) h = replaceNumber r h
 
 -- what it leaves where it is accepted
 abbrev pub acceptedLeaves : (c : Call) (h : Space) → Space
 acceptedLeaves (Open C masks r) h = spaceOf (opened C masks r) h
 acceptedLeaves (Arrive s) h = arrived s h
 acceptedLeaves Withdraw h = withdrawn h
+acceptedLeaves (Replace r) h = replaced r h
 
--- "A refused call, the opening too, changes nothing, lent space included"
+-- "A refused call, the opening too, changes nothing, lent space included"; a refused rule "leaves the former one in force"
 unfoldable pub leaves : (c : Call) (h : Space) → Space
 leaves c h = pick (eqb (numberOf c h) accepted) (acceptedLeaves c h) h
 
@@ -176,6 +196,10 @@ oneMore s a = withStates a (a .states ++ (s ∷ []))
 abbrev pub oneLess : (a : Held) → Held
 oneLess a = withStates a (take (length (a .states) - 1) (a .states))
 
+-- another rule
+abbrev pub withRule : (a : Held) (r : Rule) → Held
+withRule a r = record { masks = a .masks; rule = r; states = a .states }
+
 -- an arrival is taken where under 128 states are held and the recording with it is accepted
 unfoldable pub admits : (s : ℕ) (a : Held) → Bool
 admits s a = pick (ltb (length (a .states)) maxStates) (eqb (recordingRefusal (recordingHeld (oneMore s a))) accepted) false
@@ -185,6 +209,7 @@ unfoldable pub heldAfter : (c : Call) (a : Held) → Held
 heldAfter (Open C masks r) a = pick (eqb (openRefusal C masks r) accepted) (opened C masks r) a
 heldAfter (Arrive s) a = pick (admits s a) (oneMore s a) a
 heldAfter Withdraw a = oneLess a
+heldAfter (Replace r) a = pick (eqb (replacementRefusal (length (a .masks)) r) accepted) (withRule a (ruleRead r)) a
 
 -- what is held after a list of calls: of the states "the remaining states"
 unfoldable pub heldAfterAll : (cs : List Call) (a : Held) → Held

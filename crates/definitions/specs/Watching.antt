@@ -1,17 +1,18 @@
 -- The program `watch`: a session (document 02) followed line by line. Its input is a rule text, a line `-`, a line `session`, tab, C, the C `owns` lines,
--- and then a line for each event; a line is printed as soon as the last `owns` line or an event has come.
+-- and then the events: a line each, but for a new rule, which is the lines of its text. A line is printed as soon as the last `owns` line or an event has
+-- come.
 use Prim.Native.Nat.{ℕ}
-use mathlib.Core.Bool.{Bool, not, _&&_, _||_}
+use mathlib.Core.Bool.{Bool, false, not, _&&_, _||_}
 use mathlib.Core.List.{List, [], _∷_, _++_}
 use lib.ListN.{length, take, getD, replicate}
 use lib.Dec.{eqb, ltb}
-use Rattle.definitions.specs.Limits.{accepted, maxControllers, maxRuleNodes, maxStates, maxInputBytes, maxLineBytes, recordingForm, recordingLines, inputLong}
+use Rattle.definitions.specs.Limits.{accepted, maxControllers, maxRuleNodes, maxStates, maxInputBytes, maxLineBytes, ruleLines, recordingForm, recordingLines, inputLong}
 use Rattle.definitions.specs.Bounded.{pick}
 use Rattle.definitions.specs.Tables.{ruleOf}
-use Rattle.definitions.specs.Lines.{bytes, tab, newline, isEmpty, isClosed, lineOf, same, Parsed, formed, malformed, onParsed, decimal, worded, digits, NextLine, onNext, nextLine, Scan}
-use Rattle.definitions.specs.RuleText.{RuleScan, scanRule}
+use Rattle.definitions.specs.Lines.{bytes, tab, newline, isEmpty, upTo, isClosed, lineOf, same, Parsed, formed, malformed, onParsed, decimal, worded, digits, NextLine, onNext, nextLine, Scan}
+use Rattle.definitions.specs.RuleText.{ruleWord, RuleScan, scanRule}
 use Rattle.definitions.specs.RecordingText.{stateForm, scanMasks}
-use Rattle.definitions.specs.Sessions.{Space, lentSpace, controllersIn, heldIn, controllersRefusal, Call, Open, Arrive, Withdraw, numberOf, leaves, verdictsAnswer}
+use Rattle.definitions.specs.Sessions.{Space, lentSpace, controllersIn, heldIn, controllersRefusal, Call, Open, Arrive, Withdraw, Replace, numberOf, leaves, verdictsAnswer}
 use Rattle.definitions.specs.Program.{ruleLength, ruleTextIn, recordingTextIn, yesNo, refusedText}
 
 -- ---- the lines after the line `-`: what a session opens on
@@ -126,12 +127,21 @@ callOf C line =
 abbrev pub eventText : List ℕ → List ℕ
 eventText line = take maxLineBytes (lineOf line)
 
+-- a line that begins a rule text: its first field is the word `rule`
+abbrev pub beginsRule : List ℕ → Bool
+beginsRule line = same (upTo tab (lineOf line)) ruleWord
+
+-- a rule text as a call, "A new rule without stopping the rack"
+abbrev pub replaceCall : RuleScan → Call
+replaceCall r = Replace (ruleOf (r .controller) (r .count) (r .words))
+
 -- ---- one line after the other
 
--- the program, between two lines: the text of the opening so far; a session; nothing more is read
+-- the program, between two lines: the text of the opening so far; a session; a session and the text of its new rule so far; nothing more is read
 pub data Watch : Type 0 where
   Opening : (text : List ℕ) → Watch
   Running : (h : Space) → Watch
+  Ruling : (text : List ℕ) (h : Space) → Watch
   Ended : Watch
 
 -- what it is after a line, and what is printed of that line
@@ -164,14 +174,33 @@ refusesEvent number line h = stepped (Running h) (refusedText number (eventText 
 unfoldable pub calls : (line : List ℕ) (h : Space) (c : Call) → Stepped
 calls line h c = pick (eqb (numberOf c h) accepted) (runs (leaves c h)) (refusesEvent (numberOf c h) line h)
 
--- an event line; the empty line is the end of the input
+-- the text of a new rule so far lacks only lines, and more may come
+abbrev pub lacksNodes : (ended : Bool) (r : RuleScan) → Bool
+lacksNodes ended r = not ended && eqb (r .number) ruleLines
+
+-- the text of a new rule so far: it is read, "for 11 the rule's first line"; it lacks only lines; or a line of it is refused, with which it ends
+unfoldable pub ruleSoFar : (ended : Bool) (text : List ℕ) (h : Space) → Stepped
+ruleSoFar ended text h =
+    pick (eqb ((scanRule text) .number) accepted) (calls text h (replaceCall (scanRule text)))
+    (pick (lacksNodes ended (scanRule text)) (stepped (Ruling text h) []) (refusesEvent ((scanRule text) .number) ((scanRule text) .rest) h))
+
+-- after its next line: "14 over 16,384 bytes", of this text too
+unfoldable pub ruleStep : (ended : Bool) (text : List ℕ) (h : Space) → Stepped
+ruleStep ended text h = pick (ltb maxInputBytes (length text)) (refusesEvent inputLong [] h) (ruleSoFar ended text h)
+
+-- an event of one line
+unfoldable pub lineStep : (line : List ℕ) (h : Space) → Stepped
+lineStep line h = onParsed (callOf (controllersIn h) line) (refusesEvent recordingForm line h) (calls line h)
+
+-- the first line of an event; the empty line is the end of the input
 unfoldable pub eventStep : (line : List ℕ) (h : Space) → Stepped
-eventStep line h = pick (isEmpty line) (stepped Ended []) (onParsed (callOf (controllersIn h) line) (refusesEvent recordingForm line h) (calls line h))
+eventStep line h = pick (isEmpty line) (stepped Ended []) (pick (beginsRule line) (ruleStep false line h) (lineStep line h))
 
 -- a line with its ending, or the end of the input
 unfoldable pub step : (line : List ℕ) (w : Watch) → Stepped
 step line (Opening text) = openingStep (isEmpty line) (text ++ line)
 step line (Running h) = eventStep line h
+step line (Ruling text h) = ruleStep (isEmpty line) (text ++ line) h
 step line Ended = stepped Ended []
 
 -- the lines of the input, each with its ending; the last one may not be closed

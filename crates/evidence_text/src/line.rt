@@ -51,8 +51,8 @@ fn put_place(line: Line, at: usize, text: &mut [u8]) -> usize
     requires { ⌜ at + length (placeText line) ≤ length (now text) ⌝ }
     ensures { λ r. ⌜ Printed (placeText line) (now (text .entry)) at r (now (text .exit)) ⌝ }
 {
-    let after_state = put_line(b"state", line.state, b"\t", at, text);
-    put_line(b"step", line.step, b"\t", after_state, text)
+    let after_state = put_line(b"state", line.state as u64, b"\t", at, text);
+    put_line(b"step", line.step as u64, b"\t", after_state, text)
 }
 
 // The atom, its bit there, and the rule's node.
@@ -60,9 +60,9 @@ fn put_reading(line: Line, at: usize, text: &mut [u8]) -> usize
     requires { ⌜ at + length (readingText line) ≤ length (now text) ⌝ }
     ensures { λ r. ⌜ Printed (readingText line) (now (text .entry)) at r (now (text .exit)) ⌝ }
 {
-    let after_atom = put_line(b"atom", line.atom, b"\t", at, text);
-    let after_value = put_line(b"is", line.value, b"\t", after_atom, text);
-    put_line(b"node", line.node, b"\n", after_value, text)
+    let after_atom = put_line(b"atom", line.atom as u64, b"\t", at, text);
+    let after_value = put_line(b"is", line.value as u64, b"\t", after_atom, text);
+    put_line(b"node", line.node as u64, b"\n", after_value, text)
 }
 
 // Words and numbers, all tab-parted, closed by byte 10.

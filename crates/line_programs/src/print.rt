@@ -17,7 +17,7 @@ fn put_refusal(number: u8, text: &mut [u8]) -> usize
     ensures { λ r. ⌜ Printed (refusalText number) (now (text .entry)) 0 r (now (text .exit)) ⌝ }
 {
     let after_word = printing::put(b"refused", 0, text);
-    let after_number = printing::put_field(number as u32, after_word, text);
+    let after_number = printing::put_field(number as u64, after_word, text);
     printing::put_byte(scan::NEWLINE, after_number, text)
 }
 

@@ -7,7 +7,7 @@ ghost use Rattle.printing.specs.Printing.{Printed, countedLine};
 use lines::scan;
 
 // Writes the digits of `n` from `at` on, highest first. The place after them.
-pub fn print(n: u32, at: usize, text: &mut [u8]) -> usize
+pub fn print(n: u64, at: usize, text: &mut [u8]) -> usize
     requires { ⌜ at + length (digits n) ≤ length (now text) ⌝ }
     ensures { λ r. ⌜ Printed (digits n) (now (text .entry)) at r (now (text .exit)) ⌝ }
 {
@@ -43,7 +43,7 @@ pub fn put_byte(b: u8, at: usize, text: &mut [u8]) -> usize
 }
 
 // A tab and the digits of `n`.
-pub fn put_field(n: u32, at: usize, text: &mut [u8]) -> usize
+pub fn put_field(n: u64, at: usize, text: &mut [u8]) -> usize
     requires { ⌜ at + length (tab ∷ digits n) ≤ length (now text) ⌝ }
     ensures { λ r. ⌜ Printed (tab ∷ digits n) (now (text .entry)) at r (now (text .exit)) ⌝ }
 {
@@ -52,7 +52,7 @@ pub fn put_field(n: u32, at: usize, text: &mut [u8]) -> usize
 }
 
 // A word, a number and how the line ends.
-pub fn put_line(word: &[u8], number: u32, end: &[u8], at: usize, text: &mut [u8]) -> usize
+pub fn put_line(word: &[u8], number: u64, end: &[u8], at: usize, text: &mut [u8]) -> usize
     requires { ⌜ at + length (countedLine (now word) number (now end)) ≤ length (now text) ⌝ }
     ensures { λ r. ⌜ Printed (countedLine (now (word .entry)) number (now (end .entry))) (now (text .entry)) at r (now (text .exit)) ⌝ }
 {

@@ -2,7 +2,7 @@
 // of its operation says, on every input. `ruleRead` to `rewritten` list document 01's number and values for each case of an answer.
 // What these contracts give together: `same-verdicts-all-four-times` (proofs/SameVerdicts), schedule independence, and `same-bits-same-verdict`
 // (proofs/SameEvidence), what the readings behind a verdict promise; `announced-verdicts-stay` (proofs/EarlyVerdicts), which verdicts stay when the
-// recording goes on.
+// recording goes on; `runs-as-from-the-start` and `replaced-as-opened` (proofs/SessionRuns), what a session answers.
 ghost use mathlib.Core.Path.{_≡_};
 ghost use mathlib.Core.Bool.{true, false};
 ghost use mathlib.Core.List.{[]};
@@ -14,7 +14,7 @@ ghost use Rattle.definitions.specs.Operations.{readRuleAnswer, readRuleNodes, w
 ghost use Rattle.definitions.specs.Operations.{readJointHeading, readJointNodes, readJointMasks, readJointStates, readJointPart, projectAnswer, projectPlaces, judgeLocalAnswer};
 ghost use Rattle.definitions.specs.Operations.{evidenceAnswer, evidencePairs, rewriteAnswer, rewriteTable, judgeRecordingAnswer, judgeRecordingRows};
 ghost use Rattle.definitions.specs.OneLine.{readLineAnswer, readLineNodes};
-ghost use Rattle.definitions.specs.Sessions.{lentSpace, openNumber, arriveNumber, withdrawNumber, leaves, Open, Arrive, Withdraw, verdictsAnswer};
+ghost use Rattle.definitions.specs.Sessions.{lentSpace, openNumber, arriveNumber, withdrawNumber, replaceNumber, leaves, Open, Arrive, Withdraw, Replace, verdictsAnswer};
 ghost use Rattle.rule_reader.specs.Reading.{readAnswer as ruleRead};
 ghost use Rattle.rule_writer.specs.Writing.{writeAnswer as ruleWritten};
 ghost use Rattle.recording_reader.specs.Reading.{readAnswer as recordingRead};
@@ -252,6 +252,25 @@ pub fn withdraw(heading: &mut [usize; 4], states: &mut [u64]) -> u8
     ensures { λ _. ⌜ now (states .exit) ≡ (leaves Withdraw (lentSpace (now (heading .entry)) [] [] (now (states .entry)))) .states ⌝ }
 {
     sessions::withdrawal::withdraw(heading, states)
+}
+
+// "An open session takes another rule for a controller below C": the number
+pub fn replace_rule(
+    controller: usize,
+    count: usize,
+    rule: &[u32],
+    heading: &mut [usize; 4],
+    nodes: &mut [u32],
+) -> u8
+    ensures { λ r. ⌜ r ≡ replaceNumber (ruleOf controller count (now (rule .entry))) (lentSpace (now (heading .entry)) [] (now (nodes .entry)) []) ⌝ }
+    ensures { λ _. ⌜ now (heading .exit) ≡ (leaves (Replace (ruleOf controller count (now (rule .entry)))) (lentSpace (now (heading .entry)) [] (now (nodes .entry)) [])) .heading ⌝ }
+    ensures { λ _. ⌜ now (nodes .exit) ≡ (leaves (Replace (ruleOf controller count (now (rule .entry)))) (lentSpace (now (heading .entry)) [] (now (nodes .entry)) [])) .nodes ⌝ }
+{
+    let given = RuleHeading {
+        controller: controller,
+        count: count,
+    };
+    sessions::replacement::replace_rule(given, rule, heading, nodes)
 }
 
 // "both verdicts" of a session; "An empty session has no verdict, and its answer says so"

@@ -8,7 +8,7 @@ ghost use Rattle.definitions.specs.Operations.{readRuleAnswer, readRuleNodes, w
 ghost use Rattle.definitions.specs.Operations.{readJointHeading, readJointNodes, readJointMasks, readJointStates, readJointPart, projectAnswer, projectPlaces, judgeLocalAnswer};
 ghost use Rattle.definitions.specs.Operations.{evidenceAnswer, evidencePairs, rewriteAnswer, rewriteTable, judgeRecordingAnswer, judgeRecordingRows};
 ghost use Rattle.definitions.specs.OneLine.{readLineAnswer, readLineNodes};
-ghost use Rattle.definitions.specs.Sessions.{lentSpace, openNumber, arriveNumber, withdrawNumber, leaves, Open, Arrive, Withdraw, verdictsAnswer};
+ghost use Rattle.definitions.specs.Sessions.{lentSpace, openNumber, arriveNumber, withdrawNumber, replaceNumber, leaves, Open, Arrive, Withdraw, Replace, verdictsAnswer};
 ghost use Rattle.c_answers.specs.Values.{heading, partValues, sessionValues, isSet};
 use c_answers::of_explanation;
 use c_answers::of_found;
@@ -325,6 +325,21 @@ pub extern "C" fn rgv_withdraw(heading: &mut [usize; 4], states: &mut [u64]) -> 
     ensures { λ _. ⌜ now (states .exit) ≡ (leaves Withdraw (lentSpace (now (heading .entry)) [] [] (now (states .entry)))) .states ⌝ }
 {
     ragyvosin::withdraw(heading, states)
+}
+
+#[no_mangle]
+pub extern "C" fn rgv_replace_rule(
+    controller: usize,
+    count: usize,
+    rule: &[u32],
+    heading: &mut [usize; 4],
+    nodes: &mut [u32],
+) -> u8
+    ensures { λ r. ⌜ r ≡ replaceNumber (ruleOf controller count (now (rule .entry))) (lentSpace (now (heading .entry)) [] (now (nodes .entry)) []) ⌝ }
+    ensures { λ _. ⌜ now (heading .exit) ≡ (leaves (Replace (ruleOf controller count (now (rule .entry)))) (lentSpace (now (heading .entry)) [] (now (nodes .entry)) [])) .heading ⌝ }
+    ensures { λ _. ⌜ now (nodes .exit) ≡ (leaves (Replace (ruleOf controller count (now (rule .entry)))) (lentSpace (now (heading .entry)) [] (now (nodes .entry)) [])) .nodes ⌝ }
+{
+    ragyvosin::replace_rule(controller, count, rule, heading, nodes)
 }
 
 // Values: 1, weak verdict, strong verdict; zeros where no state is held.

@@ -88,7 +88,7 @@ fn put_rewritten(word: &[u8], rewritten: Rewritten, at: usize, text: &mut [u8]) 
     let end = end_of(rewritten.verdicts);
     let bytes = end.bytes;
     let count = end.count;
-    put_line(word, rewritten.count, &bytes[..count], at, text)
+    put_line(word, rewritten.count as u64, &bytes[..count], at, text)
 }
 
 // The four lines of an accepted rule and recording.
@@ -96,7 +96,7 @@ pub fn put_report(report: Report, text: &mut [u8]) -> usize
     requires { ⌜ length (reportText report) ≤ length (now text) ⌝ }
     ensures { λ r. ⌜ Printed (reportText report) (now (text .entry)) 0 r (now (text .exit)) ⌝ }
 {
-    let after_local = put_line(b"local", report.places, b"\n", 0, text);
+    let after_local = put_line(b"local", report.places as u64, b"\n", 0, text);
     let after_own = put_own(report.own, after_local, text);
     let after_plain = put_rewritten(b"plain", report.plain, after_own, text);
     put_rewritten(b"short", report.short, after_plain, text)
@@ -107,7 +107,7 @@ pub fn put_refused(number: u32, line: &[u8], text: &mut [u8]) -> usize
     requires { ⌜ length (refusedText number (now line)) ≤ length (now text) ⌝ }
     ensures { λ r. ⌜ Printed (refusedText number (now (line .entry))) (now (text .entry)) 0 r (now (text .exit)) ⌝ }
 {
-    let after_number = put_line(b"refused", number, b"\t", 0, text);
+    let after_number = put_line(b"refused", number as u64, b"\t", 0, text);
     let after_line = put(line, after_number, text);
     put_byte(scan::NEWLINE, after_line, text)
 }

@@ -49,11 +49,11 @@ fn put_node(n: Node, at: usize, text: &mut [u8]) -> usize
     if uses == 0 {
         return after_kind;
     }
-    let after_first = put_field(first as u32, after_kind, text);
+    let after_first = put_field(first as u64, after_kind, text);
     if uses == 1 {
         return after_first;
     }
-    put_field(second as u32, after_first, text)
+    put_field(second as u64, after_first, text)
 }
 
 // The lines of the nodes.
@@ -78,8 +78,8 @@ fn put_heading(controller: u32, count: u32, text: &mut [u8]) -> usize
     ensures { λ r. ⌜ Printed (headingLine controller count) (now (text .entry)) 0 r (now (text .exit)) ⌝ }
 {
     let after_word = put(b"rule", 0, text);
-    let after_controller = put_field(controller, after_word, text);
-    let after_count = put_field(count, after_controller, text);
+    let after_controller = put_field(controller as u64, after_word, text);
+    let after_count = put_field(count as u64, after_controller, text);
     put_byte(scan::NEWLINE, after_count, text)
 }
 

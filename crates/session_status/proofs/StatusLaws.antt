@@ -1,4 +1,4 @@
--- The line of a session (`end_of`, `put_judged`, `put_status`): a law for each return, and room for what is printed.
+-- The line of a session (`end_of`, `put_judged`, `put_alone`, `put_status`): a law for each return, and room for what is printed.
 use mathlib.Core.Path.{_≡_, refl, sym, ap, _∙_}
 use Prim.Native.Nat.{ℕ, _+_, _≤_}
 use native.Mathlib.Omega.{arith}
@@ -7,6 +7,8 @@ use mathlib.Core.List.{List, [], _∷_, _++_}
 use lib.Dec.{eqb}
 use lib.ListN.{length, take, getD, length-append}
 use lib.Seq.{length-take-le}
+use mir.Syntax.{w64}
+use mir.Val.{Fits}
 use borrow.Author.Needs.{needs}
 use Rattle.definitions.specs.Limits.{accepted}
 use Rattle.definitions.specs.Bounded.{pick, bit}
@@ -21,7 +23,7 @@ use Rattle.judges.specs.declared.verdicts.Verdicts.{Verdicts}
 use Rattle.sessions.specs.declared.query.SessionVerdicts.{SessionVerdicts}
 use Rattle.sessions.specs.declared.query.SessionVerdicts.the-variants.{NoState, Judged, Refused}
 use Rattle.sessions.specs.Answers.{answerOf}
-use Rattle.session_status.specs.Status.{maxPrinted, StatusRoom, Ends, judgedLine}
+use Rattle.session_status.specs.Status.{maxPrinted, Ends, judgedLine, aloneLine}
 use Rattle.session_status.specs.declared.Ending.{Ending}
 
 -- ---- `end_of`
@@ -53,23 +55,7 @@ module _ (v : Verdicts) (bs : List ℕ) (n : ℕ) (there : n ≤ length bs) wher
 
 pub ruleset end-laws = (needs, ends-kept, ends-weakly, ends-strongly, ends-broken)
 
--- ---- `put_judged`
-module _ (held : ℕ) (v : Verdicts) (e : Ending) (ended : Ends (verdictFields (v .weak) (v .strong)) e) (o : List ℕ) where
-  pub end-counted : e .count ≡ length (take (e .count) (e .bytes))
-  end-counted = sym (length-take-le (e .count) (e .bytes) (ended .there))
-
-  pub judged-line-room : length (judgedLine held v) ≤ length o → 0 + length (countedLine statesWord held (take (e .count) (e .bytes))) ≤ length o
-  unfolding judgedLine
-  judged-line-room room = rw (ended .same) (omega arith)
-
-  -- `put_judged`: the word, how many are held and the ending are `judgedLine`
-  pub judged-line-printed : (o′ : List ℕ) (q : ℕ) → Printed (countedLine statesWord held (take (e .count) (e .bytes))) o 0 q o′ → Printed (judgedLine held v) o 0 q o′
-  unfolding judgedLine
-  judged-line-printed o′ q p = rw (ended .same) at p
-
-pub ruleset judged-laws = (needs, end-counted, judged-line-room, judged-line-printed)
-
--- ---- `put_status`
+-- ---- `put_judged`, `put_alone`
 -- how long the ends are
 fields-short : (w s : Bool) → length (verdictFields w s) ≤ 14
 unfolding verdictFields verdictWord pick
@@ -78,18 +64,31 @@ fields-short true false = omega arith
 fields-short false true = omega arith
 fields-short false false = omega arith
 
-line-short : (held : ℕ) (end o : List ℕ) → held ≤ 128 → length end ≤ 14 → maxPrinted ≤ length o → length (countedLine statesWord held end) ≤ length o
+pub line-short : (held : ℕ) (end o : List ℕ) → Fits w64 held → length end ≤ 14 → maxPrinted ≤ length o → 0 + length (countedLine statesWord held end) ≤ length o
 unfolding countedLine
-line-short held end o h l room = omega (arith, length-append statesWord (tab ∷ (digits held ++ end)), length-append (digits held) end, digits-fit 2 held (omega arith))
+line-short held end o h l room =
+    omega (arith, length-append statesWord (tab ∷ (digits held ++ end)), length-append (digits held) end, digits-fit 19 held (omega (arith, h .fits)))
 
-module _ (heading text : List ℕ) (room : StatusRoom heading text) where
-  pub alone-room : (end : List ℕ) → length end ≤ 14 → 0 + length (countedLine statesWord (getD heading 3 0) end) ≤ length text
-  alone-room end few = omega (arith, line-short (getD heading 3 0) end text (room .few) few (room .room))
+module _ (held : ℕ) (v : Verdicts) (e : Ending) (ended : Ends (verdictFields (v .weak) (v .strong)) e) (o : List ℕ) where
+  pub end-counted : e .count ≡ length (take (e .count) (e .bytes))
+  end-counted = sym (length-take-le (e .count) (e .bytes) (ended .there))
 
-  pub judged-room : (v : Verdicts) → length (judgedLine (getD heading 3 0) v) ≤ length text
+  pub judged-line-room : Fits w64 held → maxPrinted ≤ length o → 0 + length (countedLine statesWord held (take (e .count) (e .bytes))) ≤ length o
+  judged-line-room fits room = rw (ended .same) (line-short held (verdictFields (v .weak) (v .strong)) o fits (fields-short (v .weak) (v .strong)) room)
+
+  -- `put_judged`: the word, how many are held and the ending are `judgedLine`
+  pub judged-line-printed : (o′ : List ℕ) (q : ℕ) → Printed (countedLine statesWord held (take (e .count) (e .bytes))) o 0 q o′ → Printed (judgedLine held v) o 0 q o′
   unfolding judgedLine
-  judged-room v = line-short (getD heading 3 0) (verdictFields (v .weak) (v .strong)) text (room .few) (fields-short (v .weak) (v .strong)) (room .room)
+  judged-line-printed o′ q p = rw (ended .same) at p
 
+-- `put_alone`: the word and how many are held are `aloneLine`
+pub alone-line-printed : (held : ℕ) (o o′ : List ℕ) (q : ℕ) → Printed (countedLine statesWord held (newline ∷ [])) o 0 q o′ → Printed (aloneLine held) o 0 q o′
+unfolding aloneLine
+alone-line-printed held o o′ q p = p
+
+pub ruleset judged-laws = (needs, end-counted, judged-line-room, judged-line-printed, line-short, alone-line-printed)
+
+-- ---- `put_status`
 status-by : (h : Space) (values : List ℕ) → (verdictsAnswer h) .values ≡ values → statusText h ≡ countedLine statesWord (getD (h .heading) 3 0) (valuesEnd values)
 unfolding statusText countedLine
 status-by h values e = rw e
@@ -127,16 +126,17 @@ module _ (heading masks nodes states : List ℕ) (r : SessionVerdicts) (is : ans
       let q : (answerOf r) .values ≡ bit (v .weak) ∷ bit (v .strong) ∷ [] = rw j (judged-values (v .weak) (v .strong)) in
       rw (status-by h _ (values-of _ q), judged-end (v .weak) (v .strong)) p
 
-  alone : (answerOf r) .values ≡ [] → Printed (countedLine statesWord (getD heading 3 0) (newline ∷ [])) text 0 e text′ → Printed (statusText h) text 0 e text′
+  alone : (answerOf r) .values ≡ [] → Printed (aloneLine (getD heading 3 0)) text 0 e text′ → Printed (statusText h) text 0 e text′
+  unfolding aloneLine
   alone q p = rw (status-by h [] (values-of [] q), empty-end) p
 
   -- `put_status`, no verdicts: `statusText` is how many are held, alone
-  pub status-none : r ≡ NoState → Printed (countedLine statesWord (getD heading 3 0) (newline ∷ [])) text 0 e text′ → Printed (statusText h) text 0 e text′
+  pub status-none : r ≡ NoState → Printed (aloneLine (getD heading 3 0)) text 0 e text′ → Printed (statusText h) text 0 e text′
   unfolding answerOf
   status-none j p = alone (rw j (empty-values accepted)) p
 
-  pub status-refused : (number : ℕ) → r ≡ Refused number → Printed (countedLine statesWord (getD heading 3 0) (newline ∷ [])) text 0 e text′ → Printed (statusText h) text 0 e text′
+  pub status-refused : (number : ℕ) → r ≡ Refused number → Printed (aloneLine (getD heading 3 0)) text 0 e text′ → Printed (statusText h) text 0 e text′
   unfolding answerOf
   status-refused number j p = alone (rw j (empty-values number)) p
 
-pub ruleset status-laws = (needs, alone-room, judged-room, status-judged, status-none, status-refused)
+pub ruleset status-laws = (needs, status-judged, status-none, status-refused)

@@ -1,9 +1,10 @@
 -- The line of a session.
 use mathlib.Core.Path.{_≡_}
 use Prim.Native.Nat.{ℕ, _+_, _≤_}
-use mathlib.Core.List.{List}
-use lib.ListN.{length, take, getD}
-use Rattle.definitions.specs.Limits.{maxInputBytes, maxStates}
+use mathlib.Core.List.{List, [], _∷_}
+use lib.ListN.{length, take}
+use Rattle.definitions.specs.Limits.{maxInputBytes}
+use Rattle.definitions.specs.Lines.{newline}
 use Rattle.definitions.specs.Watching.{statesWord, verdictFields}
 use Rattle.printing.specs.Printing.{countedLine}
 use Rattle.judges.specs.declared.verdicts.Verdicts.{Verdicts}
@@ -13,11 +14,6 @@ use Rattle.session_status.specs.declared.Ending.{Ending}
 abbrev pub maxPrinted : ℕ
 maxPrinted = maxInputBytes + 13
 
--- a session's heading, and space for its line
-pub record StatusRoom (heading text : List ℕ) : Type 0 where
-  pub few : getD heading 3 0 ≤ maxStates
-  pub room : maxPrinted ≤ length text
-
 -- e is how a line ends
 pub record Ends (end : List ℕ) (e : Ending) : Type 0 where
   pub there : e .count ≤ length (e .bytes)
@@ -26,3 +22,7 @@ pub record Ends (end : List ℕ) (e : Ending) : Type 0 where
 -- the line of a session with verdicts
 unfoldable pub judgedLine : (held : ℕ) (v : Verdicts) → List ℕ
 judgedLine held v = countedLine statesWord held (verdictFields (v .weak) (v .strong))
+
+-- and without
+unfoldable pub aloneLine : (held : ℕ) → List ℕ
+aloneLine held = countedLine statesWord held (newline ∷ [])

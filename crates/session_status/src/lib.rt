@@ -4,7 +4,7 @@ ghost use lib.ListN.{length};
 ghost use Rattle.definitions.specs.Sessions.{lentSpace};
 ghost use Rattle.definitions.specs.Watching.{statusText, verdictFields};
 ghost use Rattle.printing.specs.Printing.{Printed};
-ghost use Rattle.session_status.specs.Status.{Ends, judgedLine, StatusRoom};
+ghost use Rattle.session_status.specs.Status.{Ends, judgedLine, aloneLine, maxPrinted};
 use judges::verdicts::Verdicts;
 use printing::put_line;
 use sessions::heading::Heading;
@@ -53,14 +53,21 @@ fn end_of(v: Verdicts) -> Ending
     BROKEN
 }
 
-fn put_judged(held: u32, v: Verdicts, text: &mut [u8]) -> usize
-    requires { ⌜ length (judgedLine held v) ≤ length (now text) ⌝ }
+fn put_judged(held: u64, v: Verdicts, text: &mut [u8]) -> usize
+    requires { ⌜ maxPrinted ≤ length (now text) ⌝ }
     ensures { λ r. ⌜ Printed (judgedLine held v) (now (text .entry)) 0 r (now (text .exit)) ⌝ }
 {
     let end = end_of(v);
     let bytes = end.bytes;
     let count = end.count;
     put_line(b"states", held, &bytes[..count], 0, text)
+}
+
+fn put_alone(held: u64, text: &mut [u8]) -> usize
+    requires { ⌜ maxPrinted ≤ length (now text) ⌝ }
+    ensures { λ r. ⌜ Printed (aloneLine held) (now (text .entry)) 0 r (now (text .exit)) ⌝ }
+{
+    put_line(b"states", held, b"\n", 0, text)
 }
 
 // Without verdicts, how many states are held, alone.
@@ -71,13 +78,13 @@ pub fn put_status(
     states: &[u64],
     text: &mut [u8],
 ) -> usize
-    requires { ⌜ StatusRoom (now heading) (now text) ⌝ }
+    requires { ⌜ maxPrinted ≤ length (now text) ⌝ }
     ensures { λ r. ⌜ Printed (statusText (lentSpace (now (heading .entry)) (now (masks .entry)) (now (nodes .entry)) (now (states .entry)))) (now (text .entry)) 0 r (now (text .exit)) ⌝ }
 {
-    let held = heading[Heading::HELD] as u32;
+    let held = heading[Heading::HELD] as u64;
     match session_verdicts(heading, masks, nodes, states) {
         SessionVerdicts::Judged(v) => put_judged(held, v, text),
-        SessionVerdicts::NoState => put_line(b"states", held, b"\n", 0, text),
-        SessionVerdicts::Refused(_) => put_line(b"states", held, b"\n", 0, text),
+        SessionVerdicts::NoState => put_alone(held, text),
+        SessionVerdicts::Refused(_) => put_alone(held, text),
     }
 }

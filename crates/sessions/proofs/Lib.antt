@@ -1,4 +1,5 @@
 pub mod ArrivalLaws
 pub mod OpeningLaws
 pub mod QueryLaws
+pub mod ReplacementLaws
 pub mod WithdrawalLaws

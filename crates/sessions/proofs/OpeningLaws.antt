@@ -36,7 +36,7 @@ unfolding openRefusal controllerRefusal
 open-refusal-is C owned c n ws b m masks cs limits rule r eb em el ec ex er e = e ∙ rw (er, ex, ec, el, em, eb)
 
 -- an accepted rule can be laid
-layable-rule : (c n : ℕ) (ws nodes : List ℕ) → ruleRefusal (ruleOf c n ws) ≡ 0 → maxRuleNodes ≤ length nodes → Layable ws n maxRuleNodes nodes
+pub layable-rule : (c n : ℕ) (ws nodes : List ℕ) → ruleRefusal (ruleOf c n ws) ≡ 0 → maxRuleNodes ≤ length nodes → Layable ws n maxRuleNodes nodes
 layable-rule c n ws nodes e b =
     record { there = enough n ws (sym (length-map (take n ws) nodeOf) ∙ rule-length (ruleOf c n ws) e); fits = rule-few (ruleOf c n ws) e; room = b }
   where

@@ -3,7 +3,7 @@ use mathlib.Core.Path.{_≡_}
 use Prim.Native.Nat.{ℕ}
 use mathlib.Core.List.{List, []}
 use Rattle.definitions.specs.Tables.{Rule}
-use Rattle.definitions.specs.Sessions.{lentSpace, openNumber, arriveNumber, withdrawNumber, leaves, Open, Arrive, Withdraw}
+use Rattle.definitions.specs.Sessions.{lentSpace, openNumber, arriveNumber, withdrawNumber, replaceNumber, leaves, Open, Arrive, Withdraw, Replace}
 
 -- `open_session`, by its entries and its exits
 pub record OpenIs (C : ℕ) (owned : List ℕ) (r : Rule) (heading masks nodes states : List ℕ) (number : ℕ) (heading′ masks′ nodes′ states′ : List ℕ) : Type 0 where
@@ -19,3 +19,8 @@ pub record ArriveIs (s : ℕ) (heading masks states : List ℕ) (number : ℕ) (
 pub record WithdrawIs (heading states : List ℕ) (number : ℕ) (heading′ states′ : List ℕ) : Type 0 where
   pub answered : number ≡ withdrawNumber (lentSpace heading [] [] states)
   pub left : lentSpace heading′ [] [] states′ ≡ leaves Withdraw (lentSpace heading [] [] states)
+
+-- `replace_rule`, which is lent neither the masks nor the states
+pub record ReplaceIs (r : Rule) (heading nodes : List ℕ) (number : ℕ) (heading′ nodes′ : List ℕ) : Type 0 where
+  pub answered : number ≡ replaceNumber r (lentSpace heading [] nodes [])
+  pub left : lentSpace heading′ [] nodes′ [] ≡ leaves (Replace r) (lentSpace heading [] nodes [])

@@ -14,11 +14,11 @@ use Rattle.definitions.specs.Bounded.{pick}
 use Rattle.definitions.specs.Tables.{Rule}
 use Rattle.definitions.specs.Recordings.{stateRefusal, recordingRefusal}
 use Rattle.definitions.specs.Operations.{tooShort}
-use Rattle.definitions.specs.Sessions.{Space, lentSpace, Held, recordingHeld, spaceOf, controllersRefusal, openRefusal, openNumber, arrivalRefusal, arriveNumber, withdrawalRefusal, withdrawNumber, opened, arrived, withdrawn, Call, Open, Arrive, Withdraw, numberOf, acceptedLeaves, leaves, leavesAll, withStates, oneMore, oneLess, admits, heldAfter, heldAfterAll, Sound, Full, Made}
+use Rattle.definitions.specs.Sessions.{Space, lentSpace, Held, recordingHeld, spaceOf, controllersRefusal, openRefusal, openNumber, arrivalRefusal, arriveNumber, withdrawalRefusal, withdrawNumber, replacementRefusal, replaceNumber, ruleRead, opened, arrived, withdrawn, replaced, Call, Open, Arrive, Withdraw, Replace, numberOf, acceptedLeaves, leaves, leavesAll, withStates, withRule, oneMore, oneLess, admits, heldAfter, heldAfterAll, Sound, Full, Made}
 use Rattle.theorems.proofs.Choice.{by-test, both-false, pick-true, pick-false, pick-must, pick-other}
 use Rattle.theorems.proofs.Inversions.{first-accepted}
-use Rattle.theorems.proofs.SessionChecks.{held-limits, few-states, first-state, recording-more, opened-sound, less-sound}
-use Rattle.theorems.proofs.Sessions.{space-controllers, space-held, space-masks, space-last, space-full, space-over, space-arrived, space-withdrawn}
+use Rattle.theorems.proofs.SessionChecks.{held-limits, few-states, first-state, recording-more, opened-sound, replaced-sound, less-sound}
+use Rattle.theorems.proofs.Sessions.{space-controllers, space-held, space-masks, space-last, space-full, space-over, space-arrived, space-withdrawn, space-replaced}
 
 -- "A refused call, the opening too, changes nothing, lent space included": on any contents
 pub refused-changes-nothing : (c : Call) (h : Space) → (numberOf c h ≡ 0 → ⊥) → leaves c h ≡ h
@@ -45,28 +45,36 @@ unfolding withdrawNumber leaves withdrawn pick
 withdrawal-unlent heading masks nodes states =
     by-test (eqb (withdrawNumber (lentSpace heading [] [] states)) accepted) (λ e. (refl, rw e)) (λ e. (refl, rw e))
 
+-- a new rule, the masks and the states
+pub replacement-unlent : (r : Rule) (heading masks nodes states : List ℕ) →
+    (replaceNumber r (lentSpace heading [] nodes []) ≡ replaceNumber r (lentSpace heading masks nodes states))
+    × (lentSpace ((leaves (Replace r) (lentSpace heading [] nodes [])) .heading) masks ((leaves (Replace r) (lentSpace heading [] nodes [])) .nodes) states
+    ≡ leaves (Replace r) (lentSpace heading masks nodes states))
+unfolding replaceNumber leaves replaced pick
+replacement-unlent r heading masks nodes states =
+    by-test (eqb (replaceNumber r (lentSpace heading [] nodes [])) accepted) (λ e. (refl, rw e)) (λ e. (refl, rw e))
+
 pub accepted-leaves : (c : Call) (h : Space) → numberOf c h ≡ 0 → leaves c h ≡ acceptedLeaves c h
 unfolding leaves
 accepted-leaves c h e = pick-true (eqb (numberOf c h) accepted) (acceptedLeaves c h) h (eq-eqb (numberOf c h) accepted e)
 
 -- ---- the numbers that a session's calls answer
+
+-- an opening in any space of full size
+pub open-number : (C : ℕ) (masks : List ℕ) (r : Rule) (h : Space) → Full h → openNumber C masks r h ≡ openRefusal C masks r
+unfolding openNumber pick
+open-number C masks r h f =
+    rw (le-ltb (length (h .masks)) maxControllers (f .masks), le-ltb (length (h .nodes)) maxRuleNodes (f .nodes), le-ltb (length (h .states)) maxStates (f .states))
+
 module _ (a : Held) (h : Space) (k : Sound a) (f : Full h) where
   full : Full (spaceOf a h)
   full = space-full a h k f
-
-  enough-masks : tooShort maxControllers ((spaceOf a h) .masks) ≡ false
-  enough-masks = le-ltb (length ((spaceOf a h) .masks)) maxControllers (full .masks)
 
   enough-nodes : tooShort maxRuleNodes ((spaceOf a h) .nodes) ≡ false
   enough-nodes = le-ltb (length ((spaceOf a h) .nodes)) maxRuleNodes (full .nodes)
 
   enough-states : tooShort maxStates ((spaceOf a h) .states) ≡ false
   enough-states = le-ltb (length ((spaceOf a h) .states)) maxStates (full .states)
-
-  -- an opening over a session
-  pub open-number : (C : ℕ) (masks : List ℕ) (r : Rule) → openNumber C masks r (spaceOf a h) ≡ openRefusal C masks r
-  unfolding openNumber pick
-  open-number C masks r = rw (enough-masks, enough-nodes, enough-states)
 
   -- the state before an arrival
   state-before : (s : ℕ) →
@@ -104,6 +112,11 @@ module _ (a : Held) (h : Space) (k : Sound a) (f : Full h) where
   unfolding withdrawNumber withdrawalRefusal pick
   withdraw-empty z = rw (enough-states, space-held a h, z)
 
+  -- a new rule is refused as it is by itself and by the number of masks
+  pub replace-number : (r : Rule) → replaceNumber r (spaceOf a h) ≡ replacementRefusal (length (a .masks)) r
+  unfolding replaceNumber pick
+  replace-number r = rw (enough-nodes, space-controllers a h)
+
   pub arrive-admits : (s : ℕ) → eqb (arriveNumber s (spaceOf a h)) accepted ≡ admits s a
   unfolding admits pick
   arrive-admits s = go (decLt (length (a .states)) maxStates)
@@ -135,6 +148,9 @@ after-sound (Open C masks r) a k =
     sound-pick (eqb (openRefusal C masks r) accepted) (opened C masks r) a (λ t. opened-sound C masks r (eqb-true (openRefusal C masks r) accepted t)) k
 after-sound (Arrive s) a k = sound-pick (admits s a) (oneMore s a) a (more-sound a s k) k
 after-sound Withdraw a k = less-sound a k
+after-sound (Replace r) a k =
+    sound-pick (eqb (replacementRefusal (length (a .masks)) r) accepted) (withRule a (ruleRead r)) a
+    (λ t. replaced-sound r a k (eqb-true (replacementRefusal (length (a .masks)) r) accepted t)) k
 
 -- ---- and is what lent space holds
 
@@ -164,11 +180,14 @@ pub leaves-space : (c : Call) (a : Held) (h : Space) → Sound a → Full h → 
 unfolding leaves heldAfter
 leaves-space (Open C masks r) a h k f =
     pick-space (eqb (openNumber C masks r (spaceOf a h)) accepted) (eqb (openRefusal C masks r) accepted) (spaceOf (opened C masks r) (spaceOf a h)) (opened C masks r) a h
-    (rw (open-number a h k f C masks r)) (λ t. space-over a h k (opened C masks r))
+    (rw (open-number C masks r (spaceOf a h) (space-full a h k f))) (λ t. space-over a h k (opened C masks r))
 leaves-space (Arrive s) a h k f =
     pick-space (eqb (arriveNumber s (spaceOf a h)) accepted) (admits s a) (arrived s (spaceOf a h)) (oneMore s a) a h
     (arrive-admits a h k f s) (λ t. space-arrived a h k s ((admits-parts s a t) .0))
 leaves-space Withdraw a h k f = withdrawal-space a h k f (decLt 0 (length (a .states)))
+leaves-space (Replace r) a h k f =
+    pick-space (eqb (replaceNumber r (spaceOf a h)) accepted) (eqb (replacementRefusal (length (a .masks)) r) accepted) (replaced r (spaceOf a h)) (withRule a (ruleRead r)) a h
+    (rw (replace-number a h k f r)) (λ t. space-replaced a h k r)
 
 -- ---- a list of calls
 
@@ -182,32 +201,53 @@ unfolding heldAfterAll leavesAll
 calls-space [] a h k f = refl
 calls-space (c ∷ cs) a h k f = ap (leavesAll cs) (leaves-space c a h k f) ∙ calls-space cs (heldAfter c a) h (after-sound c a k) f
 
+-- no opening is among them: arrivals, withdrawals and new rules
+abbrev pub Unopened : List Call → Type 0
+Unopened [] = Unit {0}
+Unopened (Open C masks r ∷ cs) = ⊥
+Unopened (Arrive s ∷ cs) = Unopened cs
+Unopened (Withdraw ∷ cs) = Unopened cs
+Unopened (Replace r ∷ cs) = Unopened cs
+
 -- arrivals and withdrawals
 abbrev pub Steps : List Call → Type 0
 Steps [] = Unit {0}
 Steps (Open C masks r ∷ cs) = ⊥
 Steps (Arrive s ∷ cs) = Steps cs
 Steps (Withdraw ∷ cs) = Steps cs
+Steps (Replace r ∷ cs) = ⊥
 
-pick-same : {A : Type 0} (f : Held → A) (t : Bool) (a b : Held) → f a ≡ f b → f (pick t a b) ≡ f b
+pub steps-unopened : (cs : List Call) → Steps cs → Unopened cs
+steps-unopened [] t = t
+steps-unopened (Open C masks r ∷ cs) t = t
+steps-unopened (Arrive s ∷ cs) t = steps-unopened cs t
+steps-unopened (Withdraw ∷ cs) t = steps-unopened cs t
+steps-unopened (Replace r ∷ cs) t = absurd t
+
+pub pick-same : {A : Type 0} (f : Held → A) (t : Bool) (a b : Held) → f a ≡ f b → f (pick t a b) ≡ f b
 unfolding pick
 pick-same f true a b e = e
 pick-same f false a b e = refl
 
--- keep what is neither an opening's nor theirs
-module _ {A : Type 0} (f : Held → A) (kept : (a : Held) (ss : List ℕ) → f (withStates a ss) ≡ f a) where
-  steps-keep : (cs : List Call) → Steps cs → (a : Held) → f (heldAfterAll cs a) ≡ f a
-  unfolding heldAfterAll heldAfter
-  steps-keep [] t a = refl
-  steps-keep (Open C masks r ∷ cs) t a = absurd t
-  steps-keep (Arrive s ∷ cs) t a = steps-keep cs t (pick (admits s a) (oneMore s a) a) ∙ pick-same f (admits s a) (oneMore s a) a (kept a (a .states ++ (s ∷ [])))
-  steps-keep (Withdraw ∷ cs) t a = steps-keep cs t (oneLess a) ∙ kept a (take (length (a .states) - 1) (a .states))
+-- only an opening changes the masks
+pub unopened-masks : (cs : List Call) → Unopened cs → (a : Held) → (heldAfterAll cs a) .masks ≡ a .masks
+unfolding heldAfterAll heldAfter
+unopened-masks [] t a = refl
+unopened-masks (Open C masks r ∷ cs) t a = absurd t
+unopened-masks (Arrive s ∷ cs) t a = unopened-masks cs t (pick (admits s a) (oneMore s a) a) ∙ pick-same (λ x. x .masks) (admits s a) (oneMore s a) a refl
+unopened-masks (Withdraw ∷ cs) t a = unopened-masks cs t (oneLess a)
+unopened-masks (Replace r ∷ cs) t a =
+    let z = eqb (replacementRefusal (length (a .masks)) r) accepted in
+    unopened-masks cs t (pick z (withRule a (ruleRead r)) a) ∙ pick-same (λ x. x .masks) z (withRule a (ruleRead r)) a refl
 
-pub steps-masks : (cs : List Call) → Steps cs → (a : Held) → (heldAfterAll cs a) .masks ≡ a .masks
-steps-masks cs t a = steps-keep (λ x. x .masks) (λ x ss. refl) cs t a
-
+-- arrivals and withdrawals keep the rule
 pub steps-rule : (cs : List Call) → Steps cs → (a : Held) → (heldAfterAll cs a) .rule ≡ a .rule
-steps-rule cs t a = steps-keep (λ x. x .rule) (λ x ss. refl) cs t a
+unfolding heldAfterAll heldAfter
+steps-rule [] t a = refl
+steps-rule (Open C masks r ∷ cs) t a = absurd t
+steps-rule (Arrive s ∷ cs) t a = steps-rule cs t (pick (admits s a) (oneMore s a) a) ∙ pick-same (λ x. x .rule) (admits s a) (oneMore s a) a refl
+steps-rule (Withdraw ∷ cs) t a = steps-rule cs t (oneLess a)
+steps-rule (Replace r ∷ cs) t a = absurd t
 
 -- ---- an opening is accepted where every slice has its full size and its masks and rule are accepted
 pub open-parts : (C : ℕ) (masks : List ℕ) (r : Rule) (h : Space) → openNumber C masks r h ≡ 0 → Full h × (openRefusal C masks r ≡ 0)

@@ -16,7 +16,7 @@ use Rattle.definitions.specs.Nodes.{nodeOf}
 use Rattle.definitions.specs.Tables.{Rule, ruleRefusal}
 use Rattle.definitions.specs.Recordings.{Recording, recordingOf, stateRefusal, recordingHeadingRefusal, masksRefusal, statesRefusal, recordingLinesRefusal, recordingRefusal, controllerRefusal}
 use Rattle.definitions.specs.Operations.{judgeLocalNumber}
-use Rattle.definitions.specs.Sessions.{Held, recordingHeld, controllersRefusal, openMasksRefusal, openRefusal, ruleRead, opened, oneMore, oneLess, Sound}
+use Rattle.definitions.specs.Sessions.{Held, recordingHeld, controllersRefusal, openMasksRefusal, openRefusal, replacementRefusal, ruleRead, opened, withRule, oneMore, oneLess, Sound}
 use Rattle.theorems.proofs.Choice.{accept-yes, or-else-none, or-else-accepted, or-else-assoc}
 use Rattle.theorems.proofs.Inversions.{first-accepted}
 use Rattle.theorems.proofs.RuleNodes.{rule-few, rule-length}
@@ -68,7 +68,7 @@ open-accepts C masks r e =
 
 -- ---- the rule as it is held
 
-rule-read : (r : Rule) → ruleRefusal (ruleRead r) ≡ ruleRefusal r
+pub rule-read : (r : Rule) → ruleRefusal (ruleRead r) ≡ ruleRefusal r
 unfolding ruleRefusal
 rule-read r = rw (nodes-past false 0 (r .count) (r .nodes))
 
@@ -191,6 +191,28 @@ opened-sound C masks r e =
       nodes = rule-there r (A .rule);
       states = λ p. absurd (omega arith);
     }
+
+-- a new rule
+pub replaced-sound : (r : Rule) (a : Held) → Sound a → replacementRefusal (length (a .masks)) r ≡ 0 → Sound (withRule a (ruleRead r))
+unfolding replacementRefusal
+replaced-sound r a k e =
+    let C : ℕ = length (a .masks) in
+    let (rule, below) = or-else-none (ruleRefusal r) (controllerRefusal C (r .controller)) e in
+    record {
+      opens = open-as-judged C (a .masks) (ruleRead r)
+          ∙ local-accepted (ruleRead r) (oneState C (a .masks)) (record { rule = rule-read r ∙ rule; recording = (opens a k) .recording; controller = below-count C (r .controller) below });
+      nodes = rule-there r rule;
+      states = k .states;
+    }
+
+-- and then a session opens on it and the masks that are held
+pub replacement-opens : (r : Rule) (a : Held) → Sound a → replacementRefusal (length (a .masks)) r ≡ 0 → openRefusal (length (a .masks)) (a .masks) r ≡ 0
+unfolding replacementRefusal
+replacement-opens r a k e =
+    let C : ℕ = length (a .masks) in
+    let (rule, below) = or-else-none (ruleRefusal r) (controllerRefusal C (r .controller)) e in
+    open-as-judged C (a .masks) r
+    ∙ local-accepted r (oneState C (a .masks)) (record { rule = rule; recording = (opens a k) .recording; controller = below-count C (r .controller) below })
 
 pub length-less : (ss : List ℕ) → length (take (length ss - 1) ss) ≡ length ss - 1
 length-less ss = length-take-le (length ss - 1) ss (omega arith)

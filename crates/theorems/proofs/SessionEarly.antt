@@ -12,14 +12,14 @@ use Rattle.definitions.specs.Bounded.{pick, bit}
 use Rattle.definitions.specs.Tables.{Rule}
 use Rattle.definitions.specs.Recordings.{Recording}
 use Rattle.definitions.specs.Operations.{answer, judgeLocalAnswer}
-use Rattle.definitions.specs.Sessions.{Space, Held, recordingHeld, Call, Open, Arrive, Withdraw, leavesAll, verdictsAnswer, oneMore, oneLess, admits, heldAfter, heldAfterAll, Sound, Made}
+use Rattle.definitions.specs.Sessions.{Space, Held, recordingHeld, Call, Open, Arrive, Withdraw, Replace, leavesAll, verdictsAnswer, oneMore, oneLess, admits, heldAfter, heldAfterAll, Sound, Made}
 use Rattle.theorems.proofs.Beginnings.{Beginning}
 use Rattle.theorems.proofs.ScheduleIndependence.{Accepted}
 use Rattle.theorems.proofs.EvidenceJudged.{chosen}
 use Rattle.theorems.proofs.EarlyRecordings.{beginning-begins}
 use Rattle.theorems.proofs.EarlyJudged.{settled-stays-locally}
 use Rattle.theorems.proofs.SessionChecks.{held-rule, held-controller}
-use Rattle.theorems.proofs.SessionCalls.{Steps, steps-masks, steps-rule, calls-sound}
+use Rattle.theorems.proofs.SessionCalls.{Steps, steps-unopened, unopened-masks, steps-rule}
 use Rattle.theorems.proofs.SessionVerdicts.{Holds, made-holds}
 
 -- none of these calls leaves fewer than n states
@@ -50,6 +50,7 @@ module _ (n : ℕ) where
   steps-begin (Withdraw ∷ cs) t a l v =
       let (m, e) = steps-begin cs t (oneLess a) (v .0) (v .1) in
       (m, e ∙ withdrawal-keeps a (v .0))
+  steps-begin (Replace r ∷ cs) t a l v = absurd t
 
 -- a session whose states go on from those of another with the same masks and the same rule
 module _ (a b : Held) (masks : b .masks ≡ a .masks) (rule : b .rule ≡ a .rule) (few : length (a .states) ≤ length (b .states))
@@ -87,5 +88,5 @@ announced-in-a-session-stays g m p cs t v weak e =
     let now : Holds a g g = made-holds g m [] in
     let later : Holds b g (leavesAll cs g) = made-holds g m cs in
     later .verdicts (omega arith)
-    ∙ held-settled a b (steps-masks cs t a) (steps-rule cs t a) few (first ∙ take-length (a .states)) (m .sound) (later .sound) p weak
+    ∙ held-settled a b (unopened-masks cs (steps-unopened cs t) a) (steps-rule cs t a) few (first ∙ take-length (a .states)) (m .sound) (later .sound) p weak
     (ap (chosen weak) (sym (now .verdicts p)) ∙ e)

@@ -1,9 +1,9 @@
 -- "After every list of arrivals and withdrawals from an empty session, refused ones included, both verdicts equal those of judging the remaining states
--- from the start. An empty session has no verdict, and its answer says so" (document 02).
+-- from the start. An empty session has no verdict, and its answer says so" (document 02); with new rules among them, by the rule in force.
 use mathlib.Core.Path.{_≡_, refl, sym, ap, _∙_}
 use Prim.Native.Nat.{ℕ, suc, _<_}
 use native.Mathlib.Omega.{arith}
-use mathlib.Core.Bool.{false, _&&_}
+use mathlib.Core.Bool.{Bool, true, false, _&&_}
 use mathlib.Core.List.{List, [], _∷_, map}
 use lib.ListN.{length, take, getD}
 use lib.Seq.{take-length, take-all, take-take}
@@ -12,20 +12,20 @@ use borrow.Author.Tests.{ne-eqb}
 use Rattle.definitions.specs.Limits.{accepted}
 use Rattle.definitions.specs.Bounded.{pick}
 use Rattle.definitions.specs.Nodes.{nodeOf}
-use Rattle.definitions.specs.Tables.{Rule, ruleOf}
+use Rattle.definitions.specs.Tables.{Rule, ruleOf, ruleRefusal}
 use Rattle.definitions.specs.Recordings.{Recording, recordingOf, atomsOf, marked, masksOf, statesOf, recordingRefusal}
 use Rattle.definitions.specs.Projection.{runStates, placesOf}
 use Rattle.definitions.specs.Readings.{localVerdicts}
 use Rattle.definitions.specs.Operations.{Answer, answer, left, verdictValues, judgeLocalNumber, judgeLocalAnswer}
-use Rattle.definitions.specs.Sessions.{Space, Held, recordingHeld, spaceOf, heldIn, sessionRule, sessionRecording, openNumber, ruleRead, opened, Call, Open, leaves, leavesAll, verdictsAnswer, heldAfterAll, Sound, Made}
-use Rattle.theorems.proofs.Choice.{pick-false}
+use Rattle.definitions.specs.Sessions.{Space, Held, recordingHeld, spaceOf, heldIn, sessionRule, sessionRecording, openNumber, ruleRead, opened, replacementRefusal, Call, Open, Arrive, Withdraw, Replace, leaves, leavesAll, verdictsAnswer, withRule, oneMore, oneLess, admits, heldAfter, heldAfterAll, Sound, Made}
+use Rattle.theorems.proofs.Choice.{by-test, pick-true, pick-false}
 use Rattle.theorems.proofs.RecordingLaws.{checked}
 use Rattle.theorems.proofs.Beginnings.{Beginning, beginnings-accepted}
 use Rattle.theorems.proofs.ScheduleIndependence.{Accepted, local-accepted, local-judging}
 use Rattle.theorems.proofs.RoundTrips.{same-accepted}
-use Rattle.theorems.proofs.SessionChecks.{oneState, open-accepts, held-rule, held-controller, opened-sound}
+use Rattle.theorems.proofs.SessionChecks.{oneState, open-accepts, rule-read, held-rule, held-controller, opened-sound}
 use Rattle.theorems.proofs.Sessions.{space-held, space-masks, space-nodes, space-states, space-made}
-use Rattle.theorems.proofs.SessionCalls.{accepted-leaves, calls-sound, calls-space, open-parts, Steps, steps-masks, steps-rule}
+use Rattle.theorems.proofs.SessionCalls.{accepted-leaves, calls-sound, calls-space, open-parts, Unopened, pick-same, unopened-masks}
 
 -- an accepted rule and recording are judged by their entries up to the counts
 unfoldable judgedOn : (c : ℕ) (nodes masks states : List ℕ) (N : ℕ) → Answer
@@ -158,7 +158,37 @@ made-holds h m cs =
     space-holds (heldAfterAll cs (m .held)) h (leavesAll cs h) (calls-sound cs (m .held) (m .sound))
     (ap (leavesAll cs) (m .is) ∙ calls-space cs (m .held) h (m .sound) (m .full))
 
--- ---- in the request's own words: arrivals and withdrawals alone, on the masks and the rule as they were given
+-- ---- in the requests' own words: arrivals, withdrawals and new rules, on the masks and the rules as they were given
+
+-- the rule in force after these calls: "A rule refused with 2, 3, 4 or 11 leaves the former one in force"
+unfoldable pub inForce : (C : ℕ) (r : Rule) (cs : List Call) → Rule
+inForce C r [] = r
+inForce C r (Open D masks q ∷ cs) = inForce C r cs
+inForce C r (Arrive s ∷ cs) = inForce C r cs
+inForce C r (Withdraw ∷ cs) = inForce C r cs
+inForce C r (Replace q ∷ cs) = inForce C (pick (eqb (replacementRefusal C q) accepted) q r) cs
+
+replaced-rule : (t : Bool) (q r : Rule) (a : Held) → a .rule ≡ ruleRead r → (pick t (withRule a (ruleRead q)) a) .rule ≡ ruleRead (pick t q r)
+unfolding pick
+replaced-rule true q r a e = refl
+replaced-rule false q r a e = e
+
+-- it is the rule that is held
+held-in-force : (cs : List Call) → Unopened cs → (C : ℕ) (r : Rule) (a : Held) → length (a .masks) ≡ C → a .rule ≡ ruleRead r →
+    (heldAfterAll cs a) .rule ≡ ruleRead (inForce C r cs)
+unfolding heldAfterAll heldAfter inForce
+held-in-force [] u C r a n e = e
+held-in-force (Open D masks q ∷ cs) u C r a n e = absurd u
+held-in-force (Arrive s ∷ cs) u C r a n e =
+    held-in-force cs u C r (pick (admits s a) (oneMore s a) a)
+    (pick-same (λ x. length (x .masks)) (admits s a) (oneMore s a) a refl ∙ n) (pick-same (λ x. x .rule) (admits s a) (oneMore s a) a refl ∙ e)
+held-in-force (Withdraw ∷ cs) u C r a n e = held-in-force cs u C r (oneLess a) n e
+held-in-force (Replace q ∷ cs) u C r a n e =
+    let z : eqb (replacementRefusal (length (a .masks)) q) accepted ≡ eqb (replacementRefusal C q) accepted = rw n in
+    let b : Held = pick (eqb (replacementRefusal (length (a .masks)) q) accepted) (withRule a (ruleRead q)) a in
+    held-in-force cs u C (pick (eqb (replacementRefusal C q) accepted) q r) b
+    (pick-same (λ x. length (x .masks)) (eqb (replacementRefusal (length (a .masks)) q) accepted) (withRule a (ruleRead q)) a refl ∙ n)
+    (replaced-rule (eqb (replacementRefusal (length (a .masks)) q) accepted) q r a e ∙ ap (λ (t : Bool). ruleRead (pick t q r)) z)
 
 -- the states that remain of an opened session after these calls
 abbrev pub remaining : (C : ℕ) (masks : List ℕ) (r : Rule) (cs : List Call) → List ℕ
@@ -171,13 +201,16 @@ remainingRecording C masks r cs = recordingOf C (length (remaining C masks r cs)
 -- what is said of the contents g after them
 pub record Running (C : ℕ) (masks : List ℕ) (r : Rule) (cs : List Call) (g : Space) : Type 0 where
   pub held : heldIn g ≡ length (remaining C masks r cs)
-  pub accepts : 0 < length (remaining C masks r cs) → Accepted r (remainingRecording C masks r cs)
-  pub verdicts : 0 < length (remaining C masks r cs) → verdictsAnswer g ≡ judgeLocalAnswer r (remainingRecording C masks r cs)
+  pub accepts : 0 < length (remaining C masks r cs) → Accepted (inForce C r cs) (remainingRecording C masks r cs)
+  pub verdicts : 0 < length (remaining C masks r cs) → verdictsAnswer g ≡ judgeLocalAnswer (inForce C r cs) (remainingRecording C masks r cs)
   pub none : length (remaining C masks r cs) ≡ 0 → verdictsAnswer g ≡ answer 0 []
 
-module _ (C : ℕ) (masks : List ℕ) (r : Rule) (h : Space) (e : openNumber C masks r h ≡ 0) (cs : List Call) (steps : Steps cs) where
+module _ (C : ℕ) (masks : List ℕ) (r : Rule) (h : Space) (e : openNumber C masks r h ≡ 0) (cs : List Call) (unopened : Unopened cs) where
   abbrev a : Held
   a = heldAfterAll cs (opened C masks r)
+
+  abbrev q : Rule
+  q = inForce C r cs
 
   holds : Holds a h (leavesAll (Open C masks r ∷ cs) h)
   holds = session C masks r h e cs
@@ -185,20 +218,23 @@ module _ (C : ℕ) (masks : List ℕ) (r : Rule) (h : Space) (e : openNumber C m
   given : Accepted r (oneState C masks)
   given = open-accepts C masks r ((open-parts C masks r h e) .1)
 
-  same-masks : a .masks ≡ take C masks
-  same-masks = steps-masks cs steps (opened C masks r)
+  given-masks : length (take C masks) ≡ C
+  given-masks = (checked (oneState C masks) (given .recording)) .masks
 
-  same-rule : a .rule ≡ ruleRead r
-  same-rule = steps-rule cs steps (opened C masks r)
+  same-masks : a .masks ≡ take C masks
+  same-masks = unopened-masks cs unopened (opened C masks r)
+
+  same-rule : a .rule ≡ ruleRead q
+  same-rule = held-in-force cs unopened C r (opened C masks r) given-masks refl
 
   count-masks : length (a .masks) ≡ C
-  count-masks = ap length same-masks ∙ (checked (oneState C masks) (given .recording)) .masks
+  count-masks = ap length same-masks ∙ given-masks
 
   masks-read : take C masks ≡ take (length (a .masks)) (a .masks)
   masks-read = sym same-masks ∙ sym (take-length (a .masks))
 
-  nodes-read : take (a .rule .count) (a .rule .nodes) ≡ take (r .count) (r .nodes)
-  nodes-read = ap (λ (q : Rule). take (q .count) (q .nodes)) same-rule ∙ take-take (r .count) (r .count) (r .nodes) (omega arith)
+  nodes-read : take (a .rule .count) (a .rule .nodes) ≡ take (q .count) (q .nodes)
+  nodes-read = ap (λ (x : Rule). take (x .count) (x .nodes)) same-rule ∙ take-take (q .count) (q .count) (q .nodes) (omega arith)
 
   module _ (p : 0 < length (a .states)) where
     remaining-accepted : recordingRefusal (remainingRecording C masks r cs) ≡ 0
@@ -207,16 +243,22 @@ module _ (C : ℕ) (masks : List ℕ) (r : Rule) (h : Space) (e : openNumber C m
         = record { some = p; few = omega arith; controllers = sym count-masks; masks = masks-read; states = sym (ap (take (length (a .states))) (take-length (a .states))) } in
         beginnings-accepted (remainingRecording C masks r cs) (recordingHeld a) B (holds .accepted p)
 
-    rule-accepted : Accepted r (remainingRecording C masks r cs)
-    rule-accepted = record { rule = given .rule; recording = remaining-accepted; controller = given .controller }
+    rule-accepted : Accepted q (remainingRecording C masks r cs)
+    rule-accepted =
+        let below : q .controller < length (a .masks) = rw same-rule at (held-controller a (holds .sound)) in
+        record {
+          rule = sym (rule-read q) ∙ (sym (ap ruleRefusal same-rule) ∙ held-rule a (holds .sound));
+          recording = remaining-accepted;
+          controller = omega (arith, below, count-masks);
+        }
 
-    remaining-judged : verdictsAnswer (leavesAll (Open C masks r ∷ cs) h) ≡ judgeLocalAnswer r (remainingRecording C masks r cs)
+    remaining-judged : verdictsAnswer (leavesAll (Open C masks r ∷ cs) h) ≡ judgeLocalAnswer q (remainingRecording C masks r cs)
     remaining-judged =
         holds .verdicts p
-        ∙ same-judged (a .rule) r (recordingHeld a) (remainingRecording C masks r cs)
+        ∙ same-judged (a .rule) q (recordingHeld a) (remainingRecording C masks r cs)
         (record { rule = held-rule a (holds .sound); recording = holds .accepted p; controller = held-controller a (holds .sound) })
         rule-accepted
-        (ap (λ (q : Rule). q .controller) same-rule) nodes-read refl (sym masks-read) refl
+        (ap (λ (x : Rule). x .controller) same-rule) nodes-read refl (sym masks-read) refl
 
   pub the-rack-as-it-runs : Running C masks r cs (leavesAll (Open C masks r ∷ cs) h)
   the-rack-as-it-runs = record { held = ap heldIn (holds .contents) ∙ space-held a h; accepts = rule-accepted; verdicts = remaining-judged; none = holds .none }

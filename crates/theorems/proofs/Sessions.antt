@@ -7,8 +7,9 @@ use lib.ListN.{length, take, getD, set, length-append}
 use lib.Seq.{take-length, take-suc}
 use Rattle.definitions.specs.Limits.{maxControllers, maxStates, maxRuleNodes, accepted}
 use Rattle.definitions.specs.Bounded.{pick}
+use Rattle.definitions.specs.Tables.{Rule}
 use Rattle.definitions.specs.Operations.{left}
-use Rattle.definitions.specs.Sessions.{Space, Held, headingOf, spaceOf, controllersIn, heldIn, sessionRule, arrived, withdrawn, oneMore, oneLess, Sound, Full, Made}
+use Rattle.definitions.specs.Sessions.{Space, Held, headingOf, spaceOf, controllersIn, heldIn, sessionRule, arrived, ruleRead, withdrawn, replaced, withRule, oneMore, oneLess, Sound, Full, Made}
 use Rattle.theorems.proofs.LentContents.{left-take, left-at, left-length, left-over, left-more, left-less}
 use Rattle.theorems.proofs.SessionChecks.{few-masks, few-nodes, few-states, length-less}
 
@@ -93,6 +94,12 @@ module _ (a : Held) (h : Space) where
         let e : set (headingOf a) 3 (length (a .states) + 1) ≡ headingOf (oneMore s a)
         = rw n (heading-states (length (a .masks)) (a .rule .controller) (a .rule .count) (length (a .states)) (length (a .states) + 1)) in
         rw (space-held) (space-same _ _ _ _ _ _ _ _ e refl refl (left-more maxStates (a .states) (h .states) s (length (a .states)) refl l))
+
+    pub space-replaced : (r : Rule) → replaced r (spaceOf a h) ≡ spaceOf (withRule a (ruleRead r)) h
+    unfolding spaceOf replaced
+    space-replaced r =
+        space-same _ _ _ _ _ _ _ _
+        refl refl (left-over maxRuleNodes (a .rule .nodes) (h .nodes) (take (r .count) (r .nodes)) (few-nodes a k)) refl
 
     pub space-withdrawn : 0 < length (a .states) → withdrawn (spaceOf a h) ≡ spaceOf (oneLess a) h
     unfolding spaceOf withdrawn

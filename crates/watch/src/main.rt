@@ -12,7 +12,7 @@ use standard_streams::failures;
 use watch_opening::phase::OUTPUT_BYTES;
 use watch_opening::phase::Phase;
 
-// One byte more than the limit tells an opening that is too long.
+// One byte more than the limit tells an opening or a new rule that is too long.
 const SPACE_BYTES: usize = Limits::INPUT_BYTES + 1;
 
 // The program ends after so many bytes of input, since every loop must.
@@ -25,14 +25,12 @@ struct Place {
     count: usize,
 }
 
-// The last byte that is kept: of the opening one byte more than its limit, of an event's line its limit and its ending.
-fn last_kept(phase: Phase) -> usize
-    ensures { λ r. ⌜ r ≤ 16384 ⌝ }
-{
+fn is_opening(phase: Phase) -> bool {
     match phase {
-        Phase::Opening => Limits::INPUT_BYTES,
-        Phase::Running => Limits::LINE_BYTES + 1,
-        Phase::Ended => 0,
+        Phase::Opening => true,
+        Phase::Running => false,
+        Phase::Ruling => false,
+        Phase::Ended => false,
     }
 }
 
@@ -40,6 +38,7 @@ fn is_ended(phase: Phase) -> bool {
     match phase {
         Phase::Opening => false,
         Phase::Running => false,
+        Phase::Ruling => false,
         Phase::Ended => true,
     }
 }
@@ -49,7 +48,7 @@ fn keep(place: Place, byte: u8, space: &mut [u8]) -> Place
     requires { ⌜ 16385 ≤ length (now space) ⌝ }
 {
     let phase = place.phase;
-    let at = least(place.count, last_kept(phase));
+    let at = least(place.count, Limits::INPUT_BYTES);
     space[at] = byte;
     Place {
         phase: phase,
@@ -58,30 +57,22 @@ fn keep(place: Place, byte: u8, space: &mut [u8]) -> Place
     }
 }
 
-// What is kept after a line: the opening's text.
+// Where the next line begins, in this phase.
+fn place_at(phase: Phase, from: usize) -> Place {
+    Place {
+        phase: phase,
+        from: from,
+        count: from,
+    }
+}
+
+// What is kept after a line: the text so far of the opening or of a new rule.
 fn next_place(phase: Phase, count: usize) -> Place {
     match phase {
-        Phase::Opening => {
-            Place {
-                phase: Phase::Opening,
-                from: count,
-                count: count,
-            }
-        }
-        Phase::Running => {
-            Place {
-                phase: Phase::Running,
-                from: 0,
-                count: 0,
-            }
-        }
-        Phase::Ended => {
-            Place {
-                phase: Phase::Ended,
-                from: 0,
-                count: 0,
-            }
-        }
+        Phase::Opening => place_at(phase, count),
+        Phase::Running => place_at(phase, 0),
+        Phase::Ruling => place_at(phase, count),
+        Phase::Ended => place_at(phase, 0),
     }
 }
 
@@ -134,7 +125,8 @@ fn take_bytes(
         let byte = chunk[i];
         let kept = keep(now, byte, space);
         now = kept;
-        if (byte == scan::NEWLINE) | (kept.count == SPACE_BYTES) {
+        let phase = kept.phase;
+        if (byte == scan::NEWLINE) | ((kept.count == SPACE_BYTES) & is_opening(phase)) {
             let next = end_line(kept, space, heading, masks, nodes, states);
             now = next;
         }

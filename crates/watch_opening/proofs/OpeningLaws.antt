@@ -5,7 +5,7 @@ use native.Mathlib.Omega.{arith}
 use mathlib.Core.Bool.{Bool, true, false, not, _&&_}
 use mathlib.Core.List.{List, [], _∷_, _++_}
 use lib.Dec.{eqb}
-use lib.ListN.{length, take, drop, getD, length-take, length-drop, length-append, drop-of-length-le}
+use lib.ListN.{length, take, drop, length-take, length-drop, length-append, drop-of-length-le}
 use lib.Seq.{length-take-le, take-at}
 use borrow.Author.Needs.{needs}
 use borrow.Author.Tests.{ne-eqb, le-ltb, lt-ltb, eqb-true, eqb-false}
@@ -34,7 +34,7 @@ use Rattle.program_input.specs.Splitting.{SplitAt}
 use Rattle.program_input.specs.declared.Parts.{Parts}
 use Rattle.program_input.proofs.SplitLaws.{rule-counted, texts-fit}
 use Rattle.sessions.specs.Calls.{OpenIs}
-use Rattle.session_status.specs.Status.{maxPrinted, StatusRoom}
+use Rattle.session_status.specs.Status.{maxPrinted}
 use Rattle.watch_opening.specs.Openings.{SessionIs, RefuseRoom, Sized, OpenRoom, TextsRoom, openedPhase, openedText, openedSpace, RefusedIs, OpenStep, SteppedIs}
 use Rattle.watch_opening.specs.declared.phase.Phase.the-variants.{Opening, Running, Ended}
 use Rattle.watch_opening.specs.declared.phase.Stepped.{Stepped}
@@ -121,10 +121,6 @@ module _ (C : ℕ) (owned : List ℕ) (c n : ℕ) (ws : List ℕ) where
       let zk : openNumber C owned (ruleOf c n ws) k ≡ 0 = number-sized k u ∙ (sym (number-sized h s) ∙ z) in
       rw (z, zk) (space-sized (opened C owned (ruleOf c n ws)) h k s u)
 
-  opened-empty : (h : Space) → openNumber C owned (ruleOf c n ws) h ≡ 0 → getD ((leaves call h) .heading) 3 0 ≡ 0
-  unfolding leaves pick spaceOf
-  opened-empty h z = rw z refl
-
 empty-sized : Sized (emptySpace .masks) (emptySpace .nodes) (emptySpace .states)
 empty-sized = record { masksFull = refl; nodesFull = refl; statesFull = refl }
 
@@ -159,11 +155,6 @@ module _ (C : ℕ) (owned : List ℕ) (c n : ℕ) (ws rule heading masks nodes s
         rw kept (denied (openedBy rule (Open C owned (ruleOf c n ws))) number (lineOf rule) h output output′ r (opened-refuses rule (Open C owned (ruleOf c n ws)) number number-is z) d)
 
     module _ (z : number ≡ 0) where
-      pub opened-room : StatusRoom heading′ output
-      opened-room =
-          let e : getD heading′ 3 0 ≡ 0 = ap (λ (k : Space). getD (k .heading) 3 0) (o .left) ∙ opened-empty C owned c n ws h (sym (o .answered) ∙ z) in
-          record { few = omega arith; room = room .room }
-
       -- `open_read`, taken: `openedBy` opens the session
       pub read-opened : (r : ℕ) (output′ : List ℕ) → Printed (statusText h′) output 0 r output′ →
           OpenStep (openedBy rule (Open C owned (ruleOf c n ws))) h output (record { phase = Running; printed = r }) h′ output′
@@ -174,7 +165,7 @@ module _ (C : ℕ) (owned : List ℕ) (c n : ℕ) (ws rule heading masks nodes s
           = o .left ∙ leaves-sized C owned c n ws h emptySpace (room .sized) empty-sized (sym (o .answered) ∙ z) in
           rw opens (record { phase = refl; printed = rw (← is) p; left = is })
 
-pub ruleset read-laws = (needs, first-line-room, read-refused, opened-room, read-opened)
+pub ruleset read-laws = (needs, first-line-room, read-refused, read-opened)
 
 -- ---- `open_texts`
 module _ (ended : Bool) (rule session : List ℕ) where
@@ -218,6 +209,10 @@ owned-counts session v owned t e = sym (length-take-le (v .controllers) owned (o
 pub words-counts : (rule entry words : List ℕ) (u : ruled.Scanned) → RuleScanned rule entry u words → length words ≡ maxRuleNodes → u .count ≡ length (take (u .count) words)
 words-counts rule entry words u s e = sym (length-take-le (u .count) words (omega (arith, s .few)))
 
+-- an accepted rule's words are laid over the start of lent space
+pub words-read : (rule entry words : List ℕ) (u : ruled.Scanned) → RuleScanned rule entry u words → u .number ≡ 0 → take (u .count) words ≡ (scanRule rule) .words
+words-read rule entry words u s a = rw (s .nodesLaid) (take-at ((scanRule rule) .words) (drop (length ((scanRule rule) .words)) entry) (u .count) (s .nodesCount a))
+
 module _ (ended : Bool) (rule session masks nodes states output : List ℕ) (room : TextsRoom rule session masks nodes states output)
     (entry words : List ℕ) (u : ruled.Scanned) (s : RuleScanned rule entry u words) (heading : List ℕ) where
   abbrev h₁ : Space
@@ -253,15 +248,12 @@ module _ (ended : Bool) (rule session masks nodes states output : List ℕ) (roo
           (session-refuses ended rule session read-rule denied-session (rw (t .number) at e)) (rw (t .number, t .rest) at d)
 
     module _ (z : v .number ≡ 0) where
-      words-are : take (u .count) words ≡ (scanRule rule) .words
-      words-are = rw (s .nodesLaid) (take-at ((scanRule rule) .words) (drop (length ((scanRule rule) .words)) entry) (u .count) (s .nodesCount a))
-
       -- `open_texts`, both were read: `openedTexts` is `openedBy` of them
       pub texts-opened : (r : Stepped) (h′ : Space) (output′ : List ℕ) →
           OpenStep (openedBy rule (Open (v .controllers) (take (v .controllers) owned) (ruleOf (u .controller) (u .count) (take (u .count) words)))) h₁ output r h′ output′ →
           OpenStep (openedTexts ended rule session) h₁ output r h′ output′
       texts-opened r h′ output′ p =
-          rw (session-opens ended rule session read-rule (sym (t .number) ∙ z)) (rw (t .masks z, words-are, t .controllers, s .controller, s .count) at p)
+          rw (session-opens ended rule session read-rule (sym (t .number) ∙ z)) (rw (t .masks z, words-read rule entry words u s a, t .controllers, s .controller, s .count) at p)
 
 pub ruleset texts-laws = (needs, rule-room, texts-rule-refused, session-room, texts-waiting, texts-session-refused, owned-counts, words-counts, texts-open-room, texts-opened)
 

@@ -2,7 +2,7 @@
 use mathlib.Core.Path.{_≡_}
 use Prim.Native.Nat.{ℕ, _≤_}
 use mathlib.Core.Bool.{Bool}
-use mathlib.Core.List.{List, []}
+use mathlib.Core.List.{List, [], _++_}
 use lib.ListN.{length, take, drop}
 use Rattle.definitions.specs.Limits.{accepted, maxControllers, maxRuleNodes, maxStates, maxInputBytes}
 use Rattle.definitions.specs.Lines.{NextLine, refused, read}
@@ -13,7 +13,7 @@ use Rattle.definitions.specs.Watching.{scanSession, Opened, Unfinished, Refuses
 use Rattle.printing.specs.Printing.{Printed, OutputIs}
 use Rattle.session_status.specs.Status.{maxPrinted}
 use Rattle.watch_opening.specs.declared.phase.Phase.{Phase}
-use Rattle.watch_opening.specs.declared.phase.Phase.the-variants.{Opening, Running, Ended}
+use Rattle.watch_opening.specs.declared.phase.Phase.the-variants.{Opening, Running, Ruling, Ended}
 use Rattle.watch_opening.specs.declared.phase.Stepped.{Stepped}
 use Rattle.watch_opening.specs.declared.ControllersRead.{ControllersRead}
 use Rattle.watch_opening.specs.declared.ControllersRead.the-variants as session
@@ -85,17 +85,26 @@ pub record OpenStep (o : Opened) (h : Space) (output : List ℕ) (r : Stepped) (
   pub printed : Printed (openedText o) output 0 (r .printed) output′
   pub left : h′ ≡ openedSpace o h
 
--- the program that is in a phase, with the opening's text and the session in lent space
+-- the program that is in a phase, with the text so far of the opening or of a new rule, and the session in lent space
 abbrev pub watchOf : Phase → (text : List ℕ) → Space → Watch
 watchOf Opening text h = watching.Opening text
 watchOf Running text h = watching.Running h
+watchOf Ruling text h = watching.Ruling text h
 watchOf Ended text h = watching.Ended
 
 -- what stands in lent space after a line: the session, and else what stood there
 abbrev pub spaceAfter : Watch → Space → Space
 spaceAfter (watching.Opening text) h = h
 spaceAfter (watching.Running k) h = k
+spaceAfter (watching.Ruling text k) h = k
 spaceAfter watching.Ended h = h
+
+-- the text so far with the next line; an event begins with its line
+abbrev pub textWith : Phase → (text line : List ℕ) → List ℕ
+textWith Opening text line = text ++ line
+textWith Running text line = line
+textWith Ruling text line = text ++ line
+textWith Ended text line = []
 
 -- a line was taken: what the program is afterwards, what it prints, and all of lent space
 pub record SteppedIs (s : watching.Stepped) (text : List ℕ) (h : Space) (output : List ℕ) (r : Stepped) (h′ : Space) (output′ : List ℕ) : Type 0 where

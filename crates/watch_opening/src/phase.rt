@@ -1,10 +1,11 @@
 // The program between two lines.
 use rules::limits::Limits;
 
-// The opening's text comes; a session is held; nothing more is read.
+// The opening's text comes; a session is held; the text of its new rule comes; nothing more is read.
 pub enum Phase {
     Opening,
     Running,
+    Ruling,
     Ended,
 }
 

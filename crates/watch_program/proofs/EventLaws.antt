@@ -1,38 +1,36 @@
--- An event (`event_of`, `take_event`, `follow`): a law for each return, and room for what is printed.
+-- An event (`event_of`, `take_event`, `refuse_line`, `follow`): a law for each return, and room for what is printed.
 use mathlib.Core.Path.{_≡_, refl, sym, ap, _∙_}
-use Prim.Native.Nat.{ℕ, zero, suc, _+_, _-_, _<_, _≤_, min}
+use Prim.Native.Nat.{ℕ, _-_, _<_, _≤_, min}
 use native.Mathlib.Omega.{arith}
 use mathlib.Core.Bool.{Bool, true, false}
 use mathlib.Core.List.{List, [], _∷_, _++_}
-use lib.Dec.{eqb, ltb, leb}
-use lib.ListN.{length, take, getD, set, length-take, length-append}
+use lib.Dec.{eqb}
+use lib.ListN.{length, take, drop, getD, length-take, length-append}
 use lib.Seq.{length-take-le, take-take, take-all}
 use native.Mathlib.Decide.{decLt}
 use borrow.Author.Needs.{needs}
-use borrow.Author.Tests.{ne-eqb, leb-false, ltb-false}
-use Rattle.definitions.specs.Limits.{maxStates, maxLineBytes, accepted, recordingForm, sessionFull, sessionEmpty, recordingLimits, lentShort}
+use borrow.Author.Tests.{ne-eqb}
+use Rattle.definitions.specs.Limits.{maxLineBytes, accepted, recordingForm}
 use Rattle.definitions.specs.Bounded.{pick}
 use Rattle.definitions.specs.Recordings.{stateOf}
 use Rattle.definitions.specs.Lines.{tab, newline, digits, lineLength, lineOf, isClosed, same, malformed, onParsed, heading, hexadecimal, twoFields, worded}
 use Rattle.definitions.specs.RecordingText.{atWord, wordDigits, markDigits}
-use Rattle.definitions.specs.Operations.{tooShort}
 use Rattle.definitions.specs.Program.{refusedWord, refusedText}
-use Rattle.definitions.specs.Sessions.{Space, lentSpace, arriveNumber, arrivalRefusal, withdrawNumber, withdrawalRefusal, arrived, withdrawn, leaves}
-use Rattle.definitions.specs.Watching.{withdrawWord, callOf, eventText, statusText, runs, refusesEvent, calls, eventStep}
-use Rattle.theorems.proofs.Choice.{refuse-no}
+use Rattle.definitions.specs.Sessions.{Space, lentSpace, arriveNumber, withdrawNumber, arrived, withdrawn, leaves}
+use Rattle.definitions.specs.Watching.{withdrawWord, callOf, eventText, statusText, runs, refusesEvent, calls, lineStep}
 use Rattle.fields.specs.Forms.{exactPair}
 use Rattle.fields.specs.declared.form.Pair.{Pair}
 use Rattle.fields.specs.declared.form.Pair.the-variants as pair
 use Rattle.fields.proofs.FormLaws.{exact-pair, exact-pair-malformed}
 use Rattle.lines.proofs.NextLaws.{line-part, line-part-laws, length-le, short-closed, whole-open}
+use Rattle.lines.proofs.PartLaws.{part-to-end}
 use Rattle.lines.specs.Reading.{FirstLine}
 use Rattle.lines.specs.declared.Line.{Line}
 use Rattle.printing.specs.Printing.{Printed}
 use Rattle.printing.proofs.PrintLaws.{digits-fit}
 use Rattle.recording_reader.proofs.StateLaws.{digits-few, state-not, state-formed}
 use Rattle.sessions.specs.Calls.{ArriveIs, WithdrawIs}
-use Rattle.session_status.specs.Status.{StatusRoom}
-use Rattle.watch_program.specs.Events.{meant, eventNumber, eventLeaves, Taken, EventRoom, EventIs}
+use Rattle.watch_program.specs.Events.{meant, eventNumber, eventLeaves, Taken, RefusedRoom, EventIs}
 use Rattle.watch_program.specs.declared.event.Event.{Event}
 use Rattle.watch_program.specs.declared.event.Event.the-variants.{Arrival, Withdrawal, Malformed}
 
@@ -109,47 +107,7 @@ module _ (heading masks states : List ℕ) where
 
 pub ruleset taken-laws = (needs, taken-arrival, taken-withdrawal, taken-none)
 
--- ---- `follow`
--- an event that is a call or none: taken, or refused with its number
-step-by : (line : List ℕ) (h : Space) (e : Event) → 0 < length line → meant e ≡ callOf (getD (h .heading) 0 0) line →
-    eventStep line h ≡ pick (eqb (eventNumber e h) accepted) (runs (eventLeaves e h)) (refusesEvent (eventNumber e h) line h)
-unfolding eventStep pick onParsed calls meant eventNumber eventLeaves
-step-by line h (Arrival s) some e = rw (ne-eqb (length line) 0 (λ q. omega arith), ← e)
-step-by line h Withdrawal some e = rw (ne-eqb (length line) 0 (λ q. omega arith), ← e)
-step-by line h Malformed some e = rw (ne-eqb (length line) 0 (λ q. omega arith), ← e)
-
--- refused, it leaves what it found
-refused-leaves : (e : Event) (h : Space) → (eventNumber e h ≡ 0 → ⊥) → eventLeaves e h ≡ h
-unfolding eventNumber eventLeaves leaves pick
-refused-leaves (Arrival s) h z = rw (ne-eqb (arriveNumber s h) 0 z)
-refused-leaves Withdrawal h z = rw (ne-eqb (withdrawNumber h) 0 z)
-refused-leaves Malformed h z = refl
-
--- taken, at most 128 states are held
-arrival-few : (s : ℕ) (h : Space) → arriveNumber s h ≡ 0 → getD (h .heading) 3 0 < maxStates
-unfolding arriveNumber arrivalRefusal
-arrival-few s h z =
-    let z′ = (refuse-no (tooShort maxStates (h .states)) lentShort _ (omega arith) z) .1 in
-    leb-false maxStates (getD (h .heading) 3 0) ((refuse-no (leb maxStates (getD (h .heading) 3 0)) sessionFull _ (omega arith) z′) .0)
-
-withdrawal-few : (h : Space) → withdrawNumber h ≡ 0 → getD (h .heading) 3 0 ≤ maxStates
-unfolding withdrawNumber withdrawalRefusal
-withdrawal-few h z =
-    let z′ = (refuse-no (tooShort maxStates (h .states)) lentShort _ (omega arith) z) .1 in
-    let z″ = (refuse-no (eqb (getD (h .heading) 3 0) 0) sessionEmpty _ (omega arith) z′) .1 in
-    ltb-false maxStates (getD (h .heading) 3 0) ((refuse-no (ltb maxStates (getD (h .heading) 3 0)) recordingLimits accepted (omega arith) z″) .0)
-
-stored-few : (l : List ℕ) (i x b : ℕ) → x ≤ b → getD (set l i x) i 0 ≤ b
-stored-few [] i x b h = omega arith
-stored-few (y ∷ l) zero x b h = h
-stored-few (y ∷ l) (suc i) x b h = stored-few l i x b h
-
-taken-few : (e : Event) (h : Space) → eventNumber e h ≡ 0 → getD ((eventLeaves e h) .heading) 3 0 ≤ maxStates
-unfolding eventNumber eventLeaves leaves arrived withdrawn pick
-taken-few (Arrival s) h z = rw z (stored-few (h .heading) 3 (getD (h .heading) 3 0 + 1) maxStates (omega (arith, arrival-few s h z)))
-taken-few Withdrawal h z = rw z (stored-few (h .heading) 3 (getD (h .heading) 3 0 - 1) maxStates (omega (arith, withdrawal-few h z)))
-taken-few Malformed h z = absurd (omega arith)
-
+-- ---- `refuse_line`
 -- what is printed of a refused line
 shown-part : (line : List ℕ) (len shown : ℕ) → len ≡ lineLength line → shown ≡ min len maxLineBytes → take shown line ≡ eventText line
 shown-part line len shown is e = go (decLt len 1025)
@@ -162,19 +120,13 @@ shown-part line len shown is e = go (decLt len 1025)
         let k : shown ≡ maxLineBytes = omega arith in
         rw k (sym (take-take maxLineBytes (lineLength line) line (omega arith)))
 
-pub status-room : (line heading masks states heading′ states′ text : List ℕ) (e : Event) (number : ℕ) → Taken e heading masks states number heading′ states′ →
-    EventRoom line text → number ≡ 0 → StatusRoom heading′ text
-status-room line heading masks states heading′ states′ text e number t room z =
-    let few = taken-few e (lentSpace heading masks [] states) (sym (t .answered []) ∙ z) in
-    record { few = rw (← t .left []) at few; room = room .room }
-
 pub shown-counts : (line : List ℕ) (n shown : ℕ) → shown ≡ min n maxLineBytes → n ≤ length line → shown ≡ length (take shown line)
 shown-counts line n shown e h = sym (length-take-le shown line (omega arith))
 
-pub refused-room : (line text : List ℕ) (n shown number : ℕ) → EventRoom line text → shown ≡ min n maxLineBytes → n ≤ length line → number < 256 →
-    length (refusedText number (take shown line)) ≤ length text
+pub refused-room : (at : ℕ) (text output line : List ℕ) (n shown number : ℕ) → RefusedRoom at text output → shown ≡ min n maxLineBytes → n ≤ length line → number < 256 →
+    length (refusedText number (take shown line)) ≤ length output
 unfolding refusedText
-refused-room line text n shown number room e h small =
+refused-room at text output line n shown number room e h small =
     omega (
       arith,
       length-append refusedWord (tab ∷ (digits number ++ (tab ∷ (take shown line ++ (newline ∷ []))))),
@@ -185,8 +137,35 @@ refused-room line text n shown number room e h small =
       room .room,
     )
 
-module _ (line heading masks nodes states heading′ states′ : List ℕ) (l : Line) (first : FirstLine line l) (e : Event)
-    (called : meant e ≡ callOf (getD heading 0 0) line) (number : ℕ) (t : Taken e heading masks states number heading′ states′) where
+-- `refuse_line`: what is printed is `eventText` of the line that begins there
+pub refused-shown : (at : ℕ) (text output : List ℕ) (l : Line) → FirstLine (take (length text - at) (drop at text)) l → (shown : ℕ) → shown ≡ min (l .len) maxLineBytes →
+    (number r : ℕ) (output′ : List ℕ) → Printed (refusedText number (take shown (take (length text - at) (drop at text)))) output 0 r output′ →
+    Printed (refusedText number (eventText (drop at text))) output 0 r output′
+refused-shown at text output l first shown ss number r output′ p =
+    let line = take (length text - at) (drop at text) in
+    let q : Printed (refusedText number (eventText line)) output 0 r output′ = rw (shown-part line (l .len) shown (first .length-is) ss) at p in
+    rw (part-to-end text at) at q
+
+pub ruleset refuse-laws = (needs, shown-counts, refused-room, refused-shown)
+
+-- ---- `follow`
+-- an event that is a call or none: taken, or refused with its number
+step-by : (line : List ℕ) (h : Space) (e : Event) → meant e ≡ callOf (getD (h .heading) 0 0) line →
+    lineStep line h ≡ pick (eqb (eventNumber e h) accepted) (runs (eventLeaves e h)) (refusesEvent (eventNumber e h) line h)
+unfolding lineStep pick onParsed calls meant eventNumber eventLeaves
+step-by line h (Arrival s) e = rw (← e)
+step-by line h Withdrawal e = rw (← e)
+step-by line h Malformed e = rw (← e)
+
+-- refused, it leaves what it found
+refused-leaves : (e : Event) (h : Space) → (eventNumber e h ≡ 0 → ⊥) → eventLeaves e h ≡ h
+unfolding eventNumber eventLeaves leaves pick
+refused-leaves (Arrival s) h z = rw (ne-eqb (arriveNumber s h) 0 z)
+refused-leaves Withdrawal h z = rw (ne-eqb (withdrawNumber h) 0 z)
+refused-leaves Malformed h z = refl
+
+module _ (line heading masks nodes states heading′ states′ : List ℕ) (e : Event) (called : meant e ≡ callOf (getD heading 0 0) line)
+    (number : ℕ) (t : Taken e heading masks states number heading′ states′) (text : List ℕ) where
   abbrev h : Space
   h = lentSpace heading masks nodes states
 
@@ -196,26 +175,21 @@ module _ (line heading masks nodes states heading′ states′ : List ℕ) (l : 
   number-is : number ≡ eventNumber e h
   number-is = t .answered nodes
 
-  module _ (text : List ℕ) (room : EventRoom line text) where
-    -- refused
-    module _ (z : number ≡ 0 → ⊥) (shown : ℕ) (ss : shown ≡ min (l .len) maxLineBytes) where
-      -- `follow`, refused: `eventStep` prints the line, and what is held stays
-      pub event-refused : (r : ℕ) (text′ : List ℕ) → Printed (refusedText number (take shown line)) text 0 r text′ → EventIs line h text r h′ text′
-      unfolding pick
-      event-refused r text′ p =
-          let n = ne-eqb (eventNumber e h) 0 (λ q. z (number-is ∙ q)) in
-          let is : eventStep line h ≡ refusesEvent number line h = step-by line h e (room .some) called ∙ rw (n, number-is) in
-          let kept : h′ ≡ h = t .left nodes ∙ refused-leaves e h (λ q. z (number-is ∙ q)) in
-          record { watch = rw (is, kept); printed = rw (is, ← shown-part line (l .len) shown (first .length-is) ss) p }
+  -- `follow`, refused: `lineStep` prints the line, and what is held stays
+  pub event-refused : (number ≡ 0 → ⊥) → (r : ℕ) (text′ : List ℕ) → Printed (refusedText number (eventText line)) text 0 r text′ → EventIs line h text r h′ text′
+  unfolding pick
+  event-refused z r text′ p =
+      let n = ne-eqb (eventNumber e h) 0 (λ q. z (number-is ∙ q)) in
+      let is : lineStep line h ≡ refusesEvent number line h = step-by line h e called ∙ rw (n, number-is) in
+      let kept : h′ ≡ h = t .left nodes ∙ refused-leaves e h (λ q. z (number-is ∙ q)) in
+      record { watch = rw (is, kept); printed = rw is p }
 
-    -- taken
-    module _ (z : number ≡ 0) where
-      -- `follow`, taken: `eventStep` goes on with what the call leaves, and prints its line
-      pub event-taken : (r : ℕ) (text′ : List ℕ) → Printed (statusText h′) text 0 r text′ → EventIs line h text r h′ text′
-      unfolding pick
-      event-taken r text′ p =
-          let is : eventStep line h ≡ runs (eventLeaves e h) = step-by line h e (room .some) called ∙ rw (← number-is, z) in
-          let goes : eventStep line h ≡ runs h′ = is ∙ ap runs (sym (t .left nodes)) in
-          record { watch = rw goes; printed = rw goes p }
+  -- `follow`, taken: `lineStep` goes on with what the call leaves, and prints its line
+  pub event-taken : number ≡ 0 → (r : ℕ) (text′ : List ℕ) → Printed (statusText h′) text 0 r text′ → EventIs line h text r h′ text′
+  unfolding pick
+  event-taken z r text′ p =
+      let is : lineStep line h ≡ runs (eventLeaves e h) = step-by line h e called ∙ rw (← number-is, z) in
+      let goes : lineStep line h ≡ runs h′ = is ∙ ap runs (sym (t .left nodes)) in
+      record { watch = rw goes; printed = rw goes p }
 
-pub ruleset follow-laws = (needs, shown-counts, refused-room, event-refused, status-room, event-taken)
+pub ruleset follow-laws = (needs, event-refused, event-taken)

@@ -1,3 +1,4 @@
 pub mod EventLaws
+pub mod RulingLaws
 pub mod StepLaws
 pub mod Told

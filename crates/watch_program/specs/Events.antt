@@ -1,12 +1,12 @@
 -- What an event is, what its call answers and leaves, and what is printed of it.
 use mathlib.Core.Path.{_≡_}
-use Prim.Native.Nat.{ℕ, _<_, _≤_}
+use Prim.Native.Nat.{ℕ, _≤_}
 use mathlib.Core.List.{List}
 use lib.ListN.{length}
 use Rattle.definitions.specs.Limits.{recordingForm}
 use Rattle.definitions.specs.Lines.{Parsed, formed, malformed}
 use Rattle.definitions.specs.Sessions.{Space, lentSpace, Call, Arrive, Withdraw, numberOf, leaves}
-use Rattle.definitions.specs.Watching.{Running, eventStep}
+use Rattle.definitions.specs.Watching.{Running, lineStep}
 use Rattle.printing.specs.Printing.{Printed}
 use Rattle.session_status.specs.Status.{maxPrinted}
 use Rattle.watch_program.specs.declared.event.Event.{Event}
@@ -35,12 +35,12 @@ pub record Taken (e : Event) (heading masks states : List ℕ) (number : ℕ) (h
   pub answered : (nodes : List ℕ) → number ≡ eventNumber e (lentSpace heading masks nodes states)
   pub left : (nodes : List ℕ) → lentSpace heading′ masks nodes states′ ≡ eventLeaves e (lentSpace heading masks nodes states)
 
--- a line, and space for what is printed of it
-pub record EventRoom (line text : List ℕ) : Type 0 where
-  pub some : 0 < length line
-  pub room : maxPrinted ≤ length text
+-- a line of a text, and space for what is printed of it
+pub record RefusedRoom (at : ℕ) (text output : List ℕ) : Type 0 where
+  pub inside : at ≤ length text
+  pub room : maxPrinted ≤ length output
 
 -- what is held afterwards, and what is printed
 pub record EventIs (line : List ℕ) (h : Space) (text : List ℕ) (r : ℕ) (h′ : Space) (text′ : List ℕ) : Type 0 where
-  pub watch : (eventStep line h) .watch ≡ Running h′
-  pub printed : Printed ((eventStep line h) .printed) text 0 r text′
+  pub watch : (lineStep line h) .watch ≡ Running h′
+  pub printed : Printed ((lineStep line h) .printed) text 0 r text′

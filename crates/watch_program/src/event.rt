@@ -1,9 +1,14 @@
 // A line of the input as an event: the call that it is, taken where it isn't refused.
 ghost use mathlib.Core.Path.{_≡_};
+ghost use Prim.Native.Nat.{_≤_};
+ghost use lib.ListN.{length, drop};
 ghost use Rattle.definitions.specs.Lines.{lineLength};
+ghost use Rattle.definitions.specs.Program.{refusedText};
 ghost use Rattle.definitions.specs.Sessions.{lentSpace};
-ghost use Rattle.definitions.specs.Watching.{callOf};
-ghost use Rattle.watch_program.specs.Events.{meant, Taken, EventRoom, EventIs};
+ghost use Rattle.definitions.specs.Watching.{callOf, eventText};
+ghost use Rattle.printing.specs.Printing.{Printed};
+ghost use Rattle.session_status.specs.Status.{maxPrinted};
+ghost use Rattle.watch_program.specs.Events.{meant, Taken, RefusedRoom, EventIs};
 use fields::form;
 use fields::form::Pair;
 use lines::first_line;
@@ -64,6 +69,17 @@ fn take_event(
     }
 }
 
+// Prints the line that begins at `at`: at most its first 1,024 bytes, without its ending.
+pub fn refuse_line(number: u8, text: &[u8], at: usize, output: &mut [u8]) -> usize
+    requires { ⌜ RefusedRoom at (now text) (now output) ⌝ }
+    ensures { λ r. ⌜ Printed (refusedText number (eventText (drop at (now (text .entry))))) (now (output .entry)) 0 r (now (output .exit)) ⌝ }
+{
+    let line = &text[at..];
+    let first = first_line(line);
+    let shown = least(first.len, Limits::LINE_BYTES);
+    put_refused(number as u32, &line[..shown], output)
+}
+
 // Takes the event of a line, and prints the session's line, or the refused line itself.
 pub fn follow(
     line: &[u8],
@@ -73,15 +89,14 @@ pub fn follow(
     states: &mut [u64],
     text: &mut [u8],
 ) -> usize
-    requires { ⌜ EventRoom (now line) (now text) ⌝ }
+    requires { ⌜ maxPrinted ≤ length (now text) ⌝ }
     ensures { λ r. ⌜ EventIs (now (line .entry)) (lentSpace (now (heading .entry)) (now (masks .entry)) (now (nodes .entry)) (now (states .entry))) (now (text .entry)) r (lentSpace (now (heading .exit)) (now (masks .entry)) (now (nodes .entry)) (now (states .exit))) (now (text .exit)) ⌝ }
 {
     let first = first_line(line);
     let event = event_of(heading[Heading::CONTROLLERS], line, first.len);
     let number = take_event(event, heading, masks, states);
     if number != Refusal::NONE {
-        let shown = least(first.len, Limits::LINE_BYTES);
-        return put_refused(number as u32, &line[..shown], text);
+        return refuse_line(number, line, 0, text);
     }
     put_status(heading, masks, nodes, states, text)
 }

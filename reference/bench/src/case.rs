@@ -18,6 +18,8 @@ pub enum Side {
     JudgeLocal,
     /// The check of one state by hand, and no more: likewise.
     OneState,
+    /// The proved library's check of a rule, and no more: likewise.
+    RuleAlone,
 }
 
 impl Side {
@@ -28,13 +30,14 @@ impl Side {
             Side::Tuned => "tuned",
             Side::JudgeLocal => "judge_local",
             Side::OneState => "one_state",
+            Side::RuleAlone => "rule_alone",
         }
     }
 
     /// Does it do the same as the proved side? Else it does less, and answers
     /// otherwise.
     fn same(self) -> bool {
-        !matches!(self, Side::JudgeLocal | Side::OneState)
+        !matches!(self, Side::JudgeLocal | Side::OneState | Side::RuleAlone)
     }
 }
 

@@ -3,7 +3,7 @@
 use crate::case::{Case, Side, Sides, Timed};
 use crate::hand::{evidence, line, plain, read, rewrite, tuned, write};
 use crate::inputs::{LineInput, RuleInput, TableInput};
-use crate::sessions::{self, Arrival};
+use crate::sessions::{self, Arrival, NewRule};
 use ragyvosin::{full, Joint};
 use reference::generate::random::Random;
 use reference::generate::sessions::contents;
@@ -119,6 +119,15 @@ impl Source {
                 sessions::arrivals(nodes, states, self.count())
             }
             Source::Any => sessions::any_arrivals(self.count()),
+        }
+    }
+
+    fn new_rules(self) -> (Vec<Contents>, Vec<NewRule>) {
+        match self {
+            Source::Exact { nodes, states } | Source::Rewritten { nodes, states } => {
+                sessions::new_rules(nodes, states, self.count())
+            }
+            Source::Any => sessions::any_new_rules(self.count()),
         }
     }
 }
@@ -242,6 +251,11 @@ fn arrive(plan: Plan) -> Box<dyn Timed> {
     boxed(plan, inputs, lent, sessions::arrive())
 }
 
+fn replace_rule(plan: Plan) -> Box<dyn Timed> {
+    let (lent, inputs) = plan.source.new_rules();
+    boxed(plan, inputs, lent, sessions::replace_rule())
+}
+
 fn session_verdicts(plan: Plan) -> Box<dyn Timed> {
     boxed(plan, plan.source.sessions(), (), sessions::verdicts())
 }
@@ -288,6 +302,7 @@ impl Plan {
             "read_recording" => read_recording(self),
             "read_joint" => read_joint(self),
             "arrive" => arrive(self),
+            "replace_rule" => replace_rule(self),
             "session_verdicts" => session_verdicts(self),
             "session" => session(self),
             _ => judge_recording(self),
@@ -296,7 +311,7 @@ impl Plan {
 }
 
 /// The operations that take a rule, a recording or both.
-const OF_RULES: [&str; 13] = [
+const OF_RULES: [&str; 14] = [
     "judge_local",
     "evidence",
     "project",
@@ -308,6 +323,7 @@ const OF_RULES: [&str; 13] = [
     "read_recording",
     "read_joint",
     "arrive",
+    "replace_rule",
     "session_verdicts",
     "session",
 ];

@@ -2,7 +2,8 @@
 //!
 //! `bench` compares all sides and then times them in one run; with the file
 //! that `count.sh` writes it reports instructions too. `bench --compare` only
-//! compares. `bench --count OPERATION SIZE SIDE PASSES` only calls one side,
+//! compares. `bench --only OPERATION` compares and times one operation.
+//! `bench --count OPERATION SIZE SIDE PASSES` only calls one side,
 //! for a profiler that counts instructions; `bench --list` lists what it takes.
 //! `bench --interlocks` times judging by rewritten interlocks, for `turns.sh`.
 
@@ -33,6 +34,18 @@ fn time(counts: Counts) {
     }
 }
 
+/// Compares and times the sides of one operation.
+fn only(operation: &str) {
+    let concerned = |plan: &cases::Plan| plan.operation == operation;
+    for plan in cases::any().into_iter().chain(cases::sized()).filter(concerned) {
+        plan.build().assert_agreement();
+    }
+    report::heading();
+    for plan in cases::sized().into_iter().filter(concerned) {
+        report::lines(plan, &timing::time(plan.build().as_mut()), &Counts::none());
+    }
+}
+
 /// Lists what `--count` takes.
 fn list() {
     for plan in cases::sized() {
@@ -59,6 +72,7 @@ fn main() {
     match words[..] {
         ["--compare"] => compare(),
         ["--list"] => list(),
+        ["--only", operation] => only(operation),
         ["--interlocks"] => interlocks::time(),
         ["--count", operation, size, side, passes] => {
             count(operation, size, side, passes.parse().expect("a number of passes"));
@@ -68,7 +82,7 @@ fn main() {
             time(words.first().map_or(Counts::none(), |path| Counts::of_file(path)));
         }
         _ => panic!(
-            "usage: bench [COUNTS | --compare | --list | --interlocks | \
+            "usage: bench [COUNTS | --compare | --list | --interlocks | --only OPERATION | \
              --count OPERATION SIZE SIDE PASSES]"
         ),
     }

@@ -52,8 +52,9 @@ fn target(plan: Plan, side: Side) -> f64 {
     match side {
         Side::Tuned => 1.3,
         Side::JudgeLocal if plan.operation == "session_verdicts" => 1.05,
+        Side::JudgeLocal if plan.operation == "replace_rule" => 1.0,
         Side::JudgeLocal => 10.0,
-        Side::OneState => 2.0,
+        Side::OneState | Side::RuleAlone => 2.0,
         _ if judges.contains(&plan.operation) => 1.0,
         _ => 1.5,
     }

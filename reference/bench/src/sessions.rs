@@ -1,5 +1,5 @@
-//! Sessions: an arrival, the verdicts, and a whole session as it runs, each
-//! with its inputs and its sides.
+//! Sessions: an arrival, a new rule, the verdicts, and a whole session as it
+//! runs, each with its inputs and its sides.
 
 use crate::case::{Side, Sides};
 use crate::hand::session::{self, Judge};
@@ -7,6 +7,7 @@ use crate::hand::{check, plain, tuned};
 use crate::inputs::RuleInput;
 use ragyvosin::{full, Recording, Rule};
 use reference::generate::random::Random;
+use reference::generate::rules::RuleTable;
 use reference::generate::sessions;
 use reference::model::limits;
 use reference::model::session::Contents;
@@ -101,6 +102,71 @@ pub fn arrive() -> Sides<Arrival, Vec<Contents>, u8> {
             let there = &masks[..heading[0].min(masks.len())];
             let before = heading[3].checked_sub(1).map(|last| states[last]);
             check::state(heading[0], there, before, i.state).err().unwrap_or(0)
+        }),
+    ]
+}
+
+/// A new rule for one of the sessions.
+pub struct NewRule {
+    session: usize,
+    rule: RuleTable,
+}
+
+impl NewRule {
+    fn rule(&self) -> Rule<'_> {
+        Rule { controller: self.rule.controller, count: self.rule.count, nodes: &self.rule.nodes }
+    }
+}
+
+/// Sessions, and rules of exactly this size for their controllers.
+pub fn new_rules(nodes: usize, states: usize, count: usize) -> (Vec<Contents>, Vec<NewRule>) {
+    let mut random = Random::new(7);
+    let all: Vec<Contents> = (0..SESSIONS).map(|_| exact(&mut random, nodes, states)).collect();
+    let mut draw = |number: usize| {
+        let session = number % SESSIONS;
+        let contents = exact(&mut random, nodes, 1);
+        let [_, _, count, _] = contents.heading;
+        let rule = RuleTable { controller: all[session].heading[1], count, nodes: contents.nodes };
+        let new_rule = NewRule { session, rule };
+        let Contents { mut heading, mut nodes, .. } = all[session].clone();
+        let number = ragyvosin::replace_rule(new_rule.rule(), &mut heading, &mut nodes);
+        assert_eq!(number, 0, "the new rule is taken");
+        new_rule
+    };
+    let rules = (0..count).map(&mut draw).collect();
+    (all, rules)
+}
+
+/// Any contents, and any rules.
+pub fn any_new_rules(count: usize) -> (Vec<Contents>, Vec<NewRule>) {
+    let mut random = Random::new(7);
+    let all: Vec<Contents> = (0..SESSIONS).map(|_| sessions::contents(&mut random)).collect();
+    let mut draw = |number: usize| {
+        let session = number % SESSIONS;
+        NewRule { session, rule: sessions::any_new_rule(&mut random, all[session].heading[0]) }
+    };
+    let rules = (0..count).map(&mut draw).collect();
+    (all, rules)
+}
+
+/// A recording that is refused before any of it is read, once the rule is checked.
+const NOTHING: Recording = Recording { controllers: 0, count: 0, masks: &[], states: &[] };
+
+pub fn replace_rule() -> Sides<NewRule, Vec<Contents>, u8> {
+    vec![
+        (Side::Proved, |i, l| {
+            let Contents { heading, nodes, .. } = &mut l[i.session];
+            ragyvosin::replace_rule(i.rule(), heading, nodes)
+        }),
+        (Side::Plain, |i, l| {
+            let Contents { heading, nodes, .. } = &mut l[i.session];
+            session::replace_rule(i.rule(), heading, nodes)
+        }),
+        (Side::RuleAlone, |i, _| ragyvosin::judge_local(i.rule(), NOTHING).0),
+        (Side::JudgeLocal, |i, l| {
+            let Contents { heading, masks, states, .. } = &l[i.session];
+            let [controllers, _, _, count] = *heading;
+            ragyvosin::judge_local(i.rule(), Recording { controllers, count, masks, states }).0
         }),
     ]
 }

@@ -3,6 +3,8 @@
 //! its number, all four places and the verdicts are the model's; and after each
 //! list of calls from an empty session the verdicts are those of judging the
 //! remaining states from the start, on the local trace and of both rewritings.
+//! After a new rule all four places are those of a session that opens on it and
+//! takes the remaining states.
 
 mod forged;
 pub mod kept;
@@ -65,6 +67,20 @@ impl Remaining {
         let place = format!("the remaining states, judged: {expected:?}, the session: {found:?}");
         Err(Difference::new(place, format!("{opening:x?}, {states:x?}")))
     }
+
+    /// "From there its answers are those of a session that had the new rule from
+    /// the first state": its entries are.
+    fn require_renewed(&self, check: &mut Check, kept: &Kept) -> Result<(), Difference> {
+        let Remaining { opening, states } = self;
+        let mut states = &states[..];
+        if !states.is_empty() && check.wrong(Operation::Renewed, Place::Content) {
+            states = &states[1..];
+        }
+        check.count(Operation::Renewed, 1, 0);
+        let Some(place) = kept.opened(opening, states).difference(kept) else { return Ok(()) };
+        let place = format!("a session that had the new rule from the first state, {place}");
+        Err(Difference::new(place, format!("{opening:x?}, {states:x?}")))
+    }
 }
 
 /// A session after some calls.
@@ -86,6 +102,10 @@ impl At {
                 (Call::Open(opening), _) => remaining = Some(Remaining::opened(opening)),
                 (Call::Arrive(word), Some(remaining)) => remaining.states.push(*word),
                 (Call::Withdraw, Some(remaining)) => drop(remaining.states.pop()),
+                (Call::Replace(rule), Some(remaining)) => {
+                    Arc::make_mut(&mut remaining.opening).rule = rule.clone();
+                    remaining.require_renewed(check, &kept)?;
+                }
                 (_, None) => {}
             }
         }

@@ -64,7 +64,7 @@ impl Section {
     }
 }
 
-/// What is compared: the operations, the calls of a session, eight laws and the
+/// What is compared: the operations, the calls of a session, nine laws and the
 /// programs.
 #[derive(Clone, Copy, PartialEq, Eq, PartialOrd, Ord, Debug)]
 pub enum Operation {
@@ -96,6 +96,8 @@ pub enum Operation {
     Arrive,
     /// The last state of a session is withdrawn.
     Withdraw,
+    /// A session takes another rule.
+    ReplaceRule,
     /// The verdicts of a session.
     SessionVerdicts,
     /// An accepted text, read and written, is the same text with byte 10 at
@@ -115,6 +117,8 @@ pub enum Operation {
     /// A session's verdicts are those of judging the remaining states from the
     /// start.
     Remaining,
+    /// A session with a new rule is one that had it from the first state.
+    Renewed,
     /// No rule's rewritings exceed those of the rule that grows most.
     Growth,
     /// The program.
@@ -146,10 +150,11 @@ impl Operation {
     ];
 
     /// The calls of a session.
-    pub const OF_SESSIONS: [Operation; 4] = [
+    pub const OF_SESSIONS: [Operation; 5] = [
         Operation::OpenSession,
         Operation::Arrive,
         Operation::Withdraw,
+        Operation::ReplaceRule,
         Operation::SessionVerdicts,
     ];
 
@@ -170,6 +175,7 @@ impl Operation {
             Operation::OpenSession => "open_session",
             Operation::Arrive => "arrive",
             Operation::Withdraw => "withdraw",
+            Operation::ReplaceRule => "replace_rule",
             Operation::SessionVerdicts => "session_verdicts",
             Operation::RoundTrip => "round_trip",
             Operation::Endings => "endings",
@@ -178,6 +184,7 @@ impl Operation {
             Operation::Promise => "promise",
             Operation::Early => "early",
             Operation::Remaining => "remaining",
+            Operation::Renewed => "renewed",
             Operation::Growth => "growth",
             Operation::Program => "judge",
             Operation::RuleProgram => "rule",
@@ -224,6 +231,7 @@ const ANSWERABLE: &[(Operation, &[usize])] = &[
     (Operation::OpenSession, &[0, 2, 3, 4, 6, 7, 8, 11, 13]),
     (Operation::Arrive, &[0, 6, 10, 13, 17]),
     (Operation::Withdraw, &[0, 6, 13, 18]),
+    (Operation::ReplaceRule, &[0, 2, 3, 4, 11, 13]),
     (Operation::SessionVerdicts, &[0, 2, 3, 4, 6, 7, 8, 10, 11]),
     (Operation::Program, &[0, 1, 2, 3, 4, 5, 6, 7, 8, 10, 11, 14]),
     (Operation::RuleProgram, &[0, 1, 2, 14, 15, 16]),

@@ -183,6 +183,9 @@ const WATCH_PRINTERS: &[Place] = &[
     Place::Misprint(Misprint::Watched(Miswatched::WholeLine)),
     Place::Misprint(Misprint::Watched(Miswatched::UnclosedEvent)),
     Place::Misprint(Misprint::Watched(Miswatched::LastIgnored)),
+    Place::Misprint(Misprint::Watched(Miswatched::ReadAgain)),
+    Place::Misprint(Misprint::Watched(Miswatched::RuleEarly)),
+    Place::Misprint(Misprint::Watched(Miswatched::FormerVerdict)),
 ];
 
 /// What of a recording that goes on isn't asked.
@@ -256,8 +259,10 @@ fn lists() -> Vec<(Section, Operation, &'static [Place])> {
         (Section::Sessions, Operation::OpenSession, &[Content, Unused, Untouched, Beyond]),
         (Section::Sessions, Operation::Arrive, &[Content, Unused, Untouched, Beyond]),
         (Section::Sessions, Operation::Withdraw, &[Content, Unused, Untouched, Beyond]),
+        (Section::Sessions, Operation::ReplaceRule, &[Content, Unused, Untouched, Beyond]),
         (Section::Sessions, Operation::SessionVerdicts, &[Value]),
         (Section::Sessions, Operation::Remaining, &[Value]),
+        (Section::Sessions, Operation::Renewed, &[Content]),
     ]);
     lists
 }

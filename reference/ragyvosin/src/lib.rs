@@ -7,14 +7,17 @@
 //! Words of a node, a state, a row pair and a reading are those of `include/ragyvosin.h`.
 //!
 //! [`Session`] keeps a session in space of its own; [`open_session`], [`arrive`],
-//! [`withdraw`] and [`session_verdicts`] are the same calls over any lent space.
+//! [`withdraw`], [`replace_rule`] and [`session_verdicts`] are the same calls over
+//! any lent space.
 
 #![warn(missing_docs)]
 
 mod session;
 mod sys;
 
-pub use session::{arrive, open_session, session_verdicts, withdraw, Heading, Session};
+pub use session::{
+    arrive, open_session, replace_rule, session_verdicts, withdraw, Heading, Session,
+};
 
 /// The number of an accepted input.
 pub const ACCEPTED: u8 = 0;

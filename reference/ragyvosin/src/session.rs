@@ -58,6 +58,23 @@ pub fn withdraw(heading: &mut Heading, states: &mut [u64]) -> u8 {
     unsafe { sys::rgv_withdraw(heading, states.as_mut_ptr(), states.len()) }
 }
 
+/// The session of lent space takes another rule and keeps its states: the number. Refused, all is
+/// left as it was.
+pub fn replace_rule(rule: Rule, heading: &mut Heading, nodes: &mut [u32]) -> u8 {
+    // SAFETY: as in `open_session`.
+    unsafe {
+        sys::rgv_replace_rule(
+            rule.controller,
+            rule.count,
+            rule.nodes.as_ptr(),
+            rule.nodes.len(),
+            heading,
+            nodes.as_mut_ptr(),
+            nodes.len(),
+        )
+    }
+}
+
 /// The verdicts of the session of lent space: 1, the weak and the strong one, or three zeros where
 /// no state is held.
 pub fn session_verdicts(
@@ -119,6 +136,12 @@ impl Session {
         withdraw(&mut self.heading, &mut self.states)
     }
 
+    /// It takes another rule, of the same controller or another one, and keeps its states: the
+    /// number. Refused, the session is as it was.
+    pub fn replace_rule(&mut self, rule: Rule) -> u8 {
+        replace_rule(rule, &mut self.heading, &mut self.nodes)
+    }
+
     /// The weak and the strong verdict on the states held, 1 for yes; none where no state is held.
     /// The number is always 0, for only its own calls make a session.
     pub fn verdicts(&self) -> (u8, Option<[usize; 2]>) {
@@ -162,6 +185,28 @@ mod tests {
         assert_eq!(session.verdicts(), (0, Some([0, 0])));
         assert_eq!([session.withdraw(), session.withdraw(), session.withdraw()], [0, 0, 18]);
         assert!(session == empty);
+    }
+
+    #[test]
+    fn a_new_rule_is_as_if_it_had_been_there_from_the_first_state() {
+        let mut session = Session::open(2, &[1, 2], NEXT).expect("accepted");
+        let other = Rule { controller: 1, count: 1, nodes: &[0x101, 7] };
+        assert!([RUN, 1].iter().all(|state| session.arrive(*state) == 0));
+        assert_eq!(session.verdicts(), (0, Some([1, 1])));
+        let before = session.clone();
+        let rule = |controller, count, nodes| {
+            session.clone().replace_rule(Rule { controller, count, nodes })
+        };
+        assert_eq!([rule(11, 2, &[1, 4]), rule(0, 0, &[]), rule(0, 1, &[8])], [2; 3]);
+        assert_eq!([rule(0, 2, &[1, 0x102]), rule(0, 3, &[1, 4]), rule(2, 2, &[1, 4])], [3, 4, 11]);
+        assert_eq!(session.replace_rule(Rule { controller: 2, ..NEXT }), 11);
+        assert!(session == before);
+        assert_eq!(session.replace_rule(other), 0);
+        let mut opened = Session::open(2, &[1, 2], other).expect("accepted");
+        assert_eq!(opened.replace_rule(other), 0);
+        assert!([RUN, 1].iter().all(|state| opened.arrive(*state) == 0));
+        assert!(session == opened);
+        assert_eq!((session.verdicts(), session.states()), ((0, Some([0, 0])), &[RUN, 1][..]));
     }
 
     #[test]

@@ -165,6 +165,16 @@ extern "C" {
 
     pub fn rgv_withdraw(heading: *mut [usize; 4], states: *mut u64, states_len: usize) -> u8;
 
+    pub fn rgv_replace_rule(
+        controller: usize,
+        count: usize,
+        rule: *const u32,
+        rule_len: usize,
+        heading: *mut [usize; 4],
+        nodes: *mut u32,
+        nodes_len: usize,
+    ) -> u8;
+
     pub fn rgv_session_verdicts(
         heading: *const [usize; 4],
         masks: *const u32,

@@ -52,6 +52,8 @@ pub enum Call {
     Arrive(u64),
     /// The last state is withdrawn.
     Withdraw,
+    /// A new rule.
+    Replace(RuleTable),
 }
 
 /// An accepted opening with a rule of at most so many nodes.
@@ -86,6 +88,21 @@ pub fn any_opening(random: &mut Random) -> OpeningTable {
         opening(random, RULE_NODES)
     } else {
         damaged_opening(random)
+    }
+}
+
+/// A new rule for one of so many controllers, accepted or damaged, or of a
+/// controller that may not be there.
+pub fn any_new_rule(random: &mut Random, controllers: usize) -> RuleTable {
+    let most = random.pick(&[1, 3, 8, RULE_NODES]);
+    match random.below(8) {
+        0..=4 => {
+            let controller = random.below(controllers.clamp(1, CONTROLLERS));
+            rules::rule_for(random, controller, most)
+        }
+        5 => rules::rule(random, most),
+        6 => rules::damaged_rule(random, RULE_NODES),
+        _ => rules::any_rule(random, RULE_NODES),
     }
 }
 

@@ -1,5 +1,5 @@
-//! "The rack as it runs": a session as it is worded, and its calls over lent
-//! space, on whatever stands there.
+//! "The rack as it runs" and "A new rule without stopping the rack": a session
+//! as it is worded, and its calls over lent space, on whatever stands there.
 //!
 //! Made by its own calls, the contents of lent space are the image of accepted
 //! masks, an accepted rule and the states that remain; on any other contents
@@ -85,6 +85,23 @@ impl Session {
     /// session".
     pub fn withdraw(&mut self) -> Result<(), u8> {
         self.states.pop().map(|_| ()).ok_or(refusal::SESSION_EMPTY)
+    }
+
+    /// "take another rule for a controller below C and carry its states over":
+    /// the rule (2, 3, 4), then its controller (11); refused it "leaves the
+    /// former one in force".
+    pub fn replace_rule(
+        &mut self,
+        controller: usize,
+        count: usize,
+        nodes: &[u32],
+    ) -> Result<(), u8> {
+        let rule = check_rule(controller, count, nodes)?;
+        if controller >= self.masks.len() {
+            return Err(refusal::CONTROLLER);
+        }
+        self.rule = rule;
+        Ok(())
     }
 
     /// "both verdicts equal those of judging the remaining states from the
@@ -179,6 +196,28 @@ pub fn withdraw(heading: &mut Heading, states: &mut [u64]) -> Result<(), u8> {
     }
     states[held - 1] = 0;
     heading[3] = held - 1;
+    Ok(())
+}
+
+/// A new rule: 13 of the nodes, the rule (2, 3, 4), then 11 by the heading's C,
+/// whatever it is. Controller, node count and nodes are written, "every entry as
+/// it was" where it is refused.
+pub fn replace_rule(
+    controller: usize,
+    count: usize,
+    rule: &[u32],
+    heading: &mut Heading,
+    nodes: &mut [u32],
+) -> Result<(), u8> {
+    if too_short(nodes, limits::RULE_NODES) {
+        return Err(refusal::LENT_SPACE);
+    }
+    let rule = check_rule(controller, count, rule)?;
+    if controller >= heading[0] {
+        return Err(refusal::CONTROLLER);
+    }
+    (heading[1], heading[2]) = (controller, count);
+    leave(nodes, limits::RULE_NODES, &node_words(&rule.nodes));
     Ok(())
 }
 

@@ -1,5 +1,6 @@
 //! The program `watch`: a rule text, a line `-`, a line `session`, C, its
-//! `owns` lines, and then a line for each event, answered line by line.
+//! `owns` lines, and then the events, a line each or the lines of a new rule,
+//! answered one by one.
 
 use super::recording::{check_recording, State};
 use super::rule::Rule;
@@ -42,7 +43,22 @@ impl Held {
         self.states.pop().map(drop).ok_or(refusal::SESSION_EMPTY)
     }
 
-    /// An event: 5 where it is none, then the call's number.
+    /// A new rule: 14 where its text is too long, the number and the line that
+    /// the text is refused with, then 11 at its first line.
+    fn replace(&mut self, text: &[u8]) -> Result<(), Refused> {
+        if text.len() > limits::PROGRAM_INPUT {
+            return Err((refusal::PROGRAM_INPUT, Vec::new()));
+        }
+        let rule = text::read_rule(text)
+            .map_err(|refused| (refused.number, text[refused.line].to_vec()))?;
+        if rule.controller >= self.masks.len() {
+            return Err((refusal::CONTROLLER, text[text::first_line(text)].to_vec()));
+        }
+        self.rule = rule;
+        Ok(())
+    }
+
+    /// An event of one line: 5 where it is none, then the call's number.
     fn event(&mut self, line: &[u8]) -> Result<(), u8> {
         let line = text::only_line(line).ok_or(refusal::RECORDING_FORM)?;
         if line == b"withdraw" {
@@ -74,16 +90,49 @@ impl Held {
         text::printed(&[b"states", count.as_bytes(), weak, strong, word])
     }
 
-    /// What is printed of an event's line: the status after it, or the refusal.
-    fn answer(&mut self, line: &[u8]) -> Vec<u8> {
-        match self.event(line) {
+    /// What is printed of an event: the status after it, or the refusal.
+    fn answer(&mut self, event: &[u8]) -> Vec<u8> {
+        let answer = if begins_rule(event) {
+            self.replace(event)
+        } else {
+            let line = event[text::first_line(event)].to_vec();
+            self.event(event).map_err(|number| (number, line))
+        };
+        match answer {
             Ok(()) => self.status(),
-            Err(number) => {
-                let shown = &line[text::first_line(line)];
-                refused_output(number, &shown[..shown.len().min(EVENT_BYTES)])
-            }
+            Err((number, line)) => refused_output(number, &line[..line.len().min(EVENT_BYTES)]),
         }
     }
+}
+
+/// Is it the first line of a rule text: is its first field the word `rule`?
+fn begins_rule(event: &[u8]) -> bool {
+    let line = &event[text::first_line(event)];
+    line.split(|byte| *byte == 9).next() == Some(b"rule")
+}
+
+/// How many lines the first event of these has: one; or those of a rule text, up
+/// to its last line, to the first that is refused, or to the last that is there.
+fn event_lines(lines: &[&[u8]]) -> usize {
+    let lacks_lines = |count: &usize| {
+        let read = text::read_rule(&lines[..*count].concat());
+        read.is_err_and(|refused| refused.number == refusal::RULE_LINES)
+    };
+    if !begins_rule(lines[0]) {
+        return 1;
+    }
+    (1..lines.len()).find(|count| !lacks_lines(count)).unwrap_or(lines.len())
+}
+
+/// The events that these lines are.
+fn events_of(mut lines: &[&[u8]]) -> Vec<Vec<u8>> {
+    let mut events = Vec::new();
+    while !lines.is_empty() {
+        let (event, after) = lines.split_at(event_lines(lines));
+        events.push(event.concat());
+        lines = after;
+    }
+    events
 }
 
 /// The next line of a text: 8 where it is missing, 5 where it isn't closed,
@@ -155,25 +204,39 @@ fn opened(opening: &[u8], ended: bool) -> Option<Result<Held, Refused>> {
     }
 }
 
-/// The whole standard input to the whole standard output, as a line for the
-/// opening and for each event.
-pub fn answers(input: &[u8]) -> Vec<Vec<u8>> {
+/// The whole standard input, parted: how the opening ends, its text, and the
+/// events where a session opens.
+fn parted(input: &[u8]) -> (Result<Held, Refused>, &[u8], Vec<Vec<u8>>) {
     let lines: Vec<&[u8]> = input.split_inclusive(|byte| *byte == 10).collect();
     let mut length = 0;
     for (number, line) in lines.iter().enumerate() {
         length += line.len();
         match opened(&input[..length], false) {
             None => {}
-            Some(Err((number, line))) => return vec![refused_output(number, &line)],
-            Some(Ok(mut held)) => {
-                let opening = held.status();
-                let events = lines[number + 1..].iter().map(|line| held.answer(line));
-                return [opening].into_iter().chain(events).collect();
-            }
+            Some(Err(refused)) => return (Err(refused), &input[..length], Vec::new()),
+            Some(held) => return (held, &input[..length], events_of(&lines[number + 1..])),
         }
     }
-    let Some(Err((number, line))) = opened(input, true) else { unreachable!("a line is missing") };
-    vec![refused_output(number, &line)]
+    (opened(input, true).expect("a line is missing"), input, Vec::new())
+}
+
+/// The text of the opening, and of each event.
+pub fn events(input: &[u8]) -> (&[u8], Vec<Vec<u8>>) {
+    let (_, opening, events) = parted(input);
+    (opening, events)
+}
+
+/// The whole standard input to the whole standard output, as a line for the
+/// opening and for each event.
+pub fn answers(input: &[u8]) -> Vec<Vec<u8>> {
+    match parted(input) {
+        (Err((number, line)), _, _) => vec![refused_output(number, &line)],
+        (Ok(mut held), _, events) => {
+            let opening = vec![held.status()];
+            let answers = events.iter().map(|event| held.answer(event));
+            opening.into_iter().chain(answers).collect()
+        }
+    }
 }
 
 /// The program: its whole standard input to its whole standard output.

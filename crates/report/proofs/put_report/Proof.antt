@@ -7,6 +7,9 @@ use Rattle.report.proofs.put_report.Tie as tie
 slice-aggregate-put-line : tie.Need-slice-aggregate-put-line
 slice-aggregate-put-line c = search needs
 
+cast-put-line : tie.Need-cast-put-line
+cast-put-line c = search needs
+
 slice-aggregate-put-line-2 : tie.Need-slice-aggregate-put-line-2
 slice-aggregate-put-line-2 c = search needs
 
@@ -39,6 +42,7 @@ put-report-spec =
     tie.close
     (tie.spec
     slice-aggregate-put-line
+    cast-put-line
     slice-aggregate-put-line-2
     put-line-requires
     put-own-requires

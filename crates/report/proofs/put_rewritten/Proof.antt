@@ -7,6 +7,9 @@ use Rattle.report.proofs.put_rewritten.Tie as tie
 end-of-requires : tie.Need-end-of-requires
 end-of-requires c κs = search needs
 
+cast-put-line : tie.Need-cast-put-line
+cast-put-line c = search needs
+
 array-share-prefix-bytes : tie.Need-array-share-prefix-bytes
 array-share-prefix-bytes c = search rewritten-laws
 
@@ -27,6 +30,7 @@ put-rewritten-spec =
     tie.close
     (tie.spec
     end-of-requires
+    cast-put-line
     array-share-prefix-bytes
     slice-aggregate-put-line
     put-line-requires

@@ -7,9 +7,6 @@ use Rattle.session_status.proofs.put_status.Tie as tie
 element-copy-out-held : tie.Need-element-copy-out-held
 element-copy-out-held c = search needs
 
-cast-held : tie.Need-cast-held
-cast-held c = search needs
-
 session-verdicts-requires : tie.Need-session-verdicts-requires
 session-verdicts-requires c κs = search needs
 
@@ -17,31 +14,19 @@ enum-known-v : tie.Need-enum-known-v
 enum-known-v c = search needs
 
 put-judged-requires : tie.Need-put-judged-requires
-put-judged-requires c κs = search status-laws
+put-judged-requires c κs = search needs
 
 enum-told : tie.Need-enum-told
 enum-told c = search needs
 
-slice-aggregate-put-line : tie.Need-slice-aggregate-put-line
-slice-aggregate-put-line c = search needs
-
-slice-aggregate-put-line-2 : tie.Need-slice-aggregate-put-line-2
-slice-aggregate-put-line-2 c = search needs
-
-put-line-requires : tie.Need-put-line-requires
-put-line-requires c κs = search status-laws
+put-alone-requires : tie.Need-put-alone-requires
+put-alone-requires c κs = search needs
 
 enum-told-2 : tie.Need-enum-told-2
 enum-told-2 c = search needs
 
-slice-aggregate-put-line-3 : tie.Need-slice-aggregate-put-line-3
-slice-aggregate-put-line-3 c = search needs
-
-slice-aggregate-put-line-4 : tie.Need-slice-aggregate-put-line-4
-slice-aggregate-put-line-4 c = search needs
-
-put-line-requires-2 : tie.Need-put-line-requires-2
-put-line-requires-2 c κs = search status-laws
+put-alone-requires-2 : tie.Need-put-alone-requires-2
+put-alone-requires-2 c κs = search needs
 
 same-length : tie.Need-same-length
 same-length c = search needs
@@ -66,18 +51,13 @@ put-status-spec =
     tie.close
     (tie.spec
     element-copy-out-held
-    cast-held
     session-verdicts-requires
     enum-known-v
     put-judged-requires
     enum-told
-    slice-aggregate-put-line
-    slice-aggregate-put-line-2
-    put-line-requires
+    put-alone-requires
     enum-told-2
-    slice-aggregate-put-line-3
-    slice-aggregate-put-line-4
-    put-line-requires-2
+    put-alone-requires-2
     same-length
     returns
     same-length-2

@@ -23,6 +23,9 @@ shared-slice-read-byte c = search needs
 keep-requires : tie.Need-keep-requires Inv-loop μ-loop
 keep-requires c κs = search needs
 
+is-opening-requires : tie.Need-is-opening-requires Inv-loop μ-loop
+is-opening-requires c κs = search needs
+
 end-line-requires : tie.Need-end-line-requires Inv-loop μ-loop
 end-line-requires c κs = search needs
 
@@ -50,6 +53,7 @@ take-bytes-spec =
     loop-holds
     shared-slice-read-byte
     keep-requires
+    is-opening-requires
     end-line-requires
     add-i
     loop-less

@@ -4,6 +4,9 @@ use borrow.Author.Needs.{needs}
 use Rattle.watch_program.proofs.step.Statement.{statement}
 use Rattle.watch_program.proofs.step.Tie as tie
 
+least-requires : tie.Need-least-requires
+least-requires c κs = search needs
+
 enum-told : tie.Need-enum-told
 enum-told c = search needs
 
@@ -13,23 +16,29 @@ open-requires c κs = search needs
 enum-told-2 : tie.Need-enum-told-2
 enum-told-2 c = search needs
 
-returns : tie.Need-returns
-returns c = search step-laws
+sub-take-line : tie.Need-sub-take-line
+sub-take-line c = search needs
 
-sub-follow : tie.Need-sub-follow
-sub-follow c = search step-laws
+part-take-line-start : tie.Need-part-take-line-start
+part-take-line-start c = search needs
 
-part-follow-start : tie.Need-part-follow-start
-part-follow-start c = search step-laws
+part-take-line-end : tie.Need-part-take-line-end
+part-take-line-end c = search needs
 
-part-follow-end : tie.Need-part-follow-end
-part-follow-end c = search needs
-
-follow-requires : tie.Need-follow-requires
-follow-requires c κs = search step-laws
+take-line-requires : tie.Need-take-line-requires
+take-line-requires c κs = search needs
 
 enum-told-3 : tie.Need-enum-told-3
 enum-told-3 c = search needs
+
+take-rule-requires : tie.Need-take-rule-requires
+take-rule-requires c κs = search needs
+
+enum-told-4 : tie.Need-enum-told-4
+enum-told-4 c = search needs
+
+returns : tie.Need-returns
+returns c = search step-laws
 
 returns-2 : tie.Need-returns-2
 returns-2 c = search step-laws
@@ -44,15 +53,18 @@ pub step-spec : {M : Type 1} → statement M
 step-spec =
     tie.close
     (tie.spec
+    least-requires
     enum-told
     open-requires
     enum-told-2
-    returns
-    sub-follow
-    part-follow-start
-    part-follow-end
-    follow-requires
+    sub-take-line
+    part-take-line-start
+    part-take-line-end
+    take-line-requires
     enum-told-3
+    take-rule-requires
+    enum-told-4
+    returns
     returns-2
     returns-3
     returns-4)

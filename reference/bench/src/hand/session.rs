@@ -80,6 +80,21 @@ pub fn arrive(state: u64, heading: &mut Heading, masks: &[u32], states: &mut [u6
     0
 }
 
+pub fn replace_rule(rule: Rule, heading: &mut Heading, nodes: &mut [u32]) -> u8 {
+    if nodes.len() < full::RULE_NODES {
+        return refusal::LENT_SPACE;
+    }
+    if let Err(number) = check::rule(rule) {
+        return number;
+    }
+    if rule.controller >= heading[0] {
+        return refusal::CONTROLLER;
+    }
+    (heading[1], heading[2]) = (rule.controller, rule.count);
+    leave(nodes, full::RULE_NODES, &rule.nodes[..rule.count]);
+    0
+}
+
 pub fn session_verdicts(
     judge: Judge,
     heading: &Heading,

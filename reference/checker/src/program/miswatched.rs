@@ -1,6 +1,6 @@
 //! Wrong printers of the program `watch` on purpose.
 
-use reference::model::watching;
+use reference::model::{text, watching};
 
 /// The wrong printers.
 #[derive(Clone, Copy, PartialEq, Eq, Debug)]
@@ -21,6 +21,12 @@ pub enum Miswatched {
     UnclosedEvent,
     /// The last event has no answer.
     LastIgnored,
+    /// The line that ends a refused rule is read as an event, too.
+    ReadAgain,
+    /// A new rule is taken one line early.
+    RuleEarly,
+    /// After a new rule the verdict of the former one is printed.
+    FormerVerdict,
 }
 
 impl Miswatched {
@@ -35,6 +41,9 @@ impl Miswatched {
             Miswatched::WholeLine => "whole_line",
             Miswatched::UnclosedEvent => "unclosed_event",
             Miswatched::LastIgnored => "last_ignored",
+            Miswatched::ReadAgain => "read_again",
+            Miswatched::RuleEarly => "rule_early",
+            Miswatched::FormerVerdict => "former_verdict",
         }
     }
 
@@ -59,6 +68,9 @@ impl Miswatched {
             Miswatched::WholeLine => whole_lines(input, &answers),
             Miswatched::UnclosedEvent if opened => watching::program(&[input, b"\n"].concat()),
             Miswatched::LastIgnored if opened => answers[..answers.len() - 1].concat(),
+            Miswatched::ReadAgain => other_events(input, read_again),
+            Miswatched::RuleEarly => other_events(input, one_early),
+            Miswatched::FormerVerdict => former_verdicts(input, &answers),
             _ => output.to_vec(),
         }
     }
@@ -84,4 +96,52 @@ fn whole_lines(input: &[u8], answers: &[&[u8]]) -> Vec<u8> {
     };
     let answer = |answer: &&[u8]| long(answer).unwrap_or(answer.to_vec());
     answers.iter().map(answer).collect::<Vec<_>>().concat()
+}
+
+/// What is printed where each event is another one.
+fn other_events(input: &[u8], other: impl Fn(&[u8]) -> Vec<u8>) -> Vec<u8> {
+    let (opening, events) = watching::events(input);
+    let events: Vec<Vec<u8>> = events.iter().map(|event| other(event)).collect();
+    watching::program(&[opening, &events.concat()].concat())
+}
+
+/// A refused rule of more than one line, with its last line once more.
+fn read_again(event: &[u8]) -> Vec<u8> {
+    let lines: Vec<&[u8]> = event.split_inclusive(|byte| *byte == b'\n').collect();
+    match lines[..] {
+        [_, .., last] if text::read_rule(event).is_err() && last.ends_with(b"\n") => {
+            [event, last].concat()
+        }
+        _ => event.to_vec(),
+    }
+}
+
+/// A rule whose heading says one line fewer.
+fn one_early(event: &[u8]) -> Vec<u8> {
+    let (_, nodes) = event.split_at(event.iter().take_while(|byte| **byte != b'\n').count());
+    match text::read_rule(event) {
+        Ok(rule) => {
+            let heading = format!("rule\t{}\t{}", rule.controller, rule.nodes.len() - 1);
+            [heading.as_bytes(), nodes].concat()
+        }
+        Err(_) => event.to_vec(),
+    }
+}
+
+/// The answers, to each new rule the one before it that isn't a refusal.
+fn former_verdicts(input: &[u8], answers: &[&[u8]]) -> Vec<u8> {
+    let (_, events) = watching::events(input);
+    let mut former = answers[0];
+    let mut printed = former.to_vec();
+    for (event, answer) in events.iter().zip(&answers[1..]) {
+        if answer.starts_with(b"refused") {
+            printed.extend(*answer);
+            continue;
+        }
+        if text::read_rule(event).is_err() {
+            former = answer;
+        }
+        printed.extend(former);
+    }
+    printed
 }

@@ -2,9 +2,11 @@
 
 use reference::generate::endings::{any_endings, with_returns};
 use reference::generate::random::Random;
+use reference::generate::sessions::any_new_rule;
 use reference::generate::texts::{self, program_input, recording_text, rule_text};
 use reference::generate::{recordings, rules};
 use reference::model::limits::{CONTROLLERS, PROGRAM_INPUT, RULE_NODES, STATES};
+use reference::model::longest_program;
 
 use crate::check::Check;
 use crate::difference::Difference;
@@ -50,18 +52,19 @@ fn example_text() -> Vec<u8> {
     rule_text(&example_rule())
 }
 
-/// The example of document 01 as it runs, with a state that is withdrawn and
-/// refused calls, against what it is to print; with either ending and in pieces.
+/// The example of document 01 as it runs, with a state that is withdrawn, a new
+/// rule and refused calls, against what it is to print; with either ending and in pieces.
 fn example(check: &mut Check) -> Result<(), Difference> {
     let events = "session 2\nowns 00000001\nowns 00000002\nwithdraw\nat 01 00000002\n\
         at 02 00000003\nat 01 00000001\nat 00 00000000\nwithdraw\nat 04 00000000\n\
-        at 01 00000002\nat 02 00000000\nat 00 00000002\nwithdraw\nwithdraw\nwithdraw\nwithdraw\n\
-        withdraw\nat 00\n";
+        at 01 00000002\nat 02 00000000\nat 00 00000002\nwithdraw\nwithdraw\nrule 0 2\natom 0\n\
+        next 0\nrule 0 2\ntrue\nwithdraw\nrule 2 1\ntrue\nwithdraw\nwithdraw\nwithdraw\nat 00\n";
     let answers = "states 0\nrefused 18 withdraw\nstates 1 yes no open\nstates 2 yes no open\n\
         states 3 yes no open\nstates 4 yes no open\nstates 3 yes no open\n\
         refused 6 at 04 00000000\nrefused 10 at 01 00000002\nstates 4 yes no open\n\
         states 5 yes no open\nstates 4 yes no open\nstates 3 yes no open\n\
-        states 2 yes no open\nstates 1 yes no open\nstates 0\nrefused 5 at 00\n";
+        states 3 yes yes kept\nrefused 2 withdraw\nrefused 11 rule 2 1\n\
+        states 2 yes yes kept\nstates 1 yes no open\nstates 0\nrefused 5 at 00\n";
     let mut expected = Expected { output: tabbed(answers), errors: Vec::new() };
     if check.wrong(Operation::WatchProgram, Place::Named) {
         expected.output[7] ^= 1;
@@ -185,11 +188,70 @@ fn events() -> Vec<Vec<u8>> {
         .collect()
 }
 
-/// The example's session cut after every byte.
+/// New rules in mid session, each between two states: accepted, refused with each
+/// number, with lines among them that can't be part of them, and with any ending.
+fn new_rules() -> Vec<Vec<u8>> {
+    let opening = tabbed("session 2\nowns 00000001\nowns 00000002\nat 01 00000000\n");
+    let after = tabbed("at 00 00000001\nwithdraw\n");
+    let rules = [
+        "rule 0 2\natom 0\nnext 0\n",
+        "rule 1 1\natom 1\n",
+        "rule 0 1\r\ntrue\r\n",
+        "rule 0 1\r\ntrue\n",
+        "rule 2 1\ntrue\n",
+        "rule 10 1\ntrue\n",
+        "rule 11 1\ntrue\n",
+        "rule 0 0\n",
+        "rule 0 65\n",
+        "rule 0 01\n",
+        "rule\n",
+        "rule \n",
+        "rule 0\n",
+        "rule 0 1 \n",
+        "rule\r 0 1\n",
+        "rule\r\r\n",
+        "Rule 0 1\ntrue\n",
+        "rules 0 1\ntrue\n",
+        " rule 0 1\ntrue\n",
+        "rule 0 3\natom 0\nnot 1\nnext 0\n",
+        "rule 0 3\natom 0\nrun\nnext 0\n",
+        "rule 0 3\natom 0\natom 32\nnext 0\n",
+        "rule 0 3\natom 0\n\nnext 0\n",
+        "rule 0 2\natom 0\nnext 0\nnext 0\n",
+        "rule 0 2\natom 0\nat 00 00000001\n",
+        "rule 0 2\natom 0\nwithdraw\n",
+        "rule 0 2\nwithdraw\nwithdraw\n",
+        "rule 0 2\natom 0\nrule 0 1\ntrue\n",
+        "rule 0 2\natom 0\n-\n",
+        "rule 0 2\natom 0\nsession 2\n",
+        "rule 0 2\natom 0\r\r\nnext 0\n",
+        "-\nrule 0 1\ntrue\n-\n",
+    ];
+    let mut texts: Vec<Vec<u8>> = rules.iter().map(|rule| tabbed(rule)).collect();
+    let longest = longest_program(format!("{RULE_NODES}\n").as_bytes());
+    for length in [1, 1019, 1020, 1021, 1022, 2000, 16_360, 16_367, 16_368, 16_369, 16_374, 16_375, 16_376, 20_000] {
+        let long = vec![b'a'; length];
+        texts.push([b"rule\t", &long[..], b"\n"].concat());
+        texts.push([b"rule\t0\t2\ntrue\nnot\t", &long[..], b"\r\nx\n"].concat());
+        texts.push([b"rule\t0\t2\ntrue\n", &long[..], b"\r\nx\n"].concat());
+        // What is past the first 1,024 bytes tells which of 1, 2 and 3 it is.
+        let digits = vec![b'1'; length];
+        texts.push([b"rule\t0\t1\n", &long[..], b"\x01\n"].concat());
+        texts.push([b"rule\t0\t1\nor\t", &digits[..], b"\t1\n"].concat());
+        texts.push([b"rule\t0\t", &digits[..], b"x\n"].concat());
+    }
+    texts.extend([longest.clone(), longest.repeat(20)]);
+    texts.push([&longest[..longest.len() - 1], b"x\n"].concat());
+    let texts = texts.iter().map(|text| [&opening[..], text, &after].concat());
+    texts.map(|text| program_input(&example_text(), &text)).collect()
+}
+
+/// The example's session, with a new rule, cut after every byte.
 fn cut() -> Vec<Vec<u8>> {
     let input =
         program_input(b"rule\t0\t1\r\natom\t0\n", &as_session(&recording_text(&recording_r())));
-    let input = [&input[..], b"withdraw\r\n"].concat();
+    let rule = b"rule\t1\t3\ntrue\r\natom\t1\nuntil\t0\t1\nrule\t0\t1\r\nwithdraw\n";
+    let input = [&input[..], b"withdraw\r\n", rule, b"withdraw\n"].concat();
     (0..input.len()).map(|length| input[..length].to_vec()).collect()
 }
 
@@ -198,13 +260,30 @@ fn lines(text: &[u8]) -> Vec<Vec<u8>> {
     text.split_inclusive(|byte| *byte == b'\n').map(Vec::from).collect()
 }
 
-/// The events of a recording with withdrawals: some states are taken back and
-/// arrive again, some other states are tried and mostly refused.
+/// A new rule's text: accepted, refused, damaged or cut after a line.
+fn new_rule(random: &mut Random, controllers: usize) -> Vec<u8> {
+    let text = rule_text(&any_new_rule(random, controllers));
+    match random.below(8) {
+        0 => texts::damaged(random, &text),
+        1 => {
+            let lines = lines(&text);
+            lines[..random.between(1, lines.len())].concat()
+        }
+        _ => text,
+    }
+}
+
+/// The events of a recording with withdrawals and new rules: some states are
+/// taken back and arrive again, some other states are tried and mostly refused.
 fn with_withdrawals(random: &mut Random, opening: usize, lines: &[Vec<u8>]) -> Vec<u8> {
+    let controllers = opening - 1;
     let (opening, states) = lines.split_at(opening);
     let mut text = opening.concat();
     let often = random.pick(&[2, 4, 16, 200]);
     for (held, state) in states.iter().enumerate() {
+        if random.once_in(often) {
+            text.extend(new_rule(random, controllers));
+        }
         text.extend(state);
         if random.once_in(often) {
             text.extend(&states[random.below(states.len())]);
@@ -253,7 +332,7 @@ pub fn jobs(plan: &Plan) -> Vec<Job<'_>> {
     let mut jobs: Vec<Job> = vec![Box::new(example)];
     let judged = [ending_edges(), partings()].concat();
     let judged = judged.iter().map(|input| of_session(input)).collect();
-    for inputs in [openings(), long_openings(), events(), cut(), judged] {
+    for inputs in [openings(), long_openings(), events(), new_rules(), cut(), judged] {
         jobs.extend(listed(WATCH, inputs));
     }
     jobs.extend(random(plan, WATCH, plan.program_runs / 4, any_input));

@@ -2,7 +2,7 @@
 //! any masks, nodes and states, in slices of any length.
 
 use reference::generate::random::Random;
-use reference::generate::sessions::{any_arrival, any_opening, contents, Call};
+use reference::generate::sessions::{any_arrival, any_new_rule, any_opening, contents, Call};
 use reference::model::limits::CONTROLLERS;
 
 use crate::check::Check;
@@ -20,9 +20,10 @@ const CALLS: usize = 4;
 fn any_call(random: &mut Random, kept: &Kept) -> Call {
     let masks = kept.masks();
     let masks = &masks[..masks.len().min(CONTROLLERS)];
-    match random.below(8) {
+    match random.below(10) {
         0 => Call::Open(any_opening(random)),
         1 | 2 => Call::Withdraw,
+        3 | 4 => Call::Replace(any_new_rule(random, masks.len())),
         _ => Call::Arrive(any_arrival(random, masks, kept.last())),
     }
 }
@@ -35,6 +36,8 @@ pub fn batch(check: &mut Check, plan: &Plan, number: usize) -> Result<(), Differ
         asked(check, &kept)?;
         called(check, &kept, &Call::Withdraw)?;
         called(check, &kept, &Call::Open(any_opening(&mut random)))?;
+        let controllers = kept.heading()[0];
+        called(check, &kept, &Call::Replace(any_new_rule(&mut random, controllers)))?;
         for _ in 0..CALLS {
             let call = any_call(&mut random, &kept);
             kept = called(check, &kept, &call)?.1;

@@ -1,6 +1,7 @@
 //! What a session is kept in, its calls by the library and by the model, and
 //! their comparison: the number, all four places entry by entry, the verdicts.
 
+use reference::generate::rules::RuleTable;
 use reference::generate::sessions::{Call, OpeningTable};
 use reference::model::limits::{RULE_NODES, STATES};
 use reference::model::refusal::SESSION_EMPTY;
@@ -101,6 +102,7 @@ impl Kept {
             ),
             Call::Arrive(word) => ragyvosin::arrive(*word, heading, masks.held(), states.lend()),
             Call::Withdraw => ragyvosin::withdraw(heading, states.lend()),
+            Call::Replace(rule) => ragyvosin::replace_rule(lent_rule(rule), heading, nodes.lend()),
         }
     }
 
@@ -118,6 +120,9 @@ impl Kept {
             ),
             Call::Arrive(word) => session::arrive(*word, heading, masks.held(), states.lend()),
             Call::Withdraw => session::withdraw(heading, states.lend()),
+            Call::Replace(RuleTable { controller, count, nodes: rule }) => {
+                session::replace_rule(*controller, *count, rule, heading, nodes.lend())
+            }
         };
         answer.err().unwrap_or(0)
     }
@@ -142,8 +147,30 @@ impl Kept {
         }
     }
 
+    /// Turns over an entry that an accepted call wrote, when so many were held:
+    /// was it there?
+    fn turn_written(&mut self, call: &Call, held: usize) -> bool {
+        match call {
+            Call::Open(_) => turn(&mut self.states, 0),
+            Call::Arrive(_) => turn(&mut self.states, held),
+            Call::Withdraw => turn(&mut self.states, held.wrapping_sub(1)),
+            Call::Replace(_) => turn(&mut self.nodes, 0),
+        }
+    }
+
+    /// By the library alone: a session that opens here on this and takes these
+    /// states.
+    pub fn opened(&self, opening: &OpeningTable, states: &[u64]) -> Kept {
+        let mut kept = self.clone();
+        kept.by_library(&Call::Open(opening.clone()));
+        for word in states {
+            kept.by_library(&Call::Arrive(*word));
+        }
+        kept
+    }
+
     /// Where what the library left differs from this, in words.
-    fn difference(&self, found: &Kept) -> Option<String> {
+    pub fn difference(&self, found: &Kept) -> Option<String> {
         differing("heading", &self.heading, &found.heading)
             .or_else(|| differing("masks", &self.masks, &found.masks))
             .or_else(|| differing("nodes", &self.nodes, &found.nodes))
@@ -157,6 +184,7 @@ pub fn operation(call: &Call) -> Operation {
         Call::Open(_) => Operation::OpenSession,
         Call::Arrive(_) => Operation::Arrive,
         Call::Withdraw => Operation::Withdraw,
+        Call::Replace(_) => Operation::ReplaceRule,
     }
 }
 
@@ -176,18 +204,16 @@ fn turn<T: Entry>(space: &mut Space<T>, at: usize) -> bool {
 fn alter(check: &Check, before: &Kept, call: &Call, number: &mut u8, expected: &mut Kept) {
     let operation = operation(call);
     let Some(place) = check.place(operation) else { return };
-    let (refused, held) = (*number != 0, before.heading()[3]);
+    let refused = *number != 0;
     let mut other = expected.clone();
-    let written = match call {
-        Call::Open(_) => 0,
-        Call::Arrive(_) => held,
-        Call::Withdraw => held.wrapping_sub(1),
-    };
+    let new_rule = matches!(call, Call::Replace(_));
     let altered = match place {
         Place::Number => refused,
-        Place::Content => !refused && turn(&mut other.states, written),
+        Place::Content => !refused && other.turn_written(call, before.heading()[3]),
         Place::Unused => !refused && turn(&mut other.nodes, RULE_NODES - 1),
+        Place::Untouched if new_rule => refused && turn(&mut other.nodes, RULE_NODES / 2),
         Place::Untouched => refused && turn(&mut other.states, STATES / 2),
+        Place::Beyond if new_rule => turn(&mut other.nodes, RULE_NODES),
         Place::Beyond => turn(&mut other.states, STATES),
         Place::Miskept(wrong) => return miskeep(check, wrong, before, call, (number, expected)),
         _ => false,

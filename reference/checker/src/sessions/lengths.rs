@@ -1,6 +1,7 @@
 //! Lent space of every length: each slice from none to a few entries past its
 //! full size, and all combinations around the full sizes.
 
+use reference::generate::rules::RuleTable;
 use reference::generate::sessions::Call;
 use reference::model::limits::{CONTROLLERS, RULE_NODES, STATES};
 use reference::model::session::Contents;
@@ -38,8 +39,11 @@ fn calls() -> Vec<Call> {
     let mut meeting = fine.clone();
     meeting.owned[1] = 1;
     let words = [state(1, 1), state(1 << 11, 0), state(0, 2)];
+    let absent = RuleTable { controller: CONTROLLERS - 1, ..fine.rule.clone() };
+    let rules = [opening(&[], 1, "atom 1; not 0; or 0 1").rule, absent];
     let mut calls = vec![Call::Open(fine), Call::Open(meeting), Call::Withdraw];
     calls.extend(words.map(Call::Arrive));
+    calls.extend(rules.map(Call::Replace));
     calls
 }
 

@@ -1,5 +1,5 @@
-//! All lists of calls up to a length, over a few openings, arrivals and the
-//! withdrawal, from several starts.
+//! All lists of calls up to a length, over a few openings, arrivals, new rules
+//! and the withdrawal, from several starts.
 
 use reference::generate::rules::{listed, RuleTable};
 use reference::generate::sessions::{Call, OpeningTable};
@@ -145,9 +145,50 @@ fn small() -> Lists {
     Lists { starts: openings.iter().map(|opening| made(opening, &[])).collect(), calls }
 }
 
+/// New rules: shorter and longer than the one before, of either controller, one
+/// with entries past its count, and one refused for each number.
+fn new_rules() -> Vec<RuleTable> {
+    let rule = |controller, list| opening(&[], controller, list).rule;
+    let with = |change: fn(&mut RuleTable)| {
+        let mut other = rule(0, "atom 0; next 0");
+        change(&mut other);
+        other
+    };
+    vec![
+        rule(0, "atom 0"),
+        rule(1, "atom 0; atom 1; prev 1; since 0 2"),
+        with(|rule| rule.nodes.push(u32::MAX)),
+        with(|rule| (rule.controller, rule.count) = (CONTROLLERS, 3)),
+        with(|rule| rule.nodes[0] = listed("run")[0]),
+        with(|rule| (rule.controller, rule.nodes[1]) = (5, listed("next 1")[0])),
+        with(|rule| (rule.controller, rule.count) = (2, 3)),
+        with(|rule| rule.controller = 2),
+    ]
+}
+
+/// New rules among arrivals, withdrawals and an opening: from sessions of no
+/// state, of two and of 128, and from contents that no call made.
+fn renewed() -> Lists {
+    let fine = opening(&[1, 2], 0, "atom 1; atom 0; until 0 1");
+    let held = [state(1, 2), state(3, 3)];
+    let starts = vec![
+        At { kept: Kept::of(&garbage()), remaining: None },
+        made(&fine, &[]),
+        made(&opening(&[1, 2], 1, "true; not 0"), &held),
+        made(&fine, &[state(1, 0); STATES]),
+        forged(&fine, &held, |contents| contents.heading = [0, 7, 0, 2]),
+        forged(&fine, &held, |contents| contents.heading[0] = 12),
+        forged(&fine, &held, |contents| contents.heading[2] = usize::MAX),
+    ];
+    let mut calls: Vec<Call> = new_rules().into_iter().map(Call::Replace).collect();
+    calls.extend([state(0, 1), state(2, 3)].map(Call::Arrive));
+    calls.extend([Call::Withdraw, Call::Open(opening(&[3], 0, "atom 0; next 0"))]);
+    Lists { starts, calls }
+}
+
 /// All lists.
 pub fn all() -> Vec<Lists> {
-    vec![mixed(), small()]
+    vec![mixed(), small(), renewed()]
 }
 
 impl Lists {

@@ -1,10 +1,12 @@
 //! Long random lists of calls, up to and past 128 states held, with
-//! withdrawals, refused calls and openings over an old session; and the same
-//! by the safe wrapper's own session.
+//! withdrawals, new rules, refused calls and openings over an old session; and
+//! the same by the safe wrapper's own session.
 
 use ragyvosin::Session;
 use reference::generate::random::Random;
-use reference::generate::sessions::{any_arrival, any_opening, arrival, opening, Call};
+use reference::generate::sessions::{
+    any_arrival, any_new_rule, any_opening, arrival, opening, Call,
+};
 use reference::model::limits::RULE_NODES;
 
 use crate::check::Check;
@@ -27,8 +29,9 @@ fn next(random: &mut Random, at: &At, leaving: bool) -> Call {
     match random.below(64) {
         0 => Call::Open(any_opening(random)),
         1 | 2 => Call::Withdraw,
-        3..=44 if leaving => Call::Withdraw,
-        3..=12 => Call::Arrive(any_arrival(random, masks, before)),
+        3..=5 => Call::Replace(any_new_rule(random, masks.len())),
+        6..=44 if leaving => Call::Withdraw,
+        6..=12 => Call::Arrive(any_arrival(random, masks, before)),
         _ => Call::Arrive(arrival(random, masks, before)),
     }
 }
@@ -47,6 +50,7 @@ fn by_wrapper(session: &mut Option<Session>, call: &Call) -> u8 {
         }
         (Call::Arrive(word), Some(session)) => session.arrive(*word),
         (Call::Withdraw, Some(session)) => session.withdraw(),
+        (Call::Replace(rule), Some(session)) => session.replace_rule(lent_rule(rule)),
         (_, None) => unreachable!("the first call opens it"),
     }
 }

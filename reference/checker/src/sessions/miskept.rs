@@ -1,16 +1,20 @@
 //! Wrong sessions on purpose: what a library would answer and leave that keeps
-//! a session otherwise than "The rack as it runs" says.
+//! a session otherwise than "The rack as it runs" and "A new rule without
+//! stopping the rack" say.
 //!
 //! Most are told by other contents: those on which the right library answers as
 //! the wrong one does on what is given.
 
+use reference::generate::rules::RuleTable;
 use reference::generate::sessions::{Call, OpeningTable};
 use reference::model::limits::{ATOMS, CONTROLLERS, RULE_NODES, STATES};
 use reference::model::recording::{check_controllers, check_masks};
 use reference::model::refusal::{
     CONTROLLER, LENT_SPACE, MASKS_MEET, OUTPUT_RULE, RECORDING_LIMIT, RECORDING_LINES,
+    SESSION_EMPTY,
 };
-use reference::model::session::{arrive, session_verdicts, Contents};
+use reference::model::rule::check_rule;
+use reference::model::session::{arrive, replace_rule, session_verdicts, Contents};
 
 use crate::tally::Operation;
 
@@ -57,6 +61,26 @@ pub enum Miskept {
     WithdrawTestsC,
     /// A withdrawal with over 128 held lowers the count.
     LowersAny,
+    /// A new rule leaves nodes of the former one past its count.
+    NodesLeft,
+    /// A new rule is judged on the former controller.
+    KeepsController,
+    /// A refused rule is written up to the refused node.
+    HalfWritten,
+    /// A refused rule writes its heading.
+    HeadingFirst,
+    /// A new rule drops the states.
+    StatesDropped,
+    /// 11 is tested of the former controller.
+    FormerTested,
+    /// A rule for another controller is refused.
+    OtherRefused,
+    /// 11 is tested before the rule.
+    ControllerFirst,
+    /// An empty session takes no new rule.
+    EmptyKeepsRule,
+    /// A new rule tests C.
+    ReplaceTestsC,
     /// The verdicts of an empty session are no and no.
     EmptyNo,
     /// An empty session whose contents would be refused is refused.
@@ -70,7 +94,7 @@ type Listed = (Miskept, Operation, &'static str);
 
 impl Miskept {
     /// All of them.
-    pub const ALL: [Listed; 23] = [
+    pub const ALL: [Listed; 33] = [
         (Miskept::OpensFirst, Operation::OpenSession, "opens_first"),
         (Miskept::OpensZeroed, Operation::OpenSession, "opens_zeroed"),
         (Miskept::OpensOnStates, Operation::OpenSession, "opens_on_states"),
@@ -91,6 +115,16 @@ impl Miskept {
         (Miskept::EmptyWithdrawn, Operation::Withdraw, "empty_withdrawn"),
         (Miskept::WithdrawTestsC, Operation::Withdraw, "withdraw_tests_c"),
         (Miskept::LowersAny, Operation::Withdraw, "lowers_any"),
+        (Miskept::NodesLeft, Operation::ReplaceRule, "nodes_left"),
+        (Miskept::KeepsController, Operation::ReplaceRule, "keeps_controller"),
+        (Miskept::HalfWritten, Operation::ReplaceRule, "half_written"),
+        (Miskept::HeadingFirst, Operation::ReplaceRule, "heading_first"),
+        (Miskept::StatesDropped, Operation::ReplaceRule, "states_dropped"),
+        (Miskept::FormerTested, Operation::ReplaceRule, "former_tested"),
+        (Miskept::OtherRefused, Operation::ReplaceRule, "other_refused"),
+        (Miskept::ControllerFirst, Operation::ReplaceRule, "controller_first"),
+        (Miskept::EmptyKeepsRule, Operation::ReplaceRule, "empty_keeps_rule"),
+        (Miskept::ReplaceTestsC, Operation::ReplaceRule, "replace_tests_c"),
         (Miskept::EmptyNo, Operation::SessionVerdicts, "empty_no"),
         (Miskept::EmptyTested, Operation::SessionVerdicts, "empty_tested"),
         (Miskept::AllJudged, Operation::SessionVerdicts, "all_judged"),
@@ -256,6 +290,86 @@ fn withdrawn(wrong: Miskept, mut contents: Contents, number: u8) -> Option<(u8, 
     Some((0, contents))
 }
 
+/// The number of the model's new rule on these contents; they are changed by it.
+fn replace(contents: &mut Contents, rule: &RuleTable) -> u8 {
+    let RuleTable { controller, count, nodes } = rule;
+    let answer =
+        replace_rule(*controller, *count, nodes, &mut contents.heading, &mut contents.nodes);
+    answer.err().unwrap_or(0)
+}
+
+/// What the wrong session answers to a new rule that is to be taken, and leaves.
+fn taken(wrong: Miskept, before: Contents, rule: &RuleTable) -> Option<(u8, Contents)> {
+    let mut contents = before.clone();
+    replace(&mut contents, rule);
+    match wrong {
+        Miskept::NodesLeft => {
+            contents.nodes[rule.count..].copy_from_slice(&before.nodes[rule.count..]);
+        }
+        Miskept::KeepsController => contents.heading[1] = before.heading[1],
+        Miskept::StatesDropped => {
+            contents.heading[3] = 0;
+            contents.states.fill(0);
+        }
+        Miskept::OtherRefused if rule.controller != before.heading[1] => {
+            return Some((CONTROLLER, before))
+        }
+        Miskept::EmptyKeepsRule if before.heading[3] == 0 => return Some((SESSION_EMPTY, before)),
+        _ => return None,
+    }
+    Some((0, contents))
+}
+
+/// What the wrong session answers to a new rule that is to be refused with this
+/// number, and leaves.
+fn not_taken(
+    wrong: Miskept,
+    mut contents: Contents,
+    rule: &RuleTable,
+    number: u8,
+) -> Option<(u8, Contents)> {
+    let [controllers, former, _, _] = contents.heading;
+    let number = match wrong {
+        Miskept::HalfWritten => {
+            let there = rule.nodes.len().min(rule.count).min(RULE_NODES);
+            let fine = |count: &usize| check_rule(0, *count, &rule.nodes).is_ok();
+            let written = (1..=there).rev().find(fine).unwrap_or(0);
+            contents.nodes[..written].copy_from_slice(&rule.nodes[..written]);
+            number
+        }
+        Miskept::HeadingFirst => {
+            contents.heading[1..3].copy_from_slice(&[rule.controller, rule.count]);
+            number
+        }
+        Miskept::FormerTested if number == CONTROLLER && former < controllers => {
+            contents.heading[0] = usize::MAX;
+            let accepted = replace(&mut contents, rule);
+            contents.heading[0] = controllers;
+            accepted
+        }
+        Miskept::ControllerFirst if rule.controller >= controllers => CONTROLLER,
+        _ => return None,
+    };
+    Some((number, contents))
+}
+
+/// What the wrong session answers to a new rule, and leaves.
+fn replaced(
+    wrong: Miskept,
+    contents: Contents,
+    rule: &RuleTable,
+    number: u8,
+) -> Option<(u8, Contents)> {
+    match (wrong, number) {
+        (_, LENT_SPACE) => None,
+        (Miskept::ReplaceTestsC, _) => {
+            Some((check_controllers(contents.heading[0]).err()?, contents))
+        }
+        (_, 0) => taken(wrong, contents, rule),
+        _ => not_taken(wrong, contents, rule, number),
+    }
+}
+
 /// What the wrong session answers to a call on these contents, and leaves, where
 /// it may differ from the right one, which answers this number.
 pub fn called(
@@ -268,6 +382,7 @@ pub fn called(
         Call::Open(opening) => opened(wrong, contents, opening, number),
         Call::Arrive(word) => arriving(wrong, contents, *word, number),
         Call::Withdraw => withdrawn(wrong, contents, number),
+        Call::Replace(rule) => replaced(wrong, contents, rule, number),
     }
 }
 

@@ -1,8 +1,10 @@
-//! The trials of "The rack as it runs": calls and the numbers that the request
-//! names for them, and the verdicts after them.
+//! The trials of "The rack as it runs" and "A new rule without stopping the
+//! rack": calls and the numbers that the requests name for them, and the
+//! verdicts after them.
 
+use reference::generate::rules::{listed, RuleTable};
 use reference::generate::sessions::{Call, OpeningTable};
-use reference::model::limits::{CONTROLLERS, STATES};
+use reference::model::limits::{CONTROLLERS, RULE_NODES, STATES};
 use reference::model::session::Contents;
 
 use crate::check::Check;
@@ -218,6 +220,61 @@ fn lent(check: &mut Check) -> Result<(), Difference> {
     Ok(())
 }
 
+/// A new rule in mid trial: each number and which comes first, the former rule
+/// in force after it; then the verdict of the new one on the states held, of
+/// either controller, with no node of the former past its own.
+fn new_rule(check: &mut Check) -> Result<(), Difference> {
+    let next = opening(&[1, 2], 0, "atom 0; next 0");
+    let held = [state(1, 0), state(0, 1)];
+    let old = holding(&next, &held);
+    let mut rule = RuleTable { controller: CONTROLLERS, count: 4, nodes: listed("atom 0; not 1") };
+    let steps: [(fn(&mut RuleTable), u8); 4] = [
+        (|_| {}, 2),
+        (|rule| rule.controller = 2, 3),
+        (|rule| rule.nodes = listed("atom 0; not 0; next 1"), 4),
+        (|rule| rule.count = 3, 11),
+    ];
+    for (mend, number) in steps {
+        mend(&mut rule);
+        named(check, &old, &[(Call::Replace(rule.clone()), number)], Some([1, 1]))?;
+    }
+    rule.controller = 0;
+    let calls = [(Call::Replace(rule), 0)];
+    named(check, &old, &calls, Some([0, 0]))?;
+    let other = opening(&[1, 2], 1, "atom 0");
+    let calls = [&calls[..], &[(Call::Replace(other.rule.clone()), 0)]].concat();
+    let after = named(check, &old, &calls, Some([1, 0]))?.contents();
+    if after == holding(&other, &held) {
+        return Ok(());
+    }
+    let place = format!("the trial: named {:x?}", holding(&other, &held));
+    Err(Difference::new(place, format!("{calls:x?} on {old:x?}")))
+}
+
+/// A new rule of an empty session, of a full one, and by the heading's C,
+/// whatever it is; 13 of the nodes alone.
+fn new_rule_anywhere(check: &mut Check) -> Result<(), Difference> {
+    let table = opening(&[1, 2], 0, "true; not 0");
+    let replace = |controller| Call::Replace(opening(&[], controller, "true").rule);
+    named(check, &holding(&table, &[]), &[(replace(1), 0)], None)?;
+    named(check, &holding(&table, &[0; STATES]), &[(replace(1), 0)], Some([1, 1]))?;
+    for (controllers, controller, number) in
+        [(0, 0, 11), (1, 1, 11), (12, 10, 0), (usize::MAX, 10, 0), (usize::MAX, 11, 2)]
+    {
+        let mut contents = holding(&table, &[0]);
+        contents.heading[0] = controllers;
+        numbered(check, &contents, &[(replace(controller), number)])?;
+    }
+    for (nodes, number) in [(RULE_NODES, 0), (RULE_NODES - 1, 13), (0, 13)] {
+        let mut contents = holding(&table, &[0]);
+        contents.masks.clear();
+        contents.states.clear();
+        contents.nodes.truncate(nodes);
+        numbered(check, &contents, &[(replace(1), number)])?;
+    }
+    Ok(())
+}
+
 /// All of them.
 pub fn jobs<'a>() -> Vec<Job<'a>> {
     vec![
@@ -228,5 +285,7 @@ pub fn jobs<'a>() -> Vec<Job<'a>> {
         Box::new(no_verdict),
         Box::new(forged),
         Box::new(lent),
+        Box::new(new_rule),
+        Box::new(new_rule_anywhere),
     ]
 }

@@ -7,6 +7,9 @@ use Rattle.evidence_text.proofs.line.put_place.Tie as tie
 slice-aggregate-put-line : tie.Need-slice-aggregate-put-line
 slice-aggregate-put-line c = search needs
 
+cast-put-line : tie.Need-cast-put-line
+cast-put-line c = search needs
+
 slice-aggregate-put-line-2 : tie.Need-slice-aggregate-put-line-2
 slice-aggregate-put-line-2 c = search needs
 
@@ -15,6 +18,9 @@ put-line-requires c κs = search place-laws
 
 slice-aggregate-put-line-3 : tie.Need-slice-aggregate-put-line-3
 slice-aggregate-put-line-3 c = search needs
+
+cast-put-line-2 : tie.Need-cast-put-line-2
+cast-put-line-2 c = search needs
 
 slice-aggregate-put-line-4 : tie.Need-slice-aggregate-put-line-4
 slice-aggregate-put-line-4 c = search needs
@@ -33,9 +39,11 @@ put-place-spec =
     tie.close
     (tie.spec
     slice-aggregate-put-line
+    cast-put-line
     slice-aggregate-put-line-2
     put-line-requires
     slice-aggregate-put-line-3
+    cast-put-line-2
     slice-aggregate-put-line-4
     put-line-requires-2
     same-length

@@ -16,17 +16,8 @@ event-of-requires c κs = search needs
 take-event-requires : tie.Need-take-event-requires
 take-event-requires c κs = search needs
 
-least-requires : tie.Need-least-requires
-least-requires c κs = search needs
-
-cast-put-refused : tie.Need-cast-put-refused
-cast-put-refused c = search needs
-
-slice-aggregate-put-refused : tie.Need-slice-aggregate-put-refused
-slice-aggregate-put-refused c = search follow-laws
-
-put-refused-requires : tie.Need-put-refused-requires
-put-refused-requires c κs = search follow-laws
+refuse-line-requires : tie.Need-refuse-line-requires
+refuse-line-requires c κs = search needs
 
 same-length : tie.Need-same-length
 same-length c = search needs
@@ -38,7 +29,7 @@ returns : tie.Need-returns
 returns c = search follow-laws
 
 put-status-requires : tie.Need-put-status-requires
-put-status-requires c κs = search follow-laws
+put-status-requires c κs = search needs
 
 same-length-3 : tie.Need-same-length-3
 same-length-3 c = search needs
@@ -57,10 +48,7 @@ follow-spec =
     element-copy-out-event-of
     event-of-requires
     take-event-requires
-    least-requires
-    cast-put-refused
-    slice-aggregate-put-refused
-    put-refused-requires
+    refuse-line-requires
     same-length
     same-length-2
     returns
