@@ -7,6 +7,7 @@ readonly most=16385 # bytes: one more than the program takes
 readonly controllers=11 # the most that a recording has
 readonly two_digits=8 # the most whose run marks are two digits; above it they are three
 readonly most_states=128 # of a recording, and held in a session
+readonly most_gauges=8 # of a recording
 
 complain() {
     printf '%s: %s\n' "$me" "$1" >&2
@@ -175,9 +176,27 @@ said_controllers() {
     if [[ $'\n'${joined[*]} =~ $heading ]]; then printf '%d' "${BASH_REMATCH[2]}"; else printf 0; fi
 }
 
+# The atoms of the gauge lines that stand before a line of the recording, which is no `owns` line, into the array `gauges`.
+said_gauges() {
+    local count text lines line
+    count=$(said_controllers)
+    text=$'\n'${joined[*]}
+    text=${text//$'\r\n'/$'\n'}
+    mapfile -t lines <<<"${text#*$'\n-\n'}"
+    gauges=()
+    for line in "${lines[@]:count + 1:$1 - count - 2}"; do
+        if [[ $line =~ ^gauge$'\t'([0-9]+) ]]; then gauges+=("${BASH_REMATCH[1]}"); fi
+    done
+}
+
+# Whether a line of a text, by its number there, is a gauge line after the `owns` lines; then `gauges` are those before it.
+is_gauge() {
+    [[ $1 = recording && ${refused_text[0]} =~ ^gauge($'\t'|$) ]] && [ "$2" -gt $(($(said_controllers) + 1)) ] && said_gauges "$2"
+}
+
 # What a line of a text must be, by its number there.
 expected() {
-    local count marks=two
+    local count marks=two gauges=()
     count=$(said_controllers)
     [ "$count" -le "$two_digits" ] || marks=three
     if [ "$1" = rule ] && [ "$2" -eq 1 ]; then
@@ -190,9 +209,73 @@ expected() {
         printf '`session` and C, after one tab'
     elif [ "$2" -le $((count + 1)) ]; then
         printf '`owns`, one tab and eight lower-case hexadecimal digits'
+    elif is_gauge "$1" "$2"; then
+        printf '`gauge`, an atom in decimal and a threshold such as 5.00 or -0.50, each after one tab'
+    elif [ "$1" = recording ] && said_gauges "$2" && [ ${#gauges[@]} -gt 0 ]; then
+        printf '`at`, %s digits and eight digits, lower-case hexadecimal, and a value such as 5.00 or -0.50 for each gauge, each after one tab' "$marks"
     else
         printf '`at`, %s digits and eight digits, lower-case hexadecimal, each after one tab' "$marks"
         [ "$1" = recording ] || printf ', `withdraw` alone, or the text of a new rule'
+    fi
+}
+
+# Why a threshold or value is not of its form; nothing where it is.
+number_cause() {
+    case $1 in
+        *,*) printf '; %s has a comma for the point' "$1" ;;
+        +*) printf '; %s has a plus sign' "$1" ;;
+        -0.00) printf '; -0.00 is written 0.00' ;;
+        .* | -.*) printf '; %s has no digit before the point' "$1" ;;
+        0[0-9]* | -0[0-9]*) printf '; %s has a leading zero' "$1" ;;
+        *) [[ $1 =~ ^-?[0-9]+\.[0-9][0-9]$ ]] || printf '; %s is not digits, a point and two decimals' "${1:-the empty field}" ;;
+    esac
+}
+
+# Whether a number of its form is outside the limits of thresholds and values.
+outside() {
+    local digits=${1#-} limit=32767
+    [ "$digits" = "$1" ] || limit=32768
+    digits=${digits/./}
+    [ ${#digits} -gt 5 ] || [ "$((10#$digits))" -gt "$limit" ]
+}
+
+# The thresholds and values of the refused line into the array `numbers`.
+take_numbers() {
+    local fields
+    mapfile -d $'\t' -t fields < <(printf '%s' "${refused_text[0]%$'\r'}")
+    if [ "${fields[0]-}" = gauge ]; then numbers=("${fields[@]:2}"); else numbers=("${fields[@]:3}"); fi
+}
+
+# Why the first threshold or value of the refused line that is not of its form isn't.
+number_causes() {
+    local numbers number said
+    take_numbers
+    for number in "${numbers[@]}"; do
+        said=$(number_cause "$number")
+        if [ -n "$said" ]; then
+            printf '%s' "$(escaped "$said" '[! -~]')"
+            return
+        fi
+    done
+}
+
+# Why a line of the recording has no place, or not the right number of values; nothing where its form alone is wrong.
+misplaced() {
+    local numbers gauges=() first
+    first=$(($(said_controllers) + 2))
+    if [ "$1" != recording ] || [ "$2" -lt "$first" ]; then return; fi
+    if is_gauge "$1" "$2"; then
+        if [ $(($2 - first)) -gt ${#gauges[@]} ]; then
+            printf 'a gauge line after a state: gauges stand between the `owns` lines and the first state'
+        elif [ ${#gauges[@]} -eq "$most_gauges" ]; then
+            printf 'a gauge too many: a recording has at most %d' "$most_gauges"
+        fi
+    elif [[ ${refused_text[*]} =~ ^at$'\t'[0-9a-f]+$'\t'[0-9a-f]{8}($'\t'|$) ]]; then
+        said_gauges "$2"
+        take_numbers
+        if [ ${#numbers[@]} -ne ${#gauges[@]} ]; then
+            printf 'values: %d, gauges: %d; a state ends with one value for each gauge, in the order of their lines' "${#numbers[@]}" "${#gauges[@]}"
+        fi
     fi
 }
 
@@ -212,16 +295,56 @@ cause() {
                 printf '; its fields are parted by spaces'
             elif [[ $2 =~ ^(owns|at)\\t.*[A-F] ]]; then
                 printf '; it has upper-case digits'
+            elif [[ $1,$2 =~ ^events,(gauge|at(\\t[0-9a-f]+){2}\\t.) ]]; then
+                printf '; a session has no gauges, its words come with their bits'
+            elif [[ $1,$2 =~ ^recording,(gauge|at)\\t ]]; then
+                number_causes
             fi
             ;;
     esac
 }
 
+# Which number of a refused gauge line or state is outside its limits.
+beyond() {
+    local numbers number fields
+    mapfile -d $'\t' -t fields < <(printf '%s' "${refused_text[0]}")
+    take_numbers
+    if [ "${fields[0]}" = gauge ] && { [ ${#fields[1]} -gt 2 ] || [ "${fields[1]}" -gt 31 ]; }; then
+        printf 'the atom is not 0 to 31'
+    elif [ "${fields[0]}" = gauge ]; then
+        printf 'the threshold is not -327.68 to 327.67'
+    elif [ $((16#${fields[1]} >> $(said_controllers))) -gt 0 ]; then
+        printf 'a run mark of a controller that is not there: C or above'
+    else
+        for number in "${numbers[@]}"; do
+            if outside "$number"; then
+                printf 'the value %s is not -327.68 to 327.67' "$number"
+                return
+            fi
+        done
+    fi
+}
+
+# The first atom of `gauges` that is set in the word of the refused state.
+set_gauge() {
+    local fields atom
+    mapfile -d $'\t' -t fields < <(printf '%s' "${refused_text[0]}")
+    for atom in "${gauges[@]}"; do
+        if [ $((16#${fields[2]} >> atom & 1)) -eq 1 ]; then
+            printf '%d' "$atom"
+            return
+        fi
+    done
+}
+
 # Why the line `number` of a text was refused.
 reason() {
-    local text=$1 at=$2 shows=$3
+    local text=$1 at=$2 shows=$3 said gauges=()
     case $number in
-        1 | 5) printf 'not of its form, which is %s%s' "$(expected "$text" "$at")" "$(cause "$text" "$shows")" ;;
+        1 | 5)
+            said=$(misplaced "$text" "$at")
+            printf '%s' "${said:-"not of its form, which is $(expected "$text" "$at")$(cause "$text" "$shows")"}"
+            ;;
         2)
             if [ "$at" -eq 1 ]; then
                 printf 'the controller is not 0 to %d, or the node count not 1 to 64' $((controllers - 1))
@@ -241,7 +364,7 @@ reason() {
             ;;
         6)
             if [ "$at" -gt 1 ]; then
-                printf 'a run mark of a controller that is not there: C or above'
+                beyond
             elif [ "$text" = recording ]; then
                 printf 'C is not 1 to %d, or N not 1 to %d' "$controllers" "$most_states"
             else
@@ -254,6 +377,11 @@ reason() {
         14) printf 'the text of the rule has more than 16,384 bytes' ;;
         17) printf 'a state more than the %d that are held, which is the most' "$most_states" ;;
         18) printf 'no state is held that could be withdrawn' ;;
+        19) printf 'a second gauge for an atom that has one' ;;
+        20)
+            said_gauges "$at"
+            printf 'atom %d is 1 in the word, where it must be 0: its gauge makes it' "$(set_gauge)"
+            ;;
     esac
 }
 

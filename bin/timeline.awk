@@ -1,42 +1,28 @@
 # Draws a recording as a timeline, in SVG: a lane for each controller with its run marks, one for the steps of the rule's
-# controller, one for each atom of the rule, and a ring around each reading that decides the verdict.
-# Input: a rule text, a recording text, and what the program `why` prints of them, all accepted: nothing is checked or judged
-# here. RULE and RECORDING in the environment are the names that the picture shows.
+# controller, one for each atom of the rule, and under that of a gauge's atom one with its values and its threshold; and a
+# ring around each reading that decides the verdict.
+# After bin/texts.awk, which took the texts. RULE and RECORDING in the environment are the names that the picture shows.
 # One element to a line, so that a test reads it line by line.
 
 BEGIN {
-    FS = "\t"
     column = 30                    # the width of a state
     lane = 38                      # the height of a lane
+    tall = 64                      # the height of a gauge's lane
     left = 190                     # where state 0 begins
     top = 92                       # where the first lane begins
-    text = masks = taken = readings = steps = after = 0
-}
-
-{ sub(/\r$/, "") }                 # either line ending
-
-FNR == 1 { text++ }
-
-text == 1 && FNR == 1 { owner = $2 + 0 }
-text == 1 && $1 == "atom" { named[$2 + 0] = 1 }
-
-text == 2 && FNR == 1 { controllers = $2 + 0; states = $3 + 0 }
-text == 2 && $1 == "owns" { mask[masks++] = $2 }
-text == 2 && $1 == "at" { marks[taken] = $2; word[taken++] = $3 }
-
-text == 3 && FNR == 1 { reading = $1; verdict = $2 }
-text == 3 && $1 == "state" {
-    shownState[readings] = $2
-    shownStep[readings] = $4
-    shownAtom[readings] = $6
-    shownBit[readings] = $8
-    shownNode[readings++] = $10
+    steps = after = 0
 }
 
 # bit b of hexadecimal digits
 function bit(digits, b,    value) {
     value = index("0123456789abcdef", substr(digits, length(digits) - int(b / 4), 1)) - 1
     return int(value / 2 ^ (b % 4)) % 2
+}
+
+# an atom's bit in a state: "1 exactly when the value is at least the threshold" where it has a gauge
+function finished(k, a) {
+    if (a in threshold) return value[k, a] + 0 >= threshold[a] + 0
+    return bit(word[k], a)
 }
 
 # "a mark in the last state is read as no run"
@@ -89,20 +75,46 @@ function draw_steps(y,    k) {
 function draw_atom(a, y,    k, points, level) {
     label("atom " a (bit(mask[owner], a) ? ", own" : ", foreign"), y)
     for (k = 0; k < states; k++) {
-        level = y + (bit(word[k], a) ? -9 : 9)
+        level = y + (finished(k, a) ? -9 : 9)
         points = points (k ? " " : "") left + k * column "," level " " left + (k + 1) * column "," level
     }
     printf "<polyline class=\"bits\" data-atom=\"%d\" points=\"%s\"/>\n", a, points
 }
 
+# a gauge: its values as a line over the states, higher where they are larger, and its threshold as a dashed one
+function draw_gauge(a, y,    k, least, most, scale, points, level) {
+    least = most = threshold[a] + 0
+    for (k = 0; k < states; k++) {
+        if (value[k, a] + 0 < least) least = value[k, a] + 0
+        if (value[k, a] + 0 > most) most = value[k, a] + 0
+    }
+    scale = most > least ? (tall - 24) / (most - least) : 0
+    level = y + (most - threshold[a]) * scale
+    label("its gauge; dashed: " threshold[a], level)
+    printf "<polyline class=\"threshold\" data-atom=\"%d\" data-threshold=\"%s\" points=\"%d,%.1f %d,%.1f\"/>\n", \
+        a, threshold[a], left, level, left + states * column, level
+    for (k = 0; k < states; k++) points = points (k ? " " : "") middle(k) "," sprintf("%.1f", y + (most - value[k, a]) * scale)
+    printf "<polyline class=\"gauge\" data-atom=\"%d\" points=\"%s\"/>\n", a, points
+    for (k = 0; k < states; k++) {
+        printf "<circle class=\"value\" data-atom=\"%d\" data-state=\"%d\" data-value=\"%s\" cx=\"%d\" cy=\"%.1f\" r=\"3\">\n", \
+            a, k, value[k, a], middle(k), y + (most - value[k, a]) * scale
+        printf "<title>state %d: %s, %s %s</title>\n", k, value[k, a], finished(k, a) ? "at least" : "below", threshold[a]
+        print "</circle>"
+    }
+}
+
 # a reading: a ring where the atom's line is, wider for each further node that reads it there
-function draw_reading(i,    k, a, y) {
+function draw_reading(i,    k, a, y, made, data) {
     k = shownState[i]
     a = shownAtom[i]
     y = laneOf[a] + (shownBit[i] ? -9 : 9)
-    printf "<circle class=\"evidence\" data-state=\"%d\" data-step=\"%d\" data-atom=\"%d\" data-bit=\"%d\" data-node=\"%d\" cx=\"%d\" cy=\"%d\" r=\"%d\">\n", \
-        k, shownStep[i], a, shownBit[i], shownNode[i], middle(k), y, 7 + 3 * rings[k, a]++
-    printf "<title>state %d, step %d: atom %d is %d (node %d)</title>\n", k, shownStep[i], a, shownBit[i], shownNode[i]
+    if (a in threshold) {
+        made = ": the value " value[k, a] " is " (shownBit[i] ? "at least" : "below") " the threshold " threshold[a]
+        data = " data-value=\"" value[k, a] "\" data-threshold=\"" threshold[a] "\""
+    }
+    printf "<circle class=\"evidence\" data-state=\"%d\" data-step=\"%d\" data-atom=\"%d\" data-bit=\"%d\" data-node=\"%d\"%s cx=\"%d\" cy=\"%d\" r=\"%d\">\n", \
+        k, shownStep[i], a, shownBit[i], shownNode[i], data, middle(k), y, 7 + 3 * rings[k, a]++
+    printf "<title>state %d, step %d: atom %d is %d (node %d)%s</title>\n", k, shownStep[i], a, shownBit[i], shownNode[i], made
     print "</circle>"
 }
 
@@ -117,6 +129,11 @@ function draw_style() {
     print ".run { fill: #1d4ed8; }"
     print ".unfinished { fill: none; stroke: #1d4ed8; stroke-width: 2; stroke-dasharray: 2 2; }"
     print ".bits { fill: none; stroke: #374151; stroke-width: 2; }"
+    if (drawn) {
+        print ".gauge { fill: none; stroke: #15803d; stroke-width: 2; }"
+        print ".value { fill: #15803d; }"
+        print ".threshold { stroke: #b91c1c; stroke-width: 1.5; stroke-dasharray: 5 3; }"
+    }
     print ".evidence { fill: #fb923c; fill-opacity: 0.25; stroke: #c2410c; stroke-width: 2.5; }"
     print "</style>"
 }
@@ -139,10 +156,15 @@ END {
         if (a in named) {
             laneOf[a] = y
             y += lane
+            if (a in threshold) {
+                gaugeLane[a] = y - 8
+                y += tall
+                drawn = 1
+            }
         }
     width = left + states * column + 20
     if (width < 640) width = 640
-    height = y + 56
+    height = y + (drawn ? 76 : 56)
     printf "<svg xmlns=\"http://www.w3.org/2000/svg\" width=\"%d\" height=\"%d\" viewBox=\"0 0 %d %d\">\n", width, height, width, height
     draw_style()
     printf "<rect width=\"%d\" height=\"%d\" fill=\"#ffffff\"/>\n", width, height
@@ -152,8 +174,10 @@ END {
     for (c = 0; c < controllers; c++) draw_controller(c, controllerLane[c])
     draw_steps(stepLane)
     for (a = 0; a < 32; a++) if (a in named) draw_atom(a, laneOf[a])
+    for (a = 0; a < 32; a++) if (a in gaugeLane) draw_gauge(a, gaugeLane[a])
     for (i = 0; i < readings; i++) draw_reading(i)
-    printf "<text x=\"12\" y=\"%d\">disc: the controller runs; shaded: a step of controller %d; dashed: the place after its last step</text>\n", height - 32, owner
-    printf "<text x=\"12\" y=\"%d\">line: the atom, up where it is 1; ring: a reading that decides the verdict</text>\n", height - 12
+    printf "<text x=\"12\" y=\"%d\">disc: the controller runs; shaded: a step of controller %d; dashed: the place after its last step</text>\n", y + 24, owner
+    printf "<text x=\"12\" y=\"%d\">line: the atom, up where it is 1; ring: a reading that decides the verdict</text>\n", y + 44
+    if (drawn) printf "<text x=\"12\" y=\"%d\">green: what the gauge measured, up where it is more; dashed red: its threshold</text>\n", y + 64
     print "</svg>"
 }

@@ -91,7 +91,9 @@ enum {
     RGV_LINE_FORM = 15,        /* a rule in one line over 1,024 bytes, or no sentence of the grammar */
     RGV_BRACKETS_DEEP = 16,    /* a rule in one line with over 16 brackets open at once */
     RGV_SESSION_FULL = 17,     /* a state arrives in a session that holds 128 */
-    RGV_SESSION_EMPTY = 18     /* a state is withdrawn from a session that holds none */
+    RGV_SESSION_EMPTY = 18,    /* a state is withdrawn from a session that holds none */
+    RGV_SECOND_GAUGE = 19,     /* a recording text has a second gauge for an atom */
+    RGV_GAUGE_BIT_SET = 20     /* a recording text has a gauge's bit already set in a word */
 };
 
 /* Node kinds; run and end stand only in rewritten tables: c runs, c runs no more from here on. */
@@ -147,8 +149,10 @@ uint8_t rgv_write_rule(size_t controller, size_t count,
                        size_t values[1]);
 
 /*
- * Reads a recording text. Full sizes: masks RGV_MASKS, states RGV_STATES.
- * values: C, N. Refusals: 13, 5, 6, 7, 10, 8.
+ * Reads a recording text, with gauges or without: the states have the finished
+ * words, in which a gauge's bit is 1 where the value is at least the threshold.
+ * Full sizes: masks RGV_MASKS, states RGV_STATES.
+ * values: C, N. Refusals: 13, 5, 6, 7, 19, 20, 10, 8.
  */
 uint8_t rgv_read_recording(const uint8_t *text, size_t text_len,
                            uint32_t *masks, size_t masks_len,

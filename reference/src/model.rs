@@ -9,6 +9,7 @@
 
 pub mod early;
 pub mod evidence;
+pub mod gauges;
 pub mod limits;
 pub mod one_line;
 pub mod recording;
@@ -22,6 +23,7 @@ pub mod watching;
 pub mod why;
 
 use evidence::{walk, AsWorded, Pair};
+use gauges::Gauging;
 use recording::{check_recording, Recording};
 use rule::{check_count, check_nodes, check_rule, Language, Node, Rule, ATOM, UNTIL};
 use semantics::{local_readings, whole_readings, Reading, Readings};
@@ -157,8 +159,19 @@ pub fn write_rule(
     answer.map(|written| written.len())
 }
 
-/// "read a recording (C, N, masks, states)".
+/// "read a recording (C, N, masks, states)", the states finished where it has
+/// gauges.
 pub fn read_recording(
+    text: &[u8],
+    masks: &mut [u32],
+    states: &mut [u64],
+) -> Result<RecordingHeading, u8> {
+    read_recording_by(&gauges::AsWorded, text, masks, states)
+}
+
+/// The same with gauges read otherwise than they are worded.
+pub fn read_recording_by(
+    gauging: &dyn Gauging,
     text: &[u8],
     masks: &mut [u32],
     states: &mut [u64],
@@ -166,7 +179,7 @@ pub fn read_recording(
     if too_short(masks, limits::CONTROLLERS) || too_short(states, limits::STATES) {
         return Err(refusal::LENT_SPACE);
     }
-    let answer = text::read_recording(text);
+    let answer = text::read_recording_by(gauging, text);
     leave_recording(masks, states, answer.as_ref().ok());
     let recording = answer.map_err(|refused| refused.number)?;
     Ok(RecordingHeading { controllers: recording.masks.len(), states: recording.states.len() })
@@ -189,8 +202,17 @@ fn part_of<'a>(part: Part, rule_text: &'a [u8], recording_text: &'a [u8]) -> &'a
 
 /// Both texts: the whole rule text, the whole recording text, then 11.
 fn joint(rule_text: &[u8], recording_text: &[u8]) -> Result<(Rule, Recording), (u8, Part)> {
+    joint_by(&gauges::AsWorded, rule_text, recording_text)
+}
+
+/// The same with gauges read otherwise than they are worded.
+fn joint_by(
+    gauging: &dyn Gauging,
+    rule_text: &[u8],
+    recording_text: &[u8],
+) -> Result<(Rule, Recording), (u8, Part)> {
     let rule = text::read_rule(rule_text).map_err(|refused| refused_part(Source::Rule, refused))?;
-    let recording = text::read_recording(recording_text)
+    let recording = text::read_recording_by(gauging, recording_text)
         .map_err(|refused| refused_part(Source::Recording, refused))?;
     recording.check_controller(rule.controller).map_err(|number| {
         refused_part(Source::Rule, RefusedLine { number, line: text::first_line(rule_text) })
@@ -217,13 +239,27 @@ pub fn read_joint(
     states: &mut [u64],
     heading: &mut [u32; 5],
 ) -> Part {
+    let worded = &gauges::AsWorded;
+    read_joint_by(worded, rule_text, recording_text, nodes, masks, states, heading)
+}
+
+/// The same with gauges read otherwise than they are worded.
+pub fn read_joint_by(
+    gauging: &dyn Gauging,
+    rule_text: &[u8],
+    recording_text: &[u8],
+    nodes: &mut [u32],
+    masks: &mut [u32],
+    states: &mut [u64],
+    heading: &mut [u32; 5],
+) -> Part {
     let short_masks_or_states =
         too_short(masks, limits::CONTROLLERS) || too_short(states, limits::STATES);
     if too_short(nodes, limits::RULE_NODES) || short_masks_or_states {
         *heading = [u32::from(refusal::LENT_SPACE), 0, 0, 0, 0];
         return Part { source: Source::Rule, start: 0, length: 0 };
     }
-    let answer = joint(rule_text, recording_text);
+    let answer = joint_by(gauging, rule_text, recording_text);
     leave_rule(nodes, answer.as_ref().ok().map(|(rule, _)| rule));
     leave_recording(masks, states, answer.as_ref().ok().map(|(_, recording)| recording));
     match answer {

@@ -126,7 +126,7 @@ fn recording_texts_meet_every_number() {
         let text = texts::any_recording_text(&mut random, limits::CONTROLLERS, limits::STATES);
         count(&mut tally, read_recording(&text));
     }
-    expect(&tally, &[0, 5, 6, 7, 8, 10], 100);
+    expect(&tally, &[0, 5, 6, 7, 8, 10, 19, 20], 100);
 }
 
 #[test]
@@ -160,10 +160,10 @@ fn program_inputs_meet_every_number() {
         *tally.entry(String::from_utf8_lossy(number).into_owned()).or_insert(0) += 1;
     }
     println!("{tally:?}");
-    for number in ["0", "1", "2", "3", "4", "5", "6", "7", "8", "10", "11", "14"] {
+    for number in ["0", "1", "2", "3", "4", "5", "6", "7", "8", "10", "11", "14", "19", "20"] {
         assert!(tally.contains_key(number), "{number}");
     }
-    assert_eq!(tally.len(), 12);
+    assert_eq!(tally.len(), 14);
 }
 
 #[test]

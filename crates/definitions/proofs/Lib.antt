@@ -13,3 +13,5 @@ pub mod ElevenTrials
 pub mod PastTrials
 pub mod SessionTrials
 pub mod WatchTrials
+pub mod MeasureTrials
+pub mod GaugeTrials

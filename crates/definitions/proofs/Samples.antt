@@ -12,7 +12,9 @@ use Rattle.definitions.specs.Readings.{whole, verdict, verdicts, rowsOf}
 use Rattle.definitions.specs.Rewriting.{rewriting}
 use Rattle.definitions.specs.Lines.{before, newlineNext, isReturn, lineLength, withNewlines, onParsed, decimalOn, decimal, hexDigit, hexOn, hexadecimal, same, letters, twoFields, worded, headingForm, digitsBy, digits, onNext, nextLine}
 use Rattle.definitions.specs.RuleText.{wordKind, unknownForm, operandsForm, nodeForm, scanNodes, scanRule, nodeText, nodesText, ruleText}
-use Rattle.definitions.specs.RecordingText.{markDigits, maskForm, stateForm, scanMasks, scanStates, scanRecording, jointNumber, jointPart}
+use Rattle.definitions.specs.Measures.{isDigit, decimals, hundredths, belowZero, measure, inLimits, hundredthsText, spelled}
+use Rattle.definitions.specs.Gauges.{gaugeFields, gaugeForm, among, gaugeRefusal, valuesAfter, anyOutside, withAtom, finishedBit, finishedFrom, finished, anySet}
+use Rattle.definitions.specs.RecordingText.{markDigits, maskForm, stateForm, wordAndValues, measuredFields, atForm, finishedState, atRefusal, scanMasks, isGauge, scanGauges, scanStates, gaugedAfterMasks, afterMasks, scanOpening, scanRecording, scanPlain, jointNumber, jointPart}
 use Rattle.definitions.specs.Operations.{answer, left, judgeLocalNumber, judgeLocalAnswer, verdictValues, rewrittenOf, rewriteNumber, rewriteAnswer, rewriteTable, judgeRecordingNumber, judgeRecordingAnswer, judgeRecordingRows, projectNumber, projectAnswer, projectPlaces}
 use Rattle.definitions.specs.Operations.{readRuleNumber, readRuleAnswer, readRuleNodes, writeRuleNumber, writeRuleAnswer, writeRuleText, readRecordingNumber, readRecordingAnswer, readRecordingMasks, readRecordingStates}
 use Rattle.definitions.specs.Operations.{readJointNumber, readJointHeading, readJointNodes, readJointMasks, readJointStates, readJointPart}
@@ -20,7 +22,7 @@ use Rattle.definitions.specs.Program.{ruleLength, refusedText, localText
 
 -- what a trial computes through: `unfolding computed` opens all that this definition's own line names
 unfoldable pub computed : Bool
-unfolding pick bitOf orElse kindOf nodeRefusal nodesRefusal ruleHeadingRefusal ruleRefusal topsRefusal tableRefusal stateRefusal maskRefusal masksRefusal statesRefusal recordingHeadingRefusal recordingLinesRefusal recordingRefusal verdict rowsOf rewriting answer left controllerRefusal judgeLocalNumber judgeLocalAnswer rewriteNumber rewriteAnswer rewriteTable judgeRecordingNumber judgeRecordingAnswer judgeRecordingRows projectNumber projectAnswer projectPlaces before newlineNext isReturn lineLength withNewlines onParsed decimalOn decimal hexDigit hexOn hexadecimal same letters twoFields worded headingForm digitsBy digits onNext nextLine wordKind unknownForm operandsForm nodeForm scanNodes scanRule nodeText nodesText ruleText markDigits maskForm stateForm scanMasks scanStates scanRecording jointNumber jointPart readRuleNumber readRuleAnswer readRuleNodes writeRuleNumber writeRuleAnswer writeRuleText readRecordingNumber readRecordingAnswer readRecordingMasks readRecordingStates readJointNumber readJointHeading readJointNodes readJointMasks readJointStates readJointPart ruleLength refusedText localText ownText rewrittenText judgedText textsOutput programOutput
+unfolding pick bitOf orElse kindOf nodeRefusal nodesRefusal ruleHeadingRefusal ruleRefusal topsRefusal tableRefusal stateRefusal maskRefusal masksRefusal statesRefusal recordingHeadingRefusal recordingLinesRefusal recordingRefusal verdict rowsOf rewriting answer left controllerRefusal judgeLocalNumber judgeLocalAnswer rewriteNumber rewriteAnswer rewriteTable judgeRecordingNumber judgeRecordingAnswer judgeRecordingRows projectNumber projectAnswer projectPlaces before newlineNext isReturn lineLength withNewlines onParsed decimalOn decimal hexDigit hexOn hexadecimal same letters twoFields worded headingForm digitsBy digits onNext nextLine wordKind unknownForm operandsForm nodeForm scanNodes scanRule nodeText nodesText ruleText isDigit decimals hundredths belowZero measure inLimits hundredthsText spelled gaugeFields gaugeForm among gaugeRefusal valuesAfter anyOutside withAtom finishedBit finishedFrom finished anySet markDigits maskForm stateForm wordAndValues measuredFields atForm finishedState atRefusal scanMasks isGauge scanGauges scanStates gaugedAfterMasks afterMasks scanOpening scanRecording scanPlain jointNumber jointPart readRuleNumber readRuleAnswer readRuleNodes writeRuleNumber writeRuleAnswer writeRuleText readRecordingNumber readRecordingAnswer readRecordingMasks readRecordingStates readJointNumber readJointHeading readJointNodes readJointMasks readJointStates readJointPart ruleLength refusedText localText ownText rewrittenText judgedText textsOutput programOutput
 computed = true
 
 -- a recording of as many states as are given

@@ -11,6 +11,8 @@ pub mod Early
 pub mod Rewriting
 pub mod Lines
 pub mod RuleText
+pub mod Measures
+pub mod Gauges
 pub mod RecordingText
 pub mod Operations
 pub mod Sessions

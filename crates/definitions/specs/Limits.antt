@@ -17,6 +17,10 @@ maxStates = 128
 abbrev pub atomCount : ℕ
 atomCount = 32
 
+-- "up to 8 lines `gauge`" (document 02)
+abbrev pub maxGauges : ℕ
+maxGauges = 8
+
 -- "1 to 64 nodes; the last is the rule"
 abbrev pub maxRuleNodes : ℕ
 maxRuleNodes = 64
@@ -124,6 +128,14 @@ sessionFull = 17
 -- "18, a withdrawal from an empty session"
 abbrev pub sessionEmpty : ℕ
 sessionEmpty = 18
+
+-- "19, a second gauge for an atom"
+abbrev pub secondGauge : ℕ
+secondGauge = 19
+
+-- "20, a gauge's bit already set in the word"
+abbrev pub gaugeBitSet : ℕ
+gaugeBitSet = 20
 
 -- "Lent space for fewer than 8,192 pairs is refused with 13": the readings behind a verdict, one for each place and node
 abbrev pub maxPairs : ℕ

@@ -157,11 +157,11 @@ module _ (s w : List ℕ) (r : Bool) (rs : r ≡ (same (upTo tab s) w && has tab
   pub word-ends : (i : ℕ) → i ≡ before tab s → r ≡ true → i < length s
   word-ends i is t = omega (arith, ltb-true (before tab s) (length s) (both-true (same (upTo tab s) w) (has tab s) (sym rs ∙ t) .1))
 
-  other-word : {A : Type 0} (fields : List ℕ → Parsed A) → r ≡ false → worded w fields s ≡ malformed
+  pub other-word : {A : Type 0} (fields : List ℕ → Parsed A) → r ≡ false → worded w fields s ≡ malformed
   unfolding worded pick
   other-word fields f = rw (← rs, f)
 
-  right-word : {A : Type 0} (fields : List ℕ → Parsed A) → r ≡ true → worded w fields s ≡ fields (after tab s)
+  pub right-word : {A : Type 0} (fields : List ℕ → Parsed A) → r ≡ true → worded w fields s ≡ fields (after tab s)
   unfolding worded pick
   right-word fields f = rw (← rs, f)
 

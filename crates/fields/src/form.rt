@@ -51,7 +51,7 @@ fn hexadecimals(s: &[u8], first: usize, second: usize) -> Pair
 }
 
 // Whether a line opens with `word` and a tab, where `i` bytes stand before its first tab.
-fn opens(s: &[u8], i: usize, word: &[u8]) -> bool
+pub fn opens(s: &[u8], i: usize, word: &[u8]) -> bool
     requires { ⌜ i ≡ before tab (now s) ⌝ }
     ensures { λ r. ⌜ r ≡ (same (upTo tab (now (s .entry))) (now (word .entry)) && has tab (now (s .entry))) ⌝ }
 {

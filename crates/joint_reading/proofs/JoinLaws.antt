@@ -31,12 +31,12 @@ part-reads s from count = let e : from + count - from ≡ count = omega arith in
 pub ruleset part-laws = (needs, part-reads)
 
 -- ---- `join_whole`
-module _ (full number count : ℕ) (content entry exit end : List ℕ) (low : number < lentShort) (h : Held full number count content entry exit) (e : end ≡ cleared exit count full) where
+module _ (full number count : ℕ) (content entry exit end : List ℕ) (other : number ≡ lentShort → ⊥) (h : Held full number count content entry exit) (e : end ≡ cleared exit count full) where
   filled : number ≡ 0 → end ≡ left number full content entry
   filled z = left-filled number full content entry exit end (h .past) count z (h .counts z) (h .begins z) e
 
   zeroed : (number ≡ 0 → ⊥) → end ≡ left number full content entry
-  zeroed z = left-zeroed number full content entry exit end (h .past) low z (rw (h .none z) at e)
+  zeroed z = left-zeroed number full content entry exit end (h .past) other z (rw (h .none z) at e)
 
   left-held : end ≡ left number full content entry
   left-held = by-test (eqb number 0) (λ z. filled (eqb-true number 0 z)) (λ z. zeroed (eqb-false number 0 z))
@@ -67,7 +67,7 @@ module _ (rule recording nodes masks states : List ℕ) (room : Room nodes masks
 
     part-is : partOf f ≡ readJointPart rule recording nodes masks states
     unfolding readJointPart pick
-    part-is = rw (number-is, ne-eqb (f .number) lentShort (λ q. omega (arith, s .low))) (s .part)
+    part-is = rw (number-is, ne-eqb (f .number) lentShort (s .notLent)) (s .part)
 
     -- `join_whole`: what `scan_joint` found, with lent space cleared behind it, is `Joined`
     pub join-done : (nodes″ masks″ states″ : List ℕ) → Cleared (f .count) (f .controllers) (f .states) nodes′ masks′ states′ nodes″ masks″ states″
@@ -78,9 +78,9 @@ module _ (rule recording nodes masks states : List ℕ) (room : Room nodes masks
           heading = heading-is;
           part = part-is;
           inside = s .inside;
-          nodesLeft = rw number-is (left-held maxRuleNodes (f .number) (f .count) ((scanRule rule) .words) nodes nodes′ nodes″ (s .low) (s .nodesHeld) (c .nodesCleared));
-          masksLeft = rw number-is (left-held maxControllers (f .number) (f .controllers) ((scanRecording recording) .masks) masks masks′ masks″ (s .low) (s .masksHeld) (c .masksCleared));
-          statesLeft = rw number-is (left-held maxStates (f .number) (f .states) ((scanRecording recording) .states) states states′ states″ (s .low) (s .statesHeld) (c .statesCleared));
+          nodesLeft = rw number-is (left-held maxRuleNodes (f .number) (f .count) ((scanRule rule) .words) nodes nodes′ nodes″ (s .notLent) (s .nodesHeld) (c .nodesCleared));
+          masksLeft = rw number-is (left-held maxControllers (f .number) (f .controllers) ((scanRecording recording) .masks) masks masks′ masks″ (s .notLent) (s .masksHeld) (c .masksCleared));
+          statesLeft = rw number-is (left-held maxStates (f .number) (f .states) ((scanRecording recording) .states) states states′ states″ (s .notLent) (s .statesHeld) (c .statesCleared));
         }
 
 -- ---- `join`

@@ -22,9 +22,10 @@ use Rattle.lines.specs.declared.Line.{Line}
 use Rattle.lines.proofs.NextLaws.{length-le}
 use Rattle.rule_reader.specs.Reading.{RuleScanned}
 use Rattle.rule_reader.specs.declared.Scanned as ruled
+use Rattle.theorems.proofs.TextNumbers.{recording-of-text}
 use Rattle.recording_reader.specs.Scanning.{RecordingScanned}
 use Rattle.recording_reader.specs.declared.scan.Scanned as recorded
-use Rattle.recording_reader.proofs.ScanLaws.{recording-low, recording-end}
+use Rattle.recording_reader.proofs.ScanLaws.{recording-end}
 use Rattle.joint_reading.specs.Scanning.{refusedAt, jointValues, Held, JointScanned}
 use Rattle.joint_reading.specs.declared.scan.Found.{Found}
 
@@ -64,7 +65,7 @@ module _ (rule recording : List ℕ) where
       recording-part : jointPart rule recording ≡ lineIn false recording ((scanRecording recording) .rest)
       unfolding jointPart pick
       recording-part =
-          rw (e, recording-number, ne-eqb ((scanRecording recording) .number) noController (λ q. omega (arith, recording-low recording)))
+          rw (e, recording-number, ne-eqb ((scanRecording recording) .number) noController (recording-of-text recording .notJoining))
 
     module _ (a : (scanRecording recording) .number ≡ 0) where
       module _ (h : (scanRecording recording) .controllers ≤ (scanRule rule) .controller) where
@@ -104,7 +105,7 @@ module _ (rule recording nodes masks states nodes′ : List ℕ) (u : ruled.Scan
       rw e
       (record {
         number = s .number ∙ sym (rule-number rule recording y);
-        low = s .low;
+        notLent = λ q. omega (arith, s .low);
         values = refused-values rule recording (u .number) z;
         part = rw (s .rest, s .place) (sym (rule-part rule recording y));
         inside = line-inside rule (u .«rest_at») (s .inside);
@@ -127,7 +128,7 @@ module _ (rule recording nodes masks states nodes′ : List ℕ) (u : ruled.Scan
           rw e
           (record {
             number = t .number ∙ sym (recording-number rule recording ruled-number y);
-            low = t .low;
+            notLent = t .notLent;
             values = refused-values rule recording (v .number) z;
             part = rw (t .rest, t .place) (sym (recording-part rule recording ruled-number y));
             inside = line-inside recording (v .«rest_at») (t .inside);
@@ -152,7 +153,7 @@ module _ (rule recording nodes masks states nodes′ : List ℕ) (u : ruled.Scan
             rw e
             (record {
               number = sym (joining-number rule recording ruled-number recorded-number l);
-              low = omega arith;
+              notLent = λ q. omega arith;
               values = refused-values rule recording 11 z;
               part = sym p ∙ sym (joining-part rule recording ruled-number recorded-number l);
               inside = omega (arith, length-le rule);
@@ -182,7 +183,7 @@ module _ (rule recording nodes masks states nodes′ : List ℕ) (u : ruled.Scan
           joint-accepted =
               record {
                 number = sym (accepted-number rule recording ruled-number recorded-number below);
-                low = omega arith;
+                notLent = λ q. omega arith;
                 values = accepted-values;
                 part = end-part ∙ sym (accepted-part rule recording ruled-number recorded-number below);
                 inside = omega arith;

@@ -42,7 +42,7 @@ pub record Held (full number count : ℕ) (content entry exit : List ℕ) : Type
 -- both texts were read up to the first refusal
 pub record JointScanned (rule recording nodes masks states : List ℕ) (f : Found) (nodes′ masks′ states′ : List ℕ) : Type 0 where
   pub number : f .number ≡ jointNumber rule recording
-  pub low : f .number < lentShort
+  pub notLent : f .number ≡ lentShort → ⊥
   pub values : valuesOf f ≡ jointValues (f .number) rule recording
   pub part : partOf f ≡ jointPart rule recording
   pub inside : f .from + f .len ≤ length (pick (f .«of_rule») rule recording)

@@ -33,9 +33,9 @@ left-untouched number full content entry e = rw e (sym (left-short full content 
 
 module _ (number full : ℕ) (content entry exit end : List ℕ) (past : drop full exit ≡ drop full entry) where
   -- "after another refusal its full size is zero": the return after `clear_..(lent, 0, full)`
-  pub left-zeroed : number < lentShort → (number ≡ 0 → ⊥) → end ≡ cleared exit 0 full → end ≡ left number full content entry
+  pub left-zeroed : (number ≡ lentShort → ⊥) → (number ≡ 0 → ⊥) → end ≡ cleared exit 0 full → end ≡ left number full content entry
   unfolding cleared
-  left-zeroed low some e = e ∙ rw (sub-zero full, past) (sym (left-refused number full content entry some low))
+  left-zeroed other some e = e ∙ rw (sub-zero full, past) (sym (left-refused number full content entry some other))
 
   -- "Accepted, unused entries are zero": the return after `clear_..(lent, count, full)`
   pub left-filled : (count : ℕ) → number ≡ 0 → length content ≡ count → take count exit ≡ content → end ≡ cleared exit count full

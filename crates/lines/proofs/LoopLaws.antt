@@ -6,7 +6,6 @@ use native.Mathlib.Omega.{arith}
 use native.Mathlib.Numerals.{add-one}
 use lib.ListN.{length, take, drop, set, take-append-drop, length-set, length-drop}
 use lib.Seq.{take-suc-set, drop-set-lt, drop-drop, length-take-le}
-use Rattle.definitions.specs.Limits.{noController}
 use Rattle.definitions.specs.Lines.{restOf, Scan, stop, more}
 use Rattle.lines.specs.Reading.{FirstLine, LinesScanned}
 use Rattle.lines.specs.declared.Line.{Line}
@@ -78,13 +77,12 @@ module _ (text : List ℕ) (at : ℕ) (l : Line) (is : FirstLine (drop at text) 
 pub record Counted (lines : ℕ) (s : Scan) : Type 0 where
   pub most : length (s .words) ≤ lines
   pub all : s .number ≡ 0 → length (s .words) ≡ lines
-  pub low : s .number < noController
 
 pub counted-more : (lines w : ℕ) (s : Scan) → Counted lines s → Counted (suc lines) (more w s)
-counted-more lines w s c = record { most = omega (arith, c .most); all = λ e. ap suc (c .all e); low = c .low }
+counted-more lines w s c = record { most = omega (arith, c .most); all = λ e. ap suc (c .all e) }
 
-pub counted-stop : (lines number : ℕ) (t : List ℕ) → number < noController → (number ≡ 0 → ⊥) → Counted lines (stop number t)
-counted-stop lines number t l z = record { most = omega arith; all = λ e. absurd (z e); low = l }
+pub counted-stop : (lines number : ℕ) (t : List ℕ) → (number ≡ 0 → ⊥) → Counted lines (stop number t)
+counted-stop lines number t z = record { most = omega arith; all = λ e. absurd (z e) }
 
-pub counted-end : (number : ℕ) (t : List ℕ) → number < noController → Counted 0 (stop number t)
-counted-end number t l = record { most = omega arith; all = λ e. refl; low = l }
+pub counted-end : (number : ℕ) (t : List ℕ) → Counted 0 (stop number t)
+counted-end number t = record { most = omega arith; all = λ e. refl }

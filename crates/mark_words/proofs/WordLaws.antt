@@ -12,7 +12,7 @@ use lib.Dec.{eqb}
 use borrow.Author.Needs.{needs}
 use mir.Val.{Fits}
 use mir.Syntax.{w64}
-use lib.Bits.{bitAnd, bitOr, bitXor, differ, and-step, or-step, xor-step, and-zero-r, or-shr, and-shr, and-mod, xor-mod, and-le-l, and-mask}
+use lib.Bits.{bitAnd, bitOr, bitXor, differ, and-step, or-step, xor-step, and-zero-r, and-shr, and-mod, xor-mod, and-le-l, and-mask}
 use lib.ListN.{length, take, drop, getD, replicate, getD-replicate, List·getD-eq-default}
 use Rattle.definitions.specs.Limits.{wordMarks}
 use Rattle.definitions.specs.Bounded.{bit, bitOf, tabulateFrom}
@@ -22,6 +22,7 @@ use Rattle.mark_words.specs.Marks.{markAt, yesMarks}
 use Rattle.mark_words.specs.Lists.{zip, lastOnly, untilRow, sinceRow}
 use Rattle.mark_words.specs.Words.{foundIn, heldIn, Window, gathered}
 use Rattle.theorems.proofs.Tabulations.{tabulate-length}
+use Rattle.theorems.proofs.BitLaws.{bit-or}
 use Rattle.mark_words.proofs.OperatorLaws.{lt-or-le, and-join, until-at, until-length}
 
 -- ---- a bit as a number
@@ -126,21 +127,11 @@ odd-bit (suc (suc m)) h = absurd (omega arith)
 odd-split : (x : ℕ) → x ≡ x / 2 * 2 + bit (eqb (x % 2) 1)
 odd-split x = sym (div-add-mod' x 2) ∙ ap (λ (m : ℕ). x / 2 * 2 + m) (odd-bit (x % 2) (omega arith))
 
-odd-or : (x y : ℕ) → eqb (bitOr x y % 2) 1 ≡ (eqb (x % 2) 1 || eqb (y % 2) 1)
-odd-or x y =
-    let e : bitOr x y ≡ bitOr (x / 2) (y / 2) * 2 + bit (eqb (x % 2) 1 || eqb (y % 2) 1) =
-    ap₂ bitOr (odd-split x) (odd-split y) ∙ or-cons (x / 2) (y / 2) (eqb (x % 2) 1) (eqb (y % 2) 1) in
-    ap (λ (m : ℕ). eqb (m % 2) 1) e ∙ rw (low-of, bit-one)
-
 odd-and : (x y : ℕ) → eqb (bitAnd x y % 2) 1 ≡ (eqb (x % 2) 1 && eqb (y % 2) 1)
 odd-and x y =
     let e : bitAnd x y ≡ bitAnd (x / 2) (y / 2) * 2 + bit (eqb (x % 2) 1 && eqb (y % 2) 1) =
     ap₂ bitAnd (odd-split x) (odd-split y) ∙ and-cons (x / 2) (y / 2) (eqb (x % 2) 1) (eqb (y % 2) 1) in
     ap (λ (m : ℕ). eqb (m % 2) 1) e ∙ rw (low-of, bit-one)
-
-pub bit-or : (k a b : ℕ) → bitOf (bitOr a b) k ≡ (bitOf a k || bitOf b k)
-unfolding bitOf
-bit-or k a b = rw (or-shr a b k) (odd-or (a / 2 ^ k) (b / 2 ^ k))
 
 pub bit-and : (k a b : ℕ) → bitOf (bitAnd a b) k ≡ (bitOf a k && bitOf b k)
 unfolding bitOf

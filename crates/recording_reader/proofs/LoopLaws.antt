@@ -12,20 +12,24 @@ use mir.Val.{Fits}
 use Rattle.definitions.specs.Limits.{accepted, recordingLines, maxControllers, maxStates}
 use Rattle.definitions.specs.Bounded.{pick}
 use Rattle.definitions.specs.Lines.{isEmpty, restOf, more}
-use Rattle.definitions.specs.RecordingText.{stateLine, scanMasks, scanStates}
+use Rattle.definitions.specs.Gauges.{Gauges}
+use Rattle.definitions.specs.RecordingText.{atLine, scanMasks, scanStates}
 use Rattle.theorems.proofs.Choice.{by-test, pick-true, pick-false}
 use Rattle.recordings.specs.Unions.{unionOf}
 use Rattle.lines.specs.Reading.{FirstLine, LinesScanned}
 use Rattle.lines.specs.declared.Line.{Line}
 use Rattle.lines.proofs.PartLaws.{part-to-end, empty-yes, empty-no}
 use Rattle.lines.proofs.LoopLaws.{Lines, lines-none, lines-stop, lines-next, after-line, line-inside}
-use Rattle.recording_reader.specs.NextLines.{maskAnswer, stateAnswer, seenLine}
+use Rattle.recording_reader.specs.NextLines.{maskAnswer, stateAnswer, seenLine, stateLine}
+use Rattle.recording_reader.specs.Measured.{atAnswer}
+use Rattle.gauges.specs.Scanning.{gaugesIn}
+use Rattle.gauges.specs.declared.scan.Gauged.{Gauged}
 use Rattle.recording_reader.specs.declared.line.MaskRead.{MaskRead}
 use Rattle.recording_reader.specs.declared.line.MaskRead.the-variants as mask
 use Rattle.recording_reader.specs.declared.line.StateRead.{StateRead}
 use Rattle.recording_reader.specs.declared.line.StateRead.the-variants as state
 use Rattle.recording_reader.proofs.MaskLaws.{MaskIs, mask-is, mask-denied}
-use Rattle.recording_reader.proofs.StateLaws.{StateIs, state-is, state-denied}
+use Rattle.recording_reader.proofs.MeasuredLaws.{AtIs, at-is, at-denied, without-values}
 use Rattle.recording_reader.proofs.ScanLaws.{seenMasks, seen-masks, mask-step, mask-stop, masks-end, state-step, state-stop, states-end}
 
 -- ---- `scan_masks`
@@ -82,17 +86,21 @@ module _ (C start : ℕ) (text o o′ : List ℕ) (at seen c : ℕ) (inv : Masks
       masks-next = record { within = omega arith; lines = lines-next _ text o o′ at c _ (inv .lines) m (at + l .next) _ mask-turn (omega arith) mask-inside }
 
 -- ---- `scan_states`
-pub record StatesLeft (C N : ℕ) (masks : List ℕ) (start : ℕ) (text o o′ : List ℕ) (at prior k : ℕ) : Type 0 where
+-- the gauges of what the gauge lines gave
+abbrev pub allOf : Gauged → Gauges
+allOf g = gaugesIn (g .count) (g .atoms) (g .thresholds)
+
+pub record StatesLeft (C N : ℕ) (masks : List ℕ) (g : Gauged) (text o o′ : List ℕ) (at prior k : ℕ) : Type 0 where
   pub within : k ≤ N
-  pub lines : Lines (scanStates C masks N 0 0 (drop start text)) text o o′ at k (scanStates C masks (N - k) k prior (drop at text))
+  pub lines : Lines (scanStates C masks (allOf g) N 0 0 (drop (g .at) text)) text o o′ at k (scanStates C masks (allOf g) (N - k) k prior (drop at text))
 
 -- `scan_states`, before the first turn: all of `scanStates` is left
-pub states-start : (C N : ℕ) (masks : List ℕ) (start : ℕ) (text o : List ℕ) → start ≤ length text → StatesLeft C N masks start text o o start 0 0
-states-start C N masks start text o h =
+pub states-start : (C N : ℕ) (masks : List ℕ) (g : Gauged) (text o : List ℕ) → g .at ≤ length text → StatesLeft C N masks g text o o (g .at) 0 0
+states-start C N masks g text o h =
     let z : N - 0 ≡ N = omega arith in
-    record { within = omega arith; lines = rw z (lines-none _ _ text o start h refl) }
+    record { within = omega arith; lines = rw z (lines-none _ _ text o (g .at) h refl) }
 
-module _ (C N : ℕ) (masks : List ℕ) (start : ℕ) (text o o′ : List ℕ) (at prior k : ℕ) (inv : StatesLeft C N masks start text o o′ at prior k) (short : N ≤ maxStates) (room : maxStates ≤ length o) where
+module _ (C N : ℕ) (masks : List ℕ) (g : Gauged) (text o o′ : List ℕ) (at prior k : ℕ) (inv : StatesLeft C N masks g text o o′ at prior k) (short : N ≤ maxStates) (room : maxStates ≤ length o) where
   last-line : (n : ℕ) → n ≡ pick (ltb at (length text)) recordingLines accepted → n ≡ pick (isEmpty (drop at text)) accepted recordingLines
   last-line n e =
       by-test (ltb at (length text))
@@ -100,40 +108,68 @@ module _ (C N : ℕ) (masks : List ℕ) (start : ℕ) (text o o′ : List ℕ) (
       (λ y. e ∙ (pick-false _ _ _ y ∙ sym (pick-true _ _ _ (empty-yes (drop at text) (omega (arith, length-drop at text, ltb-false at (length text) y))))))
 
   -- `scan_states`, all states are read: `scanStates` is accepted, or refused where bytes are left
-  pub states-done : (n : ℕ) → n ≡ pick (ltb at (length text)) recordingLines accepted → N ≤ k → LinesScanned (scanStates C masks N 0 0 (drop start text)) text o (record { number = n; at = at }) o′
+  pub states-done : (n : ℕ) → n ≡ pick (ltb at (length text)) recordingLines accepted → N ≤ k
+      → LinesScanned (scanStates C masks (allOf g) N 0 0 (drop (g .at) text)) text o (record { number = n; at = at }) o′
   states-done n e h =
       let z : N - k ≡ 0 = omega arith in
-      lines-stop _ text o o′ at k _ (inv .lines) n (rw z (states-end C masks k prior n (drop at text) (last-line n e))) (omega (arith, inv .within))
+      lines-stop _ text o o′ at k _ (inv .lines) n (rw z (states-end C masks (allOf g) k prior n (drop at text) (last-line n e))) (omega (arith, inv .within))
 
-  module _ (h : k < N) (l : Line) (is : FirstLine (take (length text - at) (drop at text)) l) (r : StateRead) (rs : r ≡ stateAnswer (stateLine C masks k prior (take (length text - at) (drop at text)))) where
+  module _ (h : k < N) (l : Line) (is : FirstLine (take (length text - at) (drop at text)) l) (r : StateRead)
+      (answered : r ≡ atAnswer (allOf g) (atLine C masks (allOf g) k prior (drop at text))) where
     one-fewer : N - k ≡ suc (N - (k + 1))
     one-fewer = omega arith
 
     line-ends : FirstLine (drop at text) l
     line-ends = rw (part-to-end text at) at is
 
-    answered : r ≡ stateAnswer (stateLine C masks k prior (drop at text))
-    answered = rw (part-to-end text at) at rs
-
-    -- `scan_states`, a refused line: `scanStates` stops at that line with its refusal
-    pub states-refused : (n : ℕ) → r ≡ state.Refused n → LinesScanned (scanStates C masks N 0 0 (drop start text)) text o (record { number = n; at = at }) o′
-    states-refused n e =
+    refused-at : (n : ℕ) → r ≡ state.Refused n → LinesScanned (scanStates C masks (allOf g) N 0 0 (drop (g .at) text)) text o (record { number = n; at = at }) o′
+    refused-at n e =
         lines-stop _ text o o′ at k _ (inv .lines) n
-        (rw one-fewer (state-stop C masks (N - (k + 1)) k prior (drop at text) n (state-denied C masks k prior (drop at text) r answered n e))) (omega (arith, inv .within))
+        (rw one-fewer (state-stop C masks (allOf g) (N - (k + 1)) k prior (drop at text) n (at-denied C masks (allOf g) k prior (drop at text) r answered n e))) (omega (arith, inv .within))
+
+    next-inside : at + l .next ≤ length text
+    next-inside = line-inside text at l line-ends (inv .lines .inside)
 
     module _ (s : ℕ) (e : r ≡ state.State s) where
-      got : StateIs C masks k prior (drop at text) s
-      got = state-is C masks k prior (drop at text) r answered s e
+      got : AtIs C masks (allOf g) k prior (drop at text) s
+      got = at-is C masks (allOf g) k prior (drop at text) r answered s e
 
-      state-inside : at + l .next ≤ length text
-      state-inside = line-inside text at l line-ends (inv .lines .inside)
+      state-turn : scanStates C masks (allOf g) (N - k) k prior (drop at text) ≡ more s (scanStates C masks (allOf g) (N - (k + 1)) (k + 1) s (drop (at + l .next) text))
+      state-turn =
+          rw (one-fewer, ← after-line text at l line-ends)
+          (state-step C masks (allOf g) (N - (k + 1)) k prior (drop at text) (got .measured) s (restOf (drop at text)) (got .is) (got .finishes))
 
-      pub state-next-fits : length text < 2 ^ 64 → Fits w64 (at + l .next)
-      state-next-fits h = record { fits = omega (arith, state-inside) }
+      state-next : StatesLeft C N masks g text o (set o′ k s) (at + l .next) s (k + 1)
+      state-next = record { within = omega arith; lines = lines-next _ text o o′ at k _ (inv .lines) s (at + l .next) _ state-turn (omega arith) next-inside }
 
-      state-turn : scanStates C masks (N - k) k prior (drop at text) ≡ more s (scanStates C masks (N - (k + 1)) (k + 1) s (drop (at + l .next) text))
-      state-turn = rw (one-fewer, ← after-line text at l line-ends) (state-step C masks (N - (k + 1)) k prior (drop at text) s (restOf (drop at text)) (got .is))
+  -- a line without values, and one with values: what either function answered is what is read
+  module _ (h : k < N) (l : Line) (is : FirstLine (take (length text - at) (drop at text)) l) where
+    pub state-next-fits : length text < 2 ^ 64 → Fits w64 (at + l .next)
+    state-next-fits b =
+        let i : at + l .next ≤ length text = line-inside text at l (rw (part-to-end text at) at is) (inv .lines .inside) in
+        record { fits = omega arith }
 
-      -- `scan_states`, a turn: `scanStates` has one state more, and it is the prior one
-      pub states-next : StatesLeft C N masks start text o (set o′ k s) (at + l .next) s (k + 1)
-      states-next = record { within = omega arith; lines = lines-next _ text o o′ at k _ (inv .lines) s (at + l .next) _ state-turn (omega arith) state-inside }
+    module _ (answer r : StateRead) (same : r ≡ answer) where
+      module _ (none : g .count ≡ 0) (rs : answer ≡ stateAnswer (stateLine C masks k prior (take (length text - at) (drop at text)))) where
+        without : r ≡ atAnswer (allOf g) (atLine C masks (allOf g) k prior (drop at text))
+        without = same ∙ without-values C masks g k prior (drop at text) answer none (rw (part-to-end text at) at rs)
+
+        -- `scan_states`, a refused line without values: `scanStates` stops at that line with its refusal
+        pub states-refused : (n : ℕ) → r ≡ state.Refused n → LinesScanned (scanStates C masks (allOf g) N 0 0 (drop (g .at) text)) text o (record { number = n; at = at }) o′
+        states-refused n e = refused-at h l is r without n e
+
+        -- `scan_states`, a turn without values: `scanStates` has one state more, and it is the prior one
+        pub states-next : (s : ℕ) → r ≡ state.State s → StatesLeft C N masks g text o (set o′ k s) (at + l .next) s (k + 1)
+        states-next s e = state-next h l is r without s e
+
+      module _ (rs : answer ≡ atAnswer (allOf g) (atLine C masks (allOf g) k prior (take (length text - at) (drop at text)))) where
+        measured : r ≡ atAnswer (allOf g) (atLine C masks (allOf g) k prior (drop at text))
+        measured = same ∙ (rw (part-to-end text at) at rs)
+
+        -- `scan_states`, a refused line with values: `scanStates` stops at that line with its refusal
+        pub measured-refused : (n : ℕ) → r ≡ state.Refused n → LinesScanned (scanStates C masks (allOf g) N 0 0 (drop (g .at) text)) text o (record { number = n; at = at }) o′
+        measured-refused n e = refused-at h l is r measured n e
+
+        -- `scan_states`, a turn with values: `scanStates` has the finished state more, and it is the prior one
+        pub measured-next : (s : ℕ) → r ≡ state.State s → StatesLeft C N masks g text o (set o′ k s) (at + l .next) s (k + 1)
+        measured-next s e = state-next h l is r measured s e

@@ -81,8 +81,8 @@ module _ (text masks states : List ℕ) where
           let b : j ≡ 0 = js ∙ pick-false (eqb (v .number) 0) (v .count) 0 z in
           record {
             answered = refused-is (v .number) read-number y;
-            masksLeft = rw read-number (left-zeroed (v .number) maxControllers ((scanRecording text) .masks) masks masks′ m (s .masksPast) (s .low) y (rw a at p));
-            statesLeft = rw read-number (left-zeroed (v .number) maxStates ((scanRecording text) .states) states states′ n (s .statesPast) (s .low) y (rw b at q));
+            masksLeft = rw read-number (left-zeroed (v .number) maxControllers ((scanRecording text) .masks) masks masks′ m (s .masksPast) (s .notLent) y (rw a at p));
+            statesLeft = rw read-number (left-zeroed (v .number) maxStates ((scanRecording text) .states) states states′ n (s .statesPast) (s .notLent) y (rw b at q));
           }
 
       -- `read_recording`, accepted: `readRecordingAnswer` is C and N, masks and states are laid and then zeros

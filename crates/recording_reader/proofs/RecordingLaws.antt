@@ -6,11 +6,15 @@ use native.Mathlib.Omega.{arith}
 use lib.ListN.{length, take, drop, length-drop}
 use lib.Seq.{take-at}
 use borrow.Author.Tests.{eq-eqb, ne-eqb}
-use Rattle.definitions.specs.Limits.{maxControllers, maxStates}
+use Rattle.definitions.specs.Limits.{maxGauges, maxControllers, maxStates}
 use Rattle.definitions.specs.Bounded.{pick}
 use Rattle.definitions.specs.Lines.{restOf, Heading, heading, refused, read, onNext, Scan}
-use Rattle.definitions.specs.RecordingText.{recordingHeadingLine, scanMasks, scanStates, RecordingScan, recordingStop, recordingMasks, recordingStates, scanRecording}
+use Rattle.definitions.specs.Gauges.{Gauges}
+use Rattle.definitions.specs.RecordingText.{recordingHeadingLine, scanMasks, GaugeScan, scanGauges, scanStates, RecordingScan, recordingStop, recordingStates, afterGauges, gaugedAfterMasks, openingMasks, scanOpening, scanRecording}
+use Rattle.theorems.proofs.TextNumbers.{recording-of-text}
 use Rattle.lent.specs.Space.{laid}
+use Rattle.gauges.specs.Scanning.{gaugesIn, GaugesScanned}
+use Rattle.gauges.specs.declared.scan.Gauged.{Gauged}
 use Rattle.lent.proofs.LeftLaws.{laid-past}
 use Rattle.lines.specs.Reading.{FirstLine, LinesScanned}
 use Rattle.lines.specs.declared.Line.{Line}
@@ -20,11 +24,11 @@ use Rattle.recording_reader.specs.NextLines.{headingAnswer}
 use Rattle.recording_reader.specs.declared.line.HeadingRead.{HeadingRead}
 use Rattle.recording_reader.specs.declared.line.HeadingRead.the-variants as first
 use Rattle.recording_reader.proofs.HeadingLaws.{Headed, headed, unheaded}
-use Rattle.recording_reader.specs.Scanning.{Room, MaskRoom, StateRoom, RecordingScanned}
+use Rattle.recording_reader.specs.Scanning.{Room, MaskRoom, RestRoom, StateRoom, RestScanned, RecordingScanned}
 use Rattle.recording_reader.specs.declared.scan.Scanned.{Scanned}
-use Rattle.recording_reader.proofs.ScanLaws.{masks-counted, states-counted, scan-own, heading-some, recording-low}
+use Rattle.recording_reader.proofs.ScanLaws.{masks-counted, states-counted, scan-own, heading-some}
 
--- ---- `scan_recording`
+-- ---- a reading that ends before the states
 -- the reading that ends at a line
 stopped-scan : (text masks states masks′ : List ℕ) (k at : ℕ) (rest : List ℕ) → scanRecording text ≡ recordingStop k rest → at ≤ length text → drop at text ≡ rest →
     (k ≡ 0 → ⊥) → drop maxControllers masks′ ≡ drop maxControllers masks
@@ -39,7 +43,7 @@ stopped-scan text masks states masks′ k at rest e l d z past =
       place = omega (arith, ap length r, length-drop at text);
       inside = l;
       rest = sym r;
-      low = omega (arith, n, recording-low text);
+      notLent = λ q. recording-of-text text .notLent (n ∙ q);
       few = omega arith;
       short = omega arith;
       masksLaid = λ q. absurd (z q);
@@ -51,29 +55,105 @@ stopped-scan text masks states masks′ k at rest e l d z past =
     }
 
 -- the masks were refused
-masks-denied : (C N : ℕ) (m : Scan) → (m .number ≡ 0 → ⊥) → recordingMasks C N m ≡ recordingStop (m .number) (m .rest)
+masks-denied : (C N : ℕ) (m : Scan) → (m .number ≡ 0 → ⊥) → openingMasks gaugedAfterMasks C N m ≡ recordingStop (m .number) (m .rest)
 unfolding pick
 masks-denied C N m z = rw (ne-eqb (m .number) 0 z)
 
 -- the masks were read
-masks-read : (C N : ℕ) (m : Scan) → m .number ≡ 0 → recordingMasks C N m ≡ recordingStates C N (m .words) (scanStates C (m .words) N 0 0 (m .rest))
+masks-read : (C N : ℕ) (m : Scan) → m .number ≡ 0 → openingMasks gaugedAfterMasks C N m ≡ gaugedAfterMasks C N (m .words) (m .rest)
 unfolding pick
 masks-read C N m e = rw (eq-eqb (m .number) 0 e)
 
--- the states, with the masks in lent space
-states-of : (C N : ℕ) (masks masks′ words : List ℕ) (t rest : List ℕ) → masks′ ≡ laid words masks → length words ≡ C → t ≡ rest → scanStates C masks′ N 0 0 t ≡ scanStates C words N 0 0 rest
-states-of C N masks masks′ words t rest e l d =
-    let q : take C masks′ ≡ words = rw e (take-at words (drop (length words) masks) C l) in
-    scan-own C masks′ N 0 0 t ∙ rw (q, d)
+-- the gauges were refused
+gauges-denied : (C N : ℕ) (masks : List ℕ) (s : GaugeScan) → (s .number ≡ 0 → ⊥) → afterGauges C N masks s ≡ recordingStop (s .number) (s .rest)
+unfolding pick
+gauges-denied C N masks s z = rw (ne-eqb (s .number) 0 z)
 
+-- the gauges were read
+gauges-read : (C N : ℕ) (masks : List ℕ) (s : GaugeScan) → s .number ≡ 0 → afterGauges C N masks s ≡ recordingStates C N masks (scanStates C masks (s .gauges) N 0 0 (s .rest))
+unfolding pick
+gauges-read C N masks s e = rw (eq-eqb (s .number) 0 e)
+
+-- ---- `scan_rest`
+module _ (C N start : ℕ) (text masks states : List ℕ) (room : RestRoom C N start text states) where
+  abbrev after : RecordingScan
+  after = gaugedAfterMasks C N (take C masks) (drop start text)
+
+  abbrev gauged : GaugeScan
+  gauged = scanGauges maxGauges [] (drop start text)
+
+  after-is : after ≡ afterGauges C N (take C masks) gauged
+  unfolding gaugedAfterMasks
+  after-is = refl
+
+  module _ (g : Gauged) (gs : GaugesScanned gauged text g) where
+    -- `scan_rest`, a gauge line is refused: `gaugedAfterMasks` stops at that line
+    pub gauges-refused : (v : Scanned) → (g .number ≡ 0 → ⊥) → v ≡ record { number = g .number; controllers = 0; count = 0; «rest_at» = g .at } → RestScanned after (take C masks) C text states v states
+    gauges-refused v y w =
+        let d : after ≡ recordingStop (gauged .number) (gauged .rest) = after-is ∙ gauges-denied C N (take C masks) gauged (λ q. y (gs .number ∙ q)) in
+        rw w
+        (record {
+          number = gs .number ∙ sym (ap (λ (s : RecordingScan). s .number) d);
+          controllers = sym (ap (λ (s : RecordingScan). s .controllers) d);
+          count = sym (ap (λ (s : RecordingScan). s .count) d);
+          inside = gs .inside;
+          rest = gs .rest ∙ sym (ap (λ (s : RecordingScan). s .rest) d);
+          few = omega arith;
+          short = omega arith;
+          masksKept = λ q. absurd (y q);
+          controllersKept = λ q. absurd (y q);
+          statesLaid = ap (λ (s : RecordingScan). laid (s .states) states) (sym d);
+          statesCount = λ q. absurd (y q);
+          statesPast = refl;
+        })
+
+    module _ (y : g .number ≡ 0) where
+      pub state-room : StateRoom C N g text states
+      state-room = record { few = room .few; short = room .short; gauges = gs .held; inside = gs .inside; room = room .room }
+
+      abbrev all : Gauges
+      all = gaugesIn (g .count) (g .atoms) (g .thresholds)
+
+      module _ (stopped : Stopped) (states′ : List ℕ) (s : LinesScanned (scanStates C masks all N 0 0 (drop (g .at) text)) text states stopped states′) where
+        states-few : Counted N (scanStates C masks all N 0 0 (drop (g .at) text))
+        states-few = states-counted C masks all N 0 0 (drop (g .at) text)
+
+        whole : after ≡ recordingStates C N (take C masks) (scanStates C masks all N 0 0 (drop (g .at) text))
+        whole =
+            after-is
+            ∙ (gauges-read C N (take C masks) gauged (sym (gs .number) ∙ y)
+            ∙ ap (recordingStates C N (take C masks)) (rw (← gs .gauges, ← gs .rest) (sym (scan-own C masks all N 0 0 (drop (g .at) text)))))
+
+        states-are : after .states ≡ scanStates C masks all N 0 0 (drop (g .at) text) .words
+        states-are = ap (λ (q : RecordingScan). q .states) whole
+
+        -- `scan_rest`, the gauges are read: `gaugedAfterMasks` ends as the state lines end
+        pub rest-scanned : RestScanned after (take C masks) C text states (record { number = stopped .number; controllers = C; count = N; «rest_at» = stopped .at }) states′
+        rest-scanned = record {
+          number = s .number ∙ sym (ap (λ (q : RecordingScan). q .number) whole);
+          controllers = sym (ap (λ (q : RecordingScan). q .controllers) whole);
+          count = sym (ap (λ (q : RecordingScan). q .count) whole);
+          inside = s .inside;
+          rest = s .rest ∙ sym (ap (λ (q : RecordingScan). q .rest) whole);
+          few = room .few;
+          short = room .short;
+          masksKept = λ q. ap (λ (o : RecordingScan). o .masks) whole;
+          controllersKept = λ q. refl;
+          statesLaid = s .words ∙ ap (λ (l : List ℕ). laid l states) (sym states-are);
+          statesCount = λ q. ap length states-are ∙ states-few .all (sym (s .number) ∙ q);
+          statesPast =
+              laid-past maxStates (scanStates C masks all N 0 0 (drop (g .at) text) .words) states states′ (omega (arith, states-few .most, room .short)) (s .words);
+        }
+
+-- ---- `scan_recording`
 -- the first line was refused, or read
 module _ (t : List ℕ) where
   recording-stop : (k : ℕ) → recordingHeadingLine t ≡ refused k → scanRecording t ≡ recordingStop k t
-  unfolding scanRecording onNext
+  unfolding scanRecording scanOpening onNext
   recording-stop k e = rw e
 
-  recording-step : (h : Heading) (rest : List ℕ) → recordingHeadingLine t ≡ read h rest → scanRecording t ≡ recordingMasks (h .first) (h .second) (scanMasks (h .first) [] rest)
-  unfolding scanRecording onNext
+  recording-step : (h : Heading) (rest : List ℕ) → recordingHeadingLine t ≡ read h rest → scanRecording t ≡ openingMasks gaugedAfterMasks (h .first) (h .second) (scanMasks (h .first) [] rest)
+  unfolding scanRecording scanOpening onNext
   recording-step h rest e = rw e
 
 module _ (text masks states : List ℕ) (l : Line) (is : FirstLine text l) (r : HeadingRead) (rs : r ≡ headingAnswer (recordingHeadingLine text)) where
@@ -87,9 +167,9 @@ module _ (text masks states : List ℕ) (l : Line) (is : FirstLine text l) (r : 
     limits : Headed text C N
     limits = headed text r rs C N e
 
-    scan-is : scanRecording text ≡ recordingMasks C N (scanMasks C [] (drop (l .next) text))
+    scan-is : scanRecording text ≡ openingMasks gaugedAfterMasks C N (scanMasks C [] (drop (l .next) text))
     scan-is =
-        recording-step text (heading C N) (restOf text) (limits .is) ∙ ap (λ (u : List ℕ). recordingMasks C N (scanMasks C [] u)) (sym (is .rest))
+        recording-step text (heading C N) (restOf text) (limits .is) ∙ ap (λ (u : List ℕ). openingMasks gaugedAfterMasks C N (scanMasks C [] u)) (sym (is .rest))
 
     pub mask-room : MaskRoom C (l .next) text masks
     mask-room = record { few = limits .few; inside = is .inside; room = room .masksRoom }
@@ -110,51 +190,47 @@ module _ (text masks states : List ℕ) (l : Line) (is : FirstLine text l) (r : 
           rw w (stopped-scan text masks states masks′ (owned .number) (owned .at) _ (rw (m .number) d) (m .inside) (m .rest) z masks-past)
 
       module _ (z : owned .number ≡ 0) where
-        pub state-room : StateRoom C N (owned .at) text states
-        state-room = record { few = limits .few; short = limits .short; inside = m .inside; room = room .statesRoom }
+        abbrev words : List ℕ
+        words = scanMasks C [] (drop (l .next) text) .words
 
-        all-masks : length (scanMasks C [] (drop (l .next) text) .words) ≡ C
+        all-masks : length words ≡ C
         all-masks = masks-few .all (sym (m .number) ∙ z)
 
-        module _ (stopped : Stopped) (states′ : List ℕ) (s : LinesScanned (scanStates C masks′ N 0 0 (drop (owned .at) text)) text states stopped states′) where
-          states-few : Counted N (scanStates C masks′ N 0 0 (drop (owned .at) text))
-          states-few = states-counted C masks′ N 0 0 (drop (owned .at) text)
+        pub rest-room : RestRoom C N (owned .at) text states
+        rest-room = record { few = limits .few; short = limits .short; inside = m .inside; room = room .statesRoom }
 
-          whole : scanRecording text ≡ recordingStates C N (scanMasks C [] (drop (l .next) text) .words) (scanStates C masks′ N 0 0 (drop (owned .at) text))
-          whole =
-              scan-is
-              ∙ (masks-read C N (scanMasks C [] (drop (l .next) text)) (sym (m .number) ∙ z)
-              ∙ ap (recordingStates C N (scanMasks C [] (drop (l .next) text) .words)) (sym (states-of C N masks masks′ (scanMasks C [] (drop (l .next) text) .words) (drop (owned .at) text) _ (m .words) all-masks (m .rest))))
+        module _ (v : Scanned) (states′ : List ℕ) (s : RestScanned (gaugedAfterMasks C N (take C masks′) (drop (owned .at) text)) (take C masks′) C text states v states′) where
+          taken : take C masks′ ≡ words
+          taken = rw (m .words) (take-at words (drop (length words) masks) C all-masks)
 
-          number-is : stopped .number ≡ (scanRecording text) .number
-          number-is = s .number ∙ sym (ap (λ (q : RecordingScan). q .number) whole)
+          whole-is : scanRecording text ≡ gaugedAfterMasks C N (take C masks′) (drop (owned .at) text)
+          whole-is = scan-is ∙ (masks-read C N (scanMasks C [] (drop (l .next) text)) (sym (m .number) ∙ z) ∙ rw (taken, m .rest))
 
-          rest-is : drop (stopped .at) text ≡ (scanRecording text) .rest
-          rest-is = s .rest ∙ sym (ap (λ (q : RecordingScan). q .rest) whole)
+          number-is : v .number ≡ (scanRecording text) .number
+          number-is = s .number ∙ sym (ap (λ (q : RecordingScan). q .number) whole-is)
 
-          masks-are : (scanRecording text) .masks ≡ scanMasks C [] (drop (l .next) text) .words
-          masks-are = ap (λ (q : RecordingScan). q .masks) whole
+          rest-is : drop (v .«rest_at») text ≡ (scanRecording text) .rest
+          rest-is = s .rest ∙ sym (ap (λ (q : RecordingScan). q .rest) whole-is)
 
-          states-are : (scanRecording text) .states ≡ scanStates C masks′ N 0 0 (drop (owned .at) text) .words
-          states-are = ap (λ (q : RecordingScan). q .states) whole
+          masks-are : v .number ≡ 0 → (scanRecording text) .masks ≡ words
+          masks-are q = ap (λ (o : RecordingScan). o .masks) whole-is ∙ (s .masksKept q ∙ taken)
 
-          -- `scan_recording`, the masks are read: `scanRecording` ends as the state lines end
-          pub recording-scanned : RecordingScanned text masks states (record { number = stopped .number; controllers = C; count = N; «rest_at» = stopped .at }) masks′ states′
+          -- `scan_recording`, the masks are read: `scanRecording` ends as what follows them ends
+          pub recording-scanned : RecordingScanned text masks states v masks′ states′
           recording-scanned = record {
             number = number-is;
-            controllers = sym (ap (λ (q : RecordingScan). q .controllers) whole);
-            count = sym (ap (λ (q : RecordingScan). q .count) whole);
-            place = omega (arith, ap length rest-is, length-drop (stopped .at) text, s .inside);
+            controllers = s .controllers ∙ sym (ap (λ (q : RecordingScan). q .controllers) whole-is);
+            count = s .count ∙ sym (ap (λ (q : RecordingScan). q .count) whole-is);
+            place = omega (arith, ap length rest-is, length-drop (v .«rest_at») text, s .inside);
             inside = s .inside;
             rest = rest-is;
-            low = omega (arith, number-is, recording-low text);
-            few = limits .few;
-            short = limits .short;
-            masksLaid = λ q. m .words ∙ ap (λ (l : List ℕ). laid l masks) (sym masks-are);
-            masksCount = λ q. ap length masks-are ∙ all-masks;
+            notLent = λ q. recording-of-text text .notLent (sym number-is ∙ q);
+            few = s .few;
+            short = s .short;
+            masksLaid = λ q. m .words ∙ ap (λ (l : List ℕ). laid l masks) (sym (masks-are q));
+            masksCount = λ q. ap length (masks-are q) ∙ (all-masks ∙ sym (s .controllersKept q));
             masksPast = masks-past;
-            statesLaid = s .words ∙ ap (λ (l : List ℕ). laid l states) (sym states-are);
-            statesCount = λ q. ap length states-are ∙ states-few .all (sym (s .number) ∙ q);
-            statesPast =
-                laid-past maxStates (scanStates C masks′ N 0 0 (drop (owned .at) text) .words) states states′ (omega (arith, states-few .most, limits .short)) (s .words);
+            statesLaid = s .statesLaid ∙ ap (λ (q : RecordingScan). laid (q .states) states) (sym whole-is);
+            statesCount = λ q. ap (λ (o : RecordingScan). length (o .states)) whole-is ∙ s .statesCount q;
+            statesPast = s .statesPast;
           }

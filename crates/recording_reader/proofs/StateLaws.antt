@@ -10,17 +10,16 @@ use Rattle.definitions.specs.Limits.{twoDigitControllers, recordingForm, record
 use Rattle.definitions.specs.Bounded.{pick}
 use Rattle.definitions.specs.Recordings.{stateOf, stateRefusal}
 use Rattle.definitions.specs.Lines.{lineLength, lineOf, isClosed, restOf, formed, malformed, onParsed, heading, worded, hexadecimal, twoFields, NextLine, refused, read}
-use Rattle.definitions.specs.RecordingText.{atWord, wordDigits, markDigits, stateForm, stateLine}
+use Rattle.definitions.specs.RecordingText.{atWord, wordDigits, markDigits, stateForm}
 use Rattle.theorems.proofs.Choice.{by-test, pick-true, pick-false}
-use Rattle.theorems.proofs.NextLines.{next-malformed, next-denied, next-read, next-back}
+use Rattle.theorems.proofs.NextLines.{next-malformed, next-denied, next-read}
 use Rattle.fields.specs.Forms.{Widths, exactPair}
 use Rattle.lines.specs.Reading.{endRefusal}
 use Rattle.fields.specs.declared.form.Pair.{Pair}
 use Rattle.fields.specs.declared.form.Pair.the-variants as pair
 use Rattle.fields.proofs.FormLaws.{worded-made, exact-pair, exact-pair-malformed}
 use Rattle.lines.proofs.NextLaws.{line-part, line-part-laws, next-unread, end-fine}
-use Rattle.recording_reader.specs.NextLines.{stateAnswer}
-use Rattle.recording_reader.specs.declared.line.StateRead.{StateRead}
+use Rattle.recording_reader.specs.NextLines.{stateAnswer, stateLine}
 use Rattle.recording_reader.specs.declared.line.StateRead.the-variants as state
 
 is-refused : (n : NextLine ℕ) (k : ℕ) → n ≡ refused k → state.Refused k ≡ stateAnswer n
@@ -88,31 +87,3 @@ module _ (C : ℕ) (masks : List ℕ) (k prior : ℕ) (t : List ℕ) (n : ℕ) (
           (next-read recordingLines recordingForm (stateForm C) (stateRefusal C masks k prior) t closed s form (sym js ∙ y))
 
 pub ruleset state-laws = (line-part-laws, digits-few, state-unread, state-malformed, state-refused, state-read)
-
--- ---- what a caller has of an answer
-pub record StateIs (C : ℕ) (masks : List ℕ) (k prior : ℕ) (t : List ℕ) (s : ℕ) : Type 0 where
-  pub is : stateLine C masks k prior t ≡ read s (restOf t)
-
-record ReadWith (n : NextLine ℕ) (s : ℕ) : Type 0 where
-  rest : List ℕ
-  is : n ≡ read s rest
-
-answer-read : (n : NextLine ℕ) (r : StateRead) (s : ℕ) → r ≡ stateAnswer n → r ≡ state.State s → ReadWith n s
-unfolding stateAnswer
-answer-read (refused j) r s e x = let z : _≡_ {A = ℕ} 0 1 = cc in absurd (omega arith)
-answer-read (read a rest) r s e x = let q : a ≡ s = cc in record { rest = rest; is = ap (λ (b : ℕ). read b rest) q }
-
-answer-refused : (n : NextLine ℕ) (r : StateRead) (k : ℕ) → r ≡ stateAnswer n → r ≡ state.Refused k → n ≡ refused k
-unfolding stateAnswer
-answer-refused (refused j) r k e x = let q : j ≡ k = cc in ap refused q
-answer-refused (read a rest) r k e x = let z : _≡_ {A = ℕ} 0 1 = cc in absurd (omega arith)
-
-module _ (C : ℕ) (masks : List ℕ) (k prior : ℕ) (t : List ℕ) (r : StateRead) (rs : r ≡ stateAnswer (stateLine C masks k prior t)) where
-  pub state-is : (s : ℕ) → r ≡ state.State s → StateIs C masks k prior t s
-  state-is s x =
-      let a = answer-read (stateLine C masks k prior t) r s rs x in
-      let b = next-back recordingLines recordingForm (stateForm C) (stateRefusal C masks k prior) t s (a .rest) (a .is) in
-      record { is = a .is ∙ ap (read s) (b .left) }
-
-  pub state-denied : (j : ℕ) → r ≡ state.Refused j → stateLine C masks k prior t ≡ refused j
-  state-denied j x = answer-refused (stateLine C masks k prior t) r j rs x

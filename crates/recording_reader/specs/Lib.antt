@@ -1,3 +1,4 @@
 pub mod NextLines
+pub mod Measured
 pub mod Scanning
 pub mod Reading

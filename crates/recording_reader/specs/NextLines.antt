@@ -4,7 +4,8 @@ use Prim.Native.Nat.{ℕ, _≤_}
 use mathlib.Core.List.{List}
 use Rattle.definitions.specs.Limits.{maxControllers, recordingForm, recordingLines}
 use Rattle.definitions.specs.Lines.{lineLength, Heading, NextLine, refused, read, nextLine}
-use Rattle.definitions.specs.RecordingText.{maskForm}
+use Rattle.definitions.specs.RecordingText.{maskForm, stateForm}
+use Rattle.definitions.specs.Recordings.{stateRefusal}
 use Rattle.recordings.specs.Unions.{unionRefusal}
 use Rattle.recording_reader.specs.declared.line.HeadingRead.{HeadingRead}
 use Rattle.recording_reader.specs.declared.line.HeadingRead.the-variants as first
@@ -31,6 +32,10 @@ stateAnswer (read s rest) = state.State s
 -- the next line, as an `owns` line, by the union of the earlier masks
 abbrev pub seenLine : (seen : ℕ) → List ℕ → NextLine ℕ
 seenLine seen t = nextLine recordingLines recordingForm maskForm (unionRefusal seen) t
+
+-- the next line, as the `at` line of state k in a recording without gauges; `prior` is the state before it
+abbrev pub stateLine : (C : ℕ) (masks : List ℕ) (k prior : ℕ) → List ℕ → NextLine ℕ
+stateLine C masks k prior t = nextLine recordingLines recordingForm (stateForm C) (stateRefusal C masks k prior) t
 
 -- what the line of a state asks of its caller
 pub record StateTurn (C len : ℕ) (t : List ℕ) : Type 0 where

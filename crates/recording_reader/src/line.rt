@@ -2,8 +2,8 @@
 // In each function the line has `len` bytes; nothing is kept of a line but what it gives.
 ghost use mathlib.Core.Path.{_≡_};
 ghost use Rattle.definitions.specs.Lines.{lineLength};
-ghost use Rattle.definitions.specs.RecordingText.{markDigits, recordingHeadingLine, stateLine};
-ghost use Rattle.recording_reader.specs.NextLines.{headingAnswer, maskAnswer, stateAnswer, seenLine, StateTurn};
+ghost use Rattle.definitions.specs.RecordingText.{markDigits, recordingHeadingLine};
+ghost use Rattle.recording_reader.specs.NextLines.{headingAnswer, maskAnswer, stateAnswer, seenLine, stateLine, StateTurn};
 use fields::form;
 use fields::form::Pair;
 use fields::number::Field;
@@ -79,7 +79,7 @@ pub fn next_mask(seen: u32, t: &[u8], len: usize) -> MaskRead
     MaskRead::Mask(mask)
 }
 
-// State k against `prior`, the state before it.
+// State k against `prior`, the state before it, in a recording without gauges.
 pub fn next_state(
     controllers: usize,
     masks: &[u32],

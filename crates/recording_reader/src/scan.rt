@@ -1,16 +1,20 @@
 // A recording text read line by line: masks and states into lent space, up to the first refusal.
 ghost use mathlib.Core.List.{[]};
 ghost use mathlib.Core.Path.{_≡_};
-ghost use lib.ListN.{drop};
-ghost use Rattle.definitions.specs.RecordingText.{scanMasks, scanStates};
+ghost use lib.ListN.{take, drop};
+ghost use Rattle.definitions.specs.RecordingText.{scanMasks, scanStates, gaugedAfterMasks};
+ghost use Rattle.gauges.specs.Scanning.{gaugesIn};
 ghost use Rattle.lines.specs.Reading.{LinesScanned};
-ghost use Rattle.recording_reader.specs.Scanning.{Room, MaskRoom, StateRoom, RecordingScanned};
+ghost use Rattle.recording_reader.specs.Scanning.{Room, MaskRoom, RestRoom, StateRoom, RestScanned, RecordingScanned};
 use super::line::HeadingRead;
 use super::line::MaskRead;
 use super::line::StateRead;
 use super::line::next_heading;
 use super::line::next_mask;
 use super::line::next_state;
+use super::measured::next_measured;
+use gauges::scan::Gauged;
+use gauges::scan::scan_gauges;
 use lines::Stopped;
 use lines::first_line;
 use rules::choice;
@@ -53,25 +57,30 @@ pub fn scan_masks(text: &[u8], start: usize, controllers: usize, masks: &mut [u3
     }
 }
 
-// The state lines from `start` to the end of the text, into `states`, up to the first refusal.
+// The state lines after the gauge lines, to the end of the text, into `states`, up to the first refusal.
 fn scan_states(
     text: &[u8],
-    start: usize,
+    gauges: Gauged,
     controllers: usize,
     count: usize,
     masks: &[u32],
     states: &mut [u64],
 ) -> Stopped
-    requires { ⌜ StateRoom controllers count start (now text) (now states) ⌝ }
-    ensures { λ r. ⌜ LinesScanned (scanStates controllers (now (masks .entry)) count 0 0 (drop start (now (text .entry)))) (now (text .entry)) (now (states .entry)) r (now (states .exit)) ⌝ }
+    requires { ⌜ StateRoom controllers count gauges (now text) (now states) ⌝ }
+    ensures { λ r. ⌜ LinesScanned (scanStates controllers (now (masks .entry)) (gaugesIn (gauges .count) (gauges .atoms) (gauges .thresholds)) count 0 0 (drop (gauges .at) (now (text .entry)))) (now (text .entry)) (now (states .entry)) r (now (states .exit)) ⌝ }
 {
-    let mut at = start;
+    let mut at = gauges.at;
     let mut prior: u64 = 0;
     let mut k = 0;
     while k < count {
         let t = &text[at..];
         let line = first_line(t);
-        match next_state(controllers, masks, k, prior, t, line.len) {
+        let read = if gauges.count == 0 {
+            next_state(controllers, masks, k, prior, t, line.len)
+        } else {
+            next_measured(controllers, masks, gauges, k, prior, t, line.len)
+        };
+        match read {
             StateRead::State(state) => {
                 states[k] = state;
                 prior = state;
@@ -99,6 +108,31 @@ fn unread(number: u8, at: usize) -> Scanned
     }
 }
 
+// What follows the mask lines: gauges and states, up to the first refusal.
+fn scan_rest(
+    text: &[u8],
+    start: usize,
+    controllers: usize,
+    count: usize,
+    masks: &[u32],
+    states: &mut [u64],
+) -> Scanned
+    requires { ⌜ RestRoom controllers count start (now text) (now states) ⌝ }
+    ensures { λ r. ⌜ RestScanned (gaugedAfterMasks controllers count (take controllers (now (masks .entry))) (drop start (now (text .entry)))) (take controllers (now (masks .entry))) controllers (now (text .entry)) (now (states .entry)) r (now (states .exit)) ⌝ }
+{
+    let gauges = scan_gauges(text, start);
+    if gauges.number != Refusal::NONE {
+        return unread(gauges.number, gauges.at);
+    }
+    let stopped = scan_states(text, gauges, controllers, count, masks, states);
+    Scanned {
+        number: stopped.number,
+        controllers: controllers,
+        count: count,
+        rest_at: stopped.at,
+    }
+}
+
 // Reads a recording text into `masks` and `states`, up to the first refusal.
 pub fn scan_recording(text: &[u8], masks: &mut [u32], states: &mut [u64]) -> Scanned
     requires { ⌜ Room (now masks) (now states) ⌝ }
@@ -111,13 +145,7 @@ pub fn scan_recording(text: &[u8], masks: &mut [u32], states: &mut [u64]) -> Sca
             if owned.number != Refusal::NONE {
                 return unread(owned.number, owned.at);
             }
-            let stopped = scan_states(text, owned.at, controllers, count, masks, states);
-            Scanned {
-                number: stopped.number,
-                controllers: controllers,
-                count: count,
-                rest_at: stopped.at,
-            }
+            scan_rest(text, owned.at, controllers, count, masks, states)
         }
         HeadingRead::Refused(number) => unread(number, 0),
     }

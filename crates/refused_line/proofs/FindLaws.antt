@@ -18,7 +18,7 @@ use Rattle.joint_reading.specs.declared.scan.Found.{Found}
 use Rattle.program_input.specs.Splitting.{SplitAt}
 use Rattle.program_input.specs.declared.Parts.{Parts}
 use Rattle.program_input.proofs.SplitLaws.{rule-counted, texts-fit}
-use Rattle.report.proofs.ReadTableLaws.{joint-low}
+use Rattle.report.proofs.ReadTableLaws.{joint-of-texts}
 use Rattle.refused_line.specs.Numbering.{lineNumber, LineStart}
 use Rattle.refused_line.specs.Finding.{Readable, partLine, textsLine, inputLine}
 use Rattle.refused_line.specs.declared.Line.{Line}
@@ -38,7 +38,7 @@ module _ (rule recording nodes masks states nodes′ masks′ states′ : List �
 
   found-part : partOf f ≡ jointPart rule recording
   unfolding readJointPart pick
-  found-part = j .part ∙ rw (number-is, ne-eqb (jointNumber rule recording) lentShort (λ q. omega (arith, joint-low rule recording)))
+  found-part = j .part ∙ rw (number-is, ne-eqb (jointNumber rule recording) lentShort (joint-of-texts rule recording .notLent))
 
   -- `in_tables`, accepted: `textsLine` is nowhere
   pub accepted-nowhere : f .number ≡ 0 → Nowhere ≡ textsLine rule recording

@@ -19,7 +19,8 @@ use Rattle.definitions.specs.RecordingText.{scanRecording, Part, jointNumber, j
 use Rattle.definitions.specs.Operations.{left, readJointNumber, readJointHeading, readJointNodes, readJointMasks, readJointStates, readJointPart}
 use Rattle.definitions.specs.Program.{refusedText, bytesOf, scanned}
 use Rattle.theorems.proofs.LentSpace.{left-accepted}
-use Rattle.theorems.proofs.RefusalBounds.{pick-low}
+use Rattle.theorems.proofs.RefusalBounds.{pick-of}
+use Rattle.theorems.proofs.TextNumbers.{recording-of-text}
 use Rattle.theorems.proofs.RoundTrips.{read-count, read-accepted}
 use Rattle.theorems.proofs.RuleNodes.{rule-few}
 use Rattle.theorems.proofs.RecordingLaws.{checked}
@@ -27,7 +28,6 @@ use Rattle.theorems.proofs.ScheduleIndependence.{Accepted}
 use Rattle.printing.specs.Printing.{Printed}
 use Rattle.report.proofs.ReportLaws.{refused-length}
 use Rattle.rule_reader.proofs.ReadLaws.{rule-low}
-use Rattle.recording_reader.proofs.ScanLaws.{recording-low}
 use Rattle.joint_reading.specs.Joining.{ReadJoint}
 use Rattle.report.specs.ReadTables.{HeadingLow, headingsIn, TextsRoom, ruleAt, recordingAt, RefusedTexts, AcceptedTexts, TextsRead}
 use Rattle.report.specs.declared.read.Read.{Read}
@@ -37,10 +37,20 @@ use Rattle.recordings.specs.declared.heading.RecordingHeading.{RecordingHeading
 use Rattle.report.proofs.RecordingAccepted.{TextsAccepted, texts-accepted, recording-fine, masks-count, states-count}
 
 -- ---- the number of a joint reading
-pub joint-low : (rule recording : List ℕ) → jointNumber rule recording < lentShort
+-- two digits, and not 13, which is for lent space alone
+pub record OfTexts (number : ℕ) : Type 0 where
+  pub few : number < 100
+  pub notLent : number ≡ lentShort → ⊥
+
+pub joint-of-texts : (rule recording : List ℕ) → OfTexts (jointNumber rule recording)
 unfolding jointNumber controllerRefusal
-joint-low rule recording =
-    pick-low _ _ _ lentShort (pick-low _ _ _ lentShort (pick-low _ accepted noController lentShort (omega arith) (omega arith)) (omega (arith, recording-low recording))) (omega (arith, rule-low rule))
+joint-of-texts rule recording =
+    let r = recording-of-text recording in
+    pick-of OfTexts _ _ _
+    (pick-of OfTexts _ _ _
+    (pick-of OfTexts _ accepted noController (record { few = omega arith; notLent = λ q. omega arith }) (record { few = omega arith; notLent = λ q. omega arith }))
+    (record { few = omega (arith, r .few); notLent = r .notLent }))
+    (record { few = omega (arith, rule-low rule); notLent = λ q. omega (arith, rule-low rule) })
 
 part-length : (t : List ℕ) (from count : ℕ) → length (take count (drop from t)) ≤ length t
 part-length t from count = rw (length-take, length-drop) (omega arith)
@@ -74,7 +84,7 @@ module _ (x y r : RefT (List ℕ)) (nodes masks states nodes′ masks′ states�
   module _ (z : getD heading 0 0 ≡ 0 → ⊥) where
     part-is : readJointPart (x .now) (y .now) nodes masks states ≡ jointPart (x .now) (y .now)
     unfolding readJointPart pick
-    part-is = rw (number-is, ne-eqb R lentShort (λ q. omega (arith, joint-low (x .now) (y .now))))
+    part-is = rw (number-is, ne-eqb R lentShort (joint-of-texts (x .now) (y .now) .notLent))
 
     chosen : (b : Bool) → (pick b x y) .now ≡ pick b (x .now) (y .now)
     unfolding pick
@@ -96,7 +106,7 @@ module _ (x y r : RefT (List ℕ)) (nodes masks states nodes′ masks′ states�
 
     pub refusal-room : length (refusedText (getD heading 0 0) (r .now)) ≤ length text
     refusal-room =
-        omega (arith, room .textRoom, refused-length (getD heading 0 0) (r .now) (omega (arith, first-is, joint-low (x .now) (y .now))) line-fits)
+        omega (arith, room .textRoom, refused-length (getD heading 0 0) (r .now) (omega (arith, first-is, joint-of-texts (x .now) (y .now) .few)) line-fits)
 
     -- `read_tables`, refused: the number and the line printed are those of the joint reading
     pub refusal-read : (e : ℕ) (text′ : List ℕ) → Printed (refusedText (getD heading 0 0) (r .now)) text 0 e text′ →

@@ -112,7 +112,7 @@ module _ (short : Bool) (controller count : ℕ) (ws : List ℕ) (mask : ℕ) (o
       let m : k < lentShort = rw e (rule-low R) in
       record {
         answered = rw (n, ne-eqb k 0 z);
-        table = c ∙ rw n (sym (left-refused k maxTableNodes _ o z (omega arith)));
+        table = c ∙ rw n (sym (left-refused k maxTableNodes _ o z (λ q. omega arith)));
       }
 
   -- `rewrite`, an accepted rule: `rewriteAnswer` is the count and the tops, `rewriteTable` the rewritten nodes

@@ -28,21 +28,13 @@ use Rattle.rule_reader.specs.declared.node_line.NodeRead.{NodeRead}
 use Rattle.rule_reader.specs.declared.node_line.NodeRead.the-variants.{Word, Refused}
 use Rattle.rule_reader.proofs.NodeLaws.{WordRead, word-read, word-refused}
 
--- ---- how many words, and which refusals
-node-low : (i : ℕ) (n : Node) → nodeRefusal false i n < noController
-unfolding nodeRefusal
-node-low i n =
-    pick-low _ _ _ noController (omega arith) (pick-low _ _ _ noController (omega arith) (pick-low _ _ _ noController (omega arith)
-    (pick-low _ _ _ noController (omega arith) (pick-low _ _ _ noController (omega arith) (omega arith)))))
-
+-- ---- how many words
 pub nodes-counted : (lines i : ℕ) (t : List ℕ) → Counted lines (scanNodes lines i t)
 unfolding scanNodes
-nodes-counted zero i t = counted-end _ t (pick-low (isEmpty t) _ _ noController (omega arith) (omega arith))
+nodes-counted zero i t = counted-end _ t
 nodes-counted (suc lines) i t =
     on-next (Counted (suc lines)) (nodeLine i t) _ _
-    (λ k e. counted-stop (suc lines) k t
-    (next-number ruleLines ruleForm nodeForm (nodeRefusal false i) t (λ n. n < noController) (omega arith) (omega arith) (λ n z. node-low i n) k e)
-    (next-some ruleLines ruleForm nodeForm (nodeRefusal false i) t (omega arith) (omega arith) k e))
+    (λ k e. counted-stop (suc lines) k t (next-some ruleLines ruleForm nodeForm (nodeRefusal false i) t (omega arith) (omega arith) k e))
     (λ n rest e. counted-more lines (nodeWord n) _ (nodes-counted lines (i + 1) rest))
 
 nodes-end : (i k : ℕ) (t : List ℕ) → k ≡ pick (isEmpty t) accepted ruleLines → scanNodes 0 i t ≡ stop k t

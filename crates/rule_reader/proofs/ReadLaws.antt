@@ -22,6 +22,7 @@ use Rattle.lent.specs.Space.{cleared}
 use Rattle.lent.proofs.LeftLaws.{laid-past, laid-begins, left-untouched, left-zeroed, left-filled}
 use Rattle.lines.specs.Reading.{FirstLine, LinesScanned}
 use Rattle.lines.specs.declared.Line.{Line}
+use Rattle.theorems.proofs.TextNumbers.{rule-text-number}
 use Rattle.lines.specs.declared.Stopped.{Stopped}
 use Rattle.lines.proofs.LoopLaws.{Counted}
 use Rattle.rule_reader.specs.NextLines.{headingAnswer}
@@ -34,23 +35,12 @@ use Rattle.rule_reader.specs.declared.RuleRead.the-variants.{Rule, Refus
 use Rattle.rule_reader.proofs.LoopLaws.{nodes-counted}
 
 -- ---- `scan_rule`
-heading-low : (c n : ℕ) → ruleHeadingRefusal c n < noController
-unfolding ruleHeadingRefusal
-heading-low c n = pick-low _ _ _ noController (omega arith) (omega arith)
-
-first-low : (t : List ℕ) (k : ℕ) → ruleHeadingLine t ≡ refused k → k < noController
-first-low t k =
-    next-number ruleLines ruleForm ruleHeading (λ h. ruleHeadingRefusal (h .first) (h .second)) t (λ n. n < noController) (omega arith) (omega arith)
-    (λ h z. heading-low (h .first) (h .second)) k
-
 first-some : (t : List ℕ) (k : ℕ) → ruleHeadingLine t ≡ refused k → k ≡ 0 → ⊥
 first-some t k = next-some ruleLines ruleForm ruleHeading (λ h. ruleHeadingRefusal (h .first) (h .second)) t (omega arith) (omega arith) k
 
 -- no refusal of a rule text is that of joining, or of lent space
 pub rule-low : (t : List ℕ) → (scanRule t) .number < noController
-unfolding scanRule
-rule-low t =
-    on-next (λ (s : RuleScan). s .number < noController) (ruleHeadingLine t) _ _ (λ k e. first-low t k e) (λ h rest e. nodes-counted (h .second) 0 rest .low)
+rule-low = rule-text-number (λ n. n < noController) (omega arith) (omega arith) (omega arith) (omega arith) (omega arith)
 
 module _ (t o : List ℕ) (l : Line) (is : FirstLine t l) (r : HeadingRead) (rs : r ≡ headingAnswer (ruleHeadingLine t)) where
   -- `scan_rule`, the first line is refused: `scanRule` stops there with its refusal
@@ -66,7 +56,7 @@ module _ (t o : List ℕ) (l : Line) (is : FirstLine t l) (r : HeadingRead) (rs 
         place = rw s (omega arith);
         inside = omega arith;
         rest = rw s;
-        low = omega (arith, first-low t k u);
+        low = omega (arith, ap (λ (q : RuleScan). q .number) s, rule-low t);
         few = omega arith;
         nodesLaid = rw s;
         nodesCount = λ q. absurd (first-some t k u q);
@@ -99,7 +89,7 @@ module _ (t o : List ℕ) (l : Line) (is : FirstLine t l) (r : HeadingRead) (rs 
         place = omega (arith, ap length rest-is, length-drop (v .at) t, m .inside);
         inside = m .inside;
         rest = rest-is;
-        low = omega (arith, m .number, counted .low);
+        low = omega (arith, m .number, ap (λ (q : RuleScan). q .number) whole, rule-low t);
         few = head .few;
         nodesLaid = rw whole (m .words);
         nodesCount = λ q. ap (λ (x : RuleScan). length (x .words)) whole ∙ counted .all (sym (m .number) ∙ q);
@@ -147,7 +137,7 @@ module _ (t o : List ℕ) where
           let y = eqb-false (r .number) 0 z in
           record {
             answered = rw is (refused-answer (r .number) _ y);
-            nodes = rw is (left-zeroed (r .number) maxRuleNodes ((scanRule t) .words) o o′ o″ (s .nodesPast) (s .low) y (rw (none-kept z) at c));
+            nodes = rw is (left-zeroed (r .number) maxRuleNodes ((scanRule t) .words) o o′ o″ (s .nodesPast) (λ q. omega (arith, s .low)) y (rw (none-kept z) at c));
           }
 
       -- `read_rule`, accepted: `readRuleAnswer` is controller and count, `readRuleNodes` the words and then zeros

@@ -76,7 +76,7 @@ module _ (c n : ℕ) (ws o : List ℕ) where
     unfolding writeRuleAnswer writeRuleText
     write-refused z o′ e = record {
       answered = rw is (refused-answer k _ z);
-      text = left-zeroed (writeRuleNumber rule o) maxRuleBytes (textOf rule) o o o′ refl (rw (number-checked long) (omega (arith, rule-low rule))) (λ q. z (sym is ∙ q)) e;
+      text = left-zeroed (writeRuleNumber rule o) maxRuleBytes (textOf rule) o o o′ refl (λ q. omega (arith, number-checked long, rule-low rule)) (λ q. z (sym is ∙ q)) e;
     }
 
     module _ (z : k ≡ 0) where

@@ -12,6 +12,8 @@ impl Limits {
 
     pub const ATOMS: usize = 32;
 
+    pub const GAUGES: usize = 8;
+
     pub const RULE_NODES: usize = 64;
 
     pub const TABLE_NODES: usize = 1024;
@@ -69,4 +71,8 @@ impl Refusal {
     pub const SESSION_FULL: u8 = 17;
 
     pub const SESSION_EMPTY: u8 = 18;
+
+    pub const SECOND_GAUGE: u8 = 19;
+
+    pub const GAUGE_BIT_SET: u8 = 20;
 }

@@ -7,14 +7,15 @@ use lib.ListN.{length, drop, drop-of-length-le, length-append}
 use native.Mathlib.Omega.{arith}
 use lib.Dec.{eqb}
 use borrow.Author.Tests.{ne-eqb, ltb-true, ltb-false}
-use Rattle.definitions.specs.Limits.{accepted, ruleForm, ruleLines, recordingForm, recordingLines}
+use Rattle.definitions.specs.Limits.{maxGauges, accepted, ruleForm, ruleLines, recordingForm, recordingLines}
 use Rattle.definitions.specs.Bounded.{pick}
 use Rattle.definitions.specs.Nodes.{nodeWord}
 use Rattle.definitions.specs.Tables.{nodeRefusal, ruleHeadingRefusal}
-use Rattle.definitions.specs.Recordings.{maskRefusal, stateRefusal, recordingHeadingRefusal}
+use Rattle.definitions.specs.Recordings.{maskRefusal, recordingHeadingRefusal}
 use Rattle.definitions.specs.Lines.{newline, carriageReturn, before, upTo, isEmpty, isReturn, isClosed, lineOf, restAt, restOf, withNewlines, Parsed, formed, malformed, onParsed, NextLine, refused, read, onNext, nextLine, Scan, stop, more}
 use Rattle.definitions.specs.RuleText.{nodeForm, scanNodes, ruleHeading, RuleScan, ruleStop, ruleNodes, scanRule}
-use Rattle.definitions.specs.RecordingText.{maskForm, stateForm, scanMasks, scanStates, recordingHeading, RecordingScan, recordingStop, recordingMasks, scanRecording, jointNumber, jointPart}
+use Rattle.definitions.specs.Gauges.{gaugeForm, gaugeRefusal, Gauges}
+use Rattle.definitions.specs.RecordingText.{maskForm, atForm, finishedState, atRefusal, scanMasks, GaugeScan, gaugesStop, gaugesMore, isGauge, scanGauges, scanStates, recordingHeading, RecordingScan, recordingStop, gaugedAfterMasks, openingMasks, scanOpening, scanRecording, jointNumber, jointPart}
 use Rattle.definitions.specs.Operations.{readRuleNumber, readRuleAnswer, readRuleNodes, readRecordingNumber, readRecordingAnswer, readRecordingMasks, readRecordingStates}
 use Rattle.definitions.specs.Operations.{readJointNumber, readJointHeading, readJointNodes, readJointMasks, readJointStates}
 use Rattle.definitions.specs.Program.{bytesOf}
@@ -22,7 +23,7 @@ use Rattle.theorems.proofs.Choice.{by-test}
 use Rattle.theorems.proofs.SplitLaws.{Without, split-front, split-rest, split-found}
 use Rattle.theorems.proofs.EndingLaws.{with-return, with-other, with-line, with-short, open-same, plain-same, line-without}
 use Rattle.theorems.proofs.NextLines.{next-back}
-use Rattle.theorems.proofs.TextEnds.{EndOf, rule-end, masks-end, recording-end, refusedLine, part-line}
+use Rattle.theorems.proofs.TextEnds.{EndOf, rule-end, masks-end, gauges-end, recording-end, refusedLine, part-line}
 
 -- byte 10 at each line, made again, changes nothing: bytes 13 13 10 end a line by their last two, and made 13 10 they end the line before them
 abbrev pub Settled : List ℕ → Type 0
@@ -147,13 +148,32 @@ masks-same (suc lines) earlier t p =
     reads-same t p recordingLines recordingForm maskForm (maskRefusal earlier) renewed (λ number. stop number t) (λ number. stop number (withNewlines t))
     (λ m rest. more m (scanMasks lines (m ∷ earlier) rest)) (λ k. refl) (λ m rest q. ap (more m) (masks-same lines (m ∷ earlier) rest q))
 
-states-same : (C : ℕ) (masks : List ℕ) (lines k prior : ℕ) (t : List ℕ) → Settled t
-    → scanStates C masks lines k prior (withNewlines t) ≡ renewed (scanStates C masks lines k prior t)
+abbrev renewedGauges : GaugeScan → GaugeScan
+renewedGauges s = record { number = s .number; gauges = s .gauges; rest = withNewlines (s .rest) }
+
+gauge-same : (t : List ℕ) → Settled t → isGauge (withNewlines t) ≡ isGauge t
+unfolding isGauge
+gauge-same t p = rw (line-same t p)
+
+gauges-same : (lines : ℕ) (earlier t : List ℕ) → Settled t → scanGauges lines earlier (withNewlines t) ≡ renewedGauges (scanGauges lines earlier t)
+unfolding scanGauges pick
+gauges-same zero earlier t p = refl
+gauges-same (suc lines) earlier t p =
+    by-test (isGauge t)
+    (λ z. rw (gauge-same t p, z) (reads-same t p recordingLines recordingForm gaugeForm (gaugeRefusal earlier) renewedGauges
+    (λ number. gaugesStop number t) (λ number. gaugesStop number (withNewlines t))
+    (λ g rest. gaugesMore g (scanGauges lines (g .atom ∷ earlier) rest)) (λ k. refl) (λ g rest q. ap (gaugesMore g) (gauges-same lines (g .atom ∷ earlier) rest q))))
+    (λ z. rw (gauge-same t p, z))
+
+states-same : (C : ℕ) (masks : List ℕ) (g : Gauges) (lines k prior : ℕ) (t : List ℕ) → Settled t
+    → scanStates C masks g lines k prior (withNewlines t) ≡ renewed (scanStates C masks g lines k prior t)
 unfolding scanStates
-states-same C masks zero k prior t p = rw (empty-same t)
-states-same C masks (suc lines) k prior t p =
-    reads-same t p recordingLines recordingForm (stateForm C) (stateRefusal C masks k prior) renewed (λ number. stop number t) (λ number. stop number (withNewlines t))
-    (λ s rest. more s (scanStates C masks lines (k + 1) s rest)) (λ j. refl) (λ s rest q. ap (more s) (states-same C masks lines (k + 1) s rest q))
+states-same C masks g zero k prior t p = rw (empty-same t)
+states-same C masks g (suc lines) k prior t p =
+    reads-same t p recordingLines recordingForm (atForm C (length (g .atoms))) (atRefusal C masks g k prior) renewed
+    (λ number. stop number t) (λ number. stop number (withNewlines t))
+    (λ m rest. more (finishedState g m) (scanStates C masks g lines (k + 1) (finishedState g m) rest)) (λ j. refl)
+    (λ m rest q. ap (more (finishedState g m)) (states-same C masks g lines (k + 1) (finishedState g m) rest q))
 
 -- ---- the two texts
 abbrev pub renewedRule : RuleScan → RuleScan
@@ -169,20 +189,35 @@ rule-same t p =
     reads-same t p ruleLines ruleForm ruleHeading (λ h. ruleHeadingRefusal (h .first) (h .second)) renewedRule (λ number. ruleStop number t) (λ number. ruleStop number (withNewlines t))
     (λ h rest. ruleNodes h (scanNodes (h .second) 0 rest)) (λ k. refl) (λ h rest q. ap (ruleNodes h) (nodes-same (h .second) 0 rest q))
 
-masked-same : (C N : ℕ) (m : Scan) → Settled (m .rest) → recordingMasks C N (renewed m) ≡ renewedRecording (recordingMasks C N m)
-unfolding pick
-masked-same C N m p =
-    rw (states-same C (m .words) N 0 0 (m .rest) p)
-    (by-test (eqb (m .number) accepted) (λ e. rw (e, pick)) (λ e. rw (e, pick)))
+pub gauged-same : (C N : ℕ) (masks t : List ℕ) → Settled t → gaugedAfterMasks C N masks (withNewlines t) ≡ renewedRecording (gaugedAfterMasks C N masks t)
+unfolding gaugedAfterMasks pick
+gauged-same C N masks t p =
+    let s = scanGauges maxGauges [] t in
+    let q = settled-end t (s .rest) (gauges-end maxGauges [] t) p in
+    rw (gauges-same maxGauges [] t p, states-same C masks (s .gauges) N 0 0 (s .rest) q)
+    (by-test (eqb (s .number) accepted) (λ e. rw (e, pick)) (λ e. rw (e, pick)))
+
+-- whatever follows the `owns` lines
+module _ (next : (C N : ℕ) (masks t : List ℕ) → RecordingScan)
+    (alike : (C N : ℕ) (masks t : List ℕ) → Settled t → next C N masks (withNewlines t) ≡ renewedRecording (next C N masks t)) where
+  masked-same : (C N : ℕ) (m : Scan) → Settled (m .rest) → openingMasks next C N (renewed m) ≡ renewedRecording (openingMasks next C N m)
+  unfolding pick
+  masked-same C N m p =
+      rw (alike C N (m .words) (m .rest) p)
+      (by-test (eqb (m .number) accepted) (λ e. rw (e, pick)) (λ e. rw (e, pick)))
+
+  pub opening-same : (t : List ℕ) → Settled t → scanOpening next (withNewlines t) ≡ renewedRecording (scanOpening next t)
+  unfolding scanOpening
+  opening-same t p =
+      reads-same t p recordingLines recordingForm recordingHeading (λ h. recordingHeadingRefusal (h .first) (h .second)) renewedRecording
+      (λ number. recordingStop number t) (λ number. recordingStop number (withNewlines t))
+      (λ h rest. openingMasks next (h .first) (h .second) (scanMasks (h .first) [] rest)) (λ k. refl)
+      (λ h rest q. ap (openingMasks next (h .first) (h .second)) (masks-same (h .first) [] rest q)
+      ∙ masked-same (h .first) (h .second) (scanMasks (h .first) [] rest) (settled-end rest ((scanMasks (h .first) [] rest) .rest) (masks-end (h .first) [] rest) q))
 
 pub recording-same : (t : List ℕ) → Settled t → scanRecording (withNewlines t) ≡ renewedRecording (scanRecording t)
 unfolding scanRecording
-recording-same t p =
-    reads-same t p recordingLines recordingForm recordingHeading (λ h. recordingHeadingRefusal (h .first) (h .second)) renewedRecording
-    (λ number. recordingStop number t) (λ number. recordingStop number (withNewlines t))
-    (λ h rest. recordingMasks (h .first) (h .second) (scanMasks (h .first) [] rest)) (λ k. refl)
-    (λ h rest q. ap (recordingMasks (h .first) (h .second)) (masks-same (h .first) [] rest q)
-    ∙ masked-same (h .first) (h .second) (scanMasks (h .first) [] rest) (settled-end rest ((scanMasks (h .first) [] rest) .rest) (masks-end (h .first) [] rest) q))
+recording-same t p = opening-same gaugedAfterMasks gauged-same t p
 
 -- ---- the joint reading
 module _ (rule recording : List ℕ) (p : Settled rule) (q : Settled recording) where

@@ -30,7 +30,7 @@ unfolding left pick
 left-accepted full content entry = refl
 
 -- after another refusal its full size is zero
-pub left-refused : (number full : ℕ) (content entry : List ℕ) → (number ≡ 0 → ⊥) → number < lentShort →
+pub left-refused : (number full : ℕ) (content entry : List ℕ) → (number ≡ 0 → ⊥) → (number ≡ lentShort → ⊥) →
     left number full content entry ≡ replicate full 0 ++ drop full entry
 unfolding left pick
-left-refused number full content entry n l = rw (ne-eqb number lentShort (λ e. omega arith), ne-eqb number 0 n)
+left-refused number full content entry n l = rw (ne-eqb number lentShort l, ne-eqb number 0 n)

@@ -47,6 +47,7 @@ pub mod DecimalLaws
 pub mod WordLaws
 pub mod FieldLaws
 pub mod NextLines
+pub mod MeasureLaws
 pub mod RuleTextSteps
 pub mod RuleTextBack
 pub mod RuleTextForth
@@ -61,6 +62,11 @@ pub mod ProgramEndings
 pub mod PartEndings
 pub mod OtherProgramEndings
 pub mod TextBeginnings
+pub mod BitLaws
+pub mod FinishedWords
+pub mod GaugeLines
+pub mod WithoutGauges
+pub mod FinishedTexts
 pub mod Phrases
 pub mod PhraseUnique
 pub mod SentenceTrees
@@ -69,6 +75,7 @@ pub mod OneLineMeaning
 pub mod OneLineTables
 pub mod OneLineAnswers
 pub mod FlatRefusal
+pub mod TextNumbers
 pub mod NumbersGone
 pub mod SessionChecks
 pub mod Sessions

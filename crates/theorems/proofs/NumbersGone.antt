@@ -5,22 +5,22 @@ use mathlib.Core.Bool.{Bool, true, false, _||_}
 use mathlib.Core.List.{List, [], _∷_}
 use lib.Dec.{eqb}
 use borrow.Author.Tests.{eqb-false}
-use Rattle.definitions.specs.Limits.{accepted, ruleForm, ruleLimits, ruleOperand, ruleLines, recordingForm, recordingLimits, masksMeet, recordingLines, outputRule, noController, lentShort, lineForm, bracketsDeep}
+use Rattle.definitions.specs.Limits.{accepted, ruleForm, ruleLimits, ruleOperand, ruleLines, recordingForm, recordingLimits, masksMeet, recordingLines, outputRule, noController, lentShort, lineForm, bracketsDeep, secondGauge, gaugeBitSet}
 use Rattle.definitions.specs.Bounded.{pick, orElse}
 use Rattle.definitions.specs.Nodes.{Node, nodeOf}
 use Rattle.definitions.specs.Tables.{Rule, Table, nodeRefusal, nodesRefusal, ruleHeadingRefusal, ruleRefusal, topsRefusal, tableRefusal}
-use Rattle.definitions.specs.Recordings.{Recording, stateRefusal, recordingHeadingRefusal, maskRefusal, recordingRefusal, controllerRefusal}
-use Rattle.definitions.specs.Lines.{Parsed, formed, malformed, onParsed, nextLine, refused, Scan}
-use Rattle.definitions.specs.RuleText.{nodeForm, nodeLine, scanNodes, ruleHeading, ruleHeadingLine, RuleScan, scanRule}
-use Rattle.definitions.specs.RecordingText.{maskForm, stateForm, maskLine, stateLine, scanMasks, scanStates, recordingHeading, recordingHeadingLine, RecordingScan, recordingMasks, scanRecording, jointNumber}
+use Rattle.definitions.specs.Recordings.{Recording, recordingRefusal, controllerRefusal}
+use Rattle.definitions.specs.Lines.{Parsed, formed, malformed, onParsed}
+use Rattle.definitions.specs.RuleText.{scanRule}
+use Rattle.definitions.specs.RecordingText.{scanRecording, jointNumber}
 use Rattle.definitions.specs.Operations.{readRuleNumber, writeRuleNumber, readRecordingNumber, readJointNumber, projectNumber, judgeLocalNumber, evidenceNumber, rewriteNumber, judgeRecordingNumber}
 use Rattle.definitions.specs.OneLineSigns.{Sign}
 use Rattle.definitions.specs.OneLineGrammar.{Tree}
 use Rattle.definitions.specs.OneLineReading.{signsOf, treeOf}
 use Rattle.definitions.specs.OneLine.{sentenceRefusal, lineRefusal, readLineNumber}
-use Rattle.theorems.proofs.Choice.{by-test, both-false}
-use Rattle.theorems.proofs.NextLines.{on-next, next-number}
-use Rattle.theorems.proofs.RefusalBounds.{pick-of, or-else-of, state-number, recording-number}
+use Rattle.theorems.proofs.Choice.{both-false}
+use Rattle.theorems.proofs.TextNumbers.{rule-text-number, recording-text-number}
+use Rattle.theorems.proofs.RefusalBounds.{pick-of, or-else-of, recording-number}
 
 -- neither of the two numbers
 pub record Given (number : ℕ) : Type 0 where
@@ -71,56 +71,14 @@ unfolding controllerRefusal
 controller-given C c = either-given _ accepted noController (given accepted refl) (given noController refl)
 
 -- ---- texts
-scanned-nodes : (lines i : ℕ) (t : List ℕ) → Given ((scanNodes lines i t) .number)
-unfolding scanNodes
-scanned-nodes zero i t = either-given _ accepted ruleLines (given accepted refl) (given ruleLines refl)
-scanned-nodes (suc lines) i t =
-    on-next (λ (s : Scan). Given (s .number)) (nodeLine i t) _ _
-    (next-number ruleLines ruleForm nodeForm (nodeRefusal false i) t Given (given ruleLines refl) (given ruleForm refl) (λ n z. node-given false i n))
-    (λ n rest e. scanned-nodes lines (i + 1) rest)
-
 scanned-rule : (t : List ℕ) → Given ((scanRule t) .number)
-unfolding scanRule
-scanned-rule t =
-    on-next (λ (s : RuleScan). Given (s .number)) (ruleHeadingLine t) _ _
-    (next-number ruleLines ruleForm ruleHeading (λ h. ruleHeadingRefusal (h .first) (h .second)) t Given (given ruleLines refl) (given ruleForm refl)
-    (λ h z. rule-heading-given (h .first) (h .second)))
-    (λ h rest e. scanned-nodes (h .second) 0 rest)
-
--- a refused line of a recording text, from its check
-line-given : {A : Type 0} (form : List ℕ → Parsed A) (check : A → ℕ) (t : List ℕ) → ((a : A) → Given (check a))
-    → (k : ℕ) → nextLine recordingLines recordingForm form check t ≡ refused k → Given k
-line-given form check t g = next-number recordingLines recordingForm form check t Given (given recordingLines refl) (given recordingForm refl) (λ a z. g a)
-
-mask-given : (earlier : List ℕ) (m : ℕ) → Given (maskRefusal earlier m)
-unfolding maskRefusal
-mask-given earlier m = either-given _ masksMeet accepted (given masksMeet refl) (given accepted refl)
-
-scanned-masks : (lines : ℕ) (earlier t : List ℕ) → Given ((scanMasks lines earlier t) .number)
-unfolding scanMasks
-scanned-masks zero earlier t = given accepted refl
-scanned-masks (suc lines) earlier t =
-    on-next (λ (s : Scan). Given (s .number)) (maskLine earlier t) _ _ (line-given maskForm (maskRefusal earlier) t (mask-given earlier))
-    (λ m rest e. scanned-masks lines (m ∷ earlier) rest)
-
-scanned-states : (C : ℕ) (masks : List ℕ) (lines k prior : ℕ) (t : List ℕ) → Given ((scanStates C masks lines k prior t) .number)
-unfolding scanStates
-scanned-states C masks zero k prior t = either-given _ accepted recordingLines (given accepted refl) (given recordingLines refl)
-scanned-states C masks (suc lines) k prior t =
-    on-next (λ (s : Scan). Given (s .number)) (stateLine C masks k prior t) _ _
-    (line-given (stateForm C) (stateRefusal C masks k prior) t (state-number Given (given accepted refl) (given recordingLimits refl) (given outputRule refl) C masks k prior))
-    (λ s rest e. scanned-states C masks lines (k + 1) s rest)
-
-scanned-masked : (C N : ℕ) (m : Scan) → Given (m .number) → Given ((recordingMasks C N m) .number)
-unfolding pick
-scanned-masked C N m g = by-test (eqb (m .number) accepted) (λ z. rw z (scanned-states C (m .words) N 0 0 (m .rest))) (λ z. rw z g)
+scanned-rule =
+    rule-text-number Given (given accepted refl) (given ruleForm refl) (given ruleLimits refl) (given ruleOperand refl) (given ruleLines refl)
 
 scanned-recording : (t : List ℕ) → Given ((scanRecording t) .number)
-unfolding scanRecording recordingHeadingRefusal
-scanned-recording t =
-    on-next (λ (s : RecordingScan). Given (s .number)) (recordingHeadingLine t) _ _
-    (line-given recordingHeading (λ h. recordingHeadingRefusal (h .first) (h .second)) t (λ h. either-given _ accepted recordingLimits (given accepted refl) (given recordingLimits refl)))
-    (λ h rest e. scanned-masked (h .first) (h .second) (scanMasks (h .first) [] rest) (scanned-masks (h .first) [] rest))
+scanned-recording =
+    recording-text-number Given (given accepted refl) (given recordingForm refl) (given recordingLimits refl) (given masksMeet refl) (given recordingLines refl)
+    (given outputRule refl) (given secondGauge refl) (given gaugeBitSet refl)
 
 joint-given : (rule recording : List ℕ) → Given (jointNumber rule recording)
 unfolding jointNumber

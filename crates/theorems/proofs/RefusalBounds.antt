@@ -5,11 +5,13 @@ use native.Mathlib.Omega.{arith}
 use mathlib.Core.Bool.{Bool, true, false}
 use mathlib.Core.List.{List, [], _∷_}
 use lib.Dec.{eqb}
-use Rattle.definitions.specs.Limits.{ruleLimits, ruleOperand, recordingLimits, masksMeet, recordingLines, outputRule, noController, lentShort, accepted}
+use Rattle.definitions.specs.Limits.{ruleLimits, ruleOperand, recordingLimits, masksMeet, recordingLines, outputRule, noController, lentShort, accepted, gaugeBitSet}
 use Rattle.definitions.specs.Bounded.{pick, orElse}
 use Rattle.definitions.specs.Nodes.{Node, nodeOf}
 use Rattle.definitions.specs.Tables.{Rule, Table, nodeRefusal, nodesRefusal, ruleHeadingRefusal, ruleRefusal, topsRefusal, tableRefusal}
 use Rattle.definitions.specs.Recordings.{Recording, masksOf, statesOf, stateRefusal, recordingHeadingRefusal, maskRefusal, masksRefusal, statesRefusal, recordingLinesRefusal, recordingRefusal, controllerRefusal}
+use Rattle.definitions.specs.Gauges.{Gauges}
+use Rattle.definitions.specs.RecordingText.{Measured, finishedState, atRefusal}
 
 pub pick-of : (P : ℕ → Type 0) (z : Bool) (a b : ℕ) → P a → P b → P (pick z a b)
 unfolding pick
@@ -63,6 +65,11 @@ module _ (P : ℕ → Type 0) (none : P accepted) where
     pub state-number : (C : ℕ) (masks : List ℕ) (k prior s : ℕ) → P (stateRefusal C masks k prior s)
     unfolding stateRefusal
     state-number C masks k prior s = pick-of P _ recordingLimits _ limits (pick-of P _ outputRule accepted output none)
+
+    pub at-number : P gaugeBitSet → (C : ℕ) (masks : List ℕ) (g : Gauges) (k prior : ℕ) (m : Measured) → P (atRefusal C masks g k prior m)
+    unfolding atRefusal
+    at-number set C masks g k prior m =
+        pick-of P _ recordingLimits _ limits (pick-of P _ gaugeBitSet _ set (state-number C masks k prior (finishedState g m)))
 
     states-number : (C : ℕ) (masks : List ℕ) (k prior : ℕ) (ss : List ℕ) → P (statesRefusal C masks k prior ss)
     unfolding statesRefusal

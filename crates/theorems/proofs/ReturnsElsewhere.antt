@@ -10,10 +10,11 @@ use borrow.Author.Tests.{ltb-true}
 use Rattle.definitions.specs.Limits.{ruleForm, ruleLines, recordingForm, recordingLines}
 use Rattle.definitions.specs.Nodes.{Unknown, Node, node}
 use Rattle.definitions.specs.Tables.{isUnknown, nodeRefusal, ruleHeadingRefusal}
-use Rattle.definitions.specs.Recordings.{maskRefusal, stateRefusal, recordingHeadingRefusal}
+use Rattle.definitions.specs.Recordings.{maskRefusal, recordingHeadingRefusal}
 use Rattle.definitions.specs.Lines.{tab, carriageReturn, before, isEmpty, has, upTo, isClosed, lineLength, lineOf, Parsed, formed, malformed, letters, Heading, refused, nextLine}
 use Rattle.definitions.specs.RuleText.{wordKind, unknownForm, nodeForm, nodeLine, ruleHeading, ruleHeadingLine, nodeText}
-use Rattle.definitions.specs.RecordingText.{maskForm, stateForm, maskLine, stateLine, recordingHeading, recordingHeadingLine}
+use Rattle.definitions.specs.Gauges.{Gauge, gaugeForm, gaugeRefusal, Gauges}
+use Rattle.definitions.specs.RecordingText.{maskForm, Measured, atForm, atRefusal, maskLine, gaugeLine, atLine, recordingHeading, recordingHeadingLine}
 use Rattle.theorems.proofs.Choice.{by-test, both-false, pick-other}
 use Rattle.theorems.proofs.Inversions.{first-picked, second-picked, never-formed}
 use Rattle.theorems.proofs.SplitLaws.{Without, without-whole}
@@ -22,7 +23,7 @@ use Rattle.theorems.proofs.NextLines.{by-form, next-open, next-malforme
 use Rattle.theorems.proofs.RuleTextSteps.{headingText}
 use Rattle.theorems.proofs.RuleTextBack.{operands-back, heading-back}
 use Rattle.theorems.proofs.RuleTextForth.{node-unbroken, heading-unbroken}
-use Rattle.theorems.proofs.AcceptedEndings.{heading-plain, mask-plain, state-plain}
+use Rattle.theorems.proofs.AcceptedEndings.{heading-plain, mask-plain, gauge-plain, at-plain}
 
 -- ---- of its form, a line holds no byte 13
 text-plain : (written s : List ℕ) → written ≡ s → Without carriageReturn written → has carriageReturn s ≡ false
@@ -52,7 +53,8 @@ pub record OfItsForm (s : List ℕ) : Type 0 where
   pub asNode : (n : Node) → nodeForm s ≡ formed n → has carriageReturn s ≡ false
   pub asRecordingHeading : (h : Heading) → recordingHeading s ≡ formed h → has carriageReturn s ≡ false
   pub asMask : (m : ℕ) → maskForm s ≡ formed m → has carriageReturn s ≡ false
-  pub asState : (C v : ℕ) → stateForm C s ≡ formed v → has carriageReturn s ≡ false
+  pub asGauge : (g : Gauge) → gaugeForm s ≡ formed g → has carriageReturn s ≡ false
+  pub asState : (C n : ℕ) (m : Measured) → atForm C n s ≡ formed m → has carriageReturn s ≡ false
 
 pub formed-lines-hold-no-return : (s : List ℕ) → OfItsForm s
 formed-lines-hold-no-return s = record {
@@ -60,7 +62,8 @@ formed-lines-hold-no-return s = record {
   asNode = node-plain s;
   asRecordingHeading = λ h e. without-whole carriageReturn s (heading-plain s h e);
   asMask = λ m e. without-whole carriageReturn s (mask-plain s m e);
-  asState = λ C v e. without-whole carriageReturn s (state-plain C s v e);
+  asGauge = λ g e. without-whole carriageReturn s (gauge-plain s g e);
+  asState = λ C n m e. without-whole carriageReturn s (at-plain C n s m e);
 }
 
 -- ---- a line that holds one
@@ -85,7 +88,8 @@ pub record Malformed (t : List ℕ) : Type 0 where
   pub asNode : (i : ℕ) → nodeLine i t ≡ refused ruleForm
   pub asRecordingHeading : recordingHeadingLine t ≡ refused recordingForm
   pub asMask : (earlier : List ℕ) → maskLine earlier t ≡ refused recordingForm
-  pub asState : (C : ℕ) (masks : List ℕ) (k prior : ℕ) → stateLine C masks k prior t ≡ refused recordingForm
+  pub asGauge : (earlier : List ℕ) → gaugeLine earlier t ≡ refused recordingForm
+  pub asState : (C : ℕ) (masks : List ℕ) (g : Gauges) (k prior : ℕ) → atLine C masks g k prior t ≡ refused recordingForm
 
 -- "A byte 13 anywhere else still makes the line malformed": the first line of t holds a byte 13, besides that of its ending
 pub returns-elsewhere-are-malformed : (t : List ℕ) → has carriageReturn (lineOf t) ≡ true → Malformed t
@@ -96,5 +100,6 @@ returns-elsewhere-are-malformed t h =
       asNode = λ i. refused-unformed t h ruleLines ruleForm nodeForm (nodeRefusal false i) (of .asNode);
       asRecordingHeading = refused-unformed t h recordingLines recordingForm recordingHeading (λ x. recordingHeadingRefusal (x .first) (x .second)) (of .asRecordingHeading);
       asMask = λ earlier. refused-unformed t h recordingLines recordingForm maskForm (maskRefusal earlier) (of .asMask);
-      asState = λ C masks k prior. refused-unformed t h recordingLines recordingForm (stateForm C) (stateRefusal C masks k prior) (of .asState C);
+      asGauge = λ earlier. refused-unformed t h recordingLines recordingForm gaugeForm (gaugeRefusal earlier) (of .asGauge);
+      asState = λ C masks g k prior. refused-unformed t h recordingLines recordingForm (atForm C (length (g .atoms))) (atRefusal C masks g k prior) (of .asState C (length (g .atoms)));
     }

@@ -8,13 +8,14 @@ use lib.Seq.{drop-drop}
 use lib.Dec.{eqb, leb}
 use native.Mathlib.Omega.{arith}
 use borrow.Author.Tests.{leb-true, leb-false}
-use Rattle.definitions.specs.Limits.{accepted, noController, ruleForm, ruleLines, recordingForm, recordingLines}
+use Rattle.definitions.specs.Limits.{maxGauges, accepted, noController, ruleForm, ruleLines, recordingForm, recordingLines}
 use Rattle.definitions.specs.Bounded.{pick}
 use Rattle.definitions.specs.Tables.{nodeRefusal, ruleHeadingRefusal}
-use Rattle.definitions.specs.Recordings.{maskRefusal, stateRefusal, recordingHeadingRefusal}
+use Rattle.definitions.specs.Recordings.{maskRefusal, recordingHeadingRefusal}
 use Rattle.definitions.specs.Lines.{lineOf, restAt, Parsed, read, nextLine, Scan}
 use Rattle.definitions.specs.RuleText.{nodeForm, nodeLine, scanNodes, ruleHeading, ruleHeadingLine, RuleScan, scanRule}
-use Rattle.definitions.specs.RecordingText.{maskForm, stateForm, maskLine, stateLine, scanMasks, scanStates, recordingHeading, recordingHeadingLine, RecordingScan, recordingMasks, scanRecording, lineIn, jointNumber, jointPart}
+use Rattle.definitions.specs.Gauges.{gaugeForm, gaugeRefusal, Gauges}
+use Rattle.definitions.specs.RecordingText.{maskForm, atForm, finishedState, atRefusal, maskLine, gaugeLine, atLine, scanMasks, GaugeScan, isGauge, scanGauges, scanStates, recordingHeading, recordingHeadingLine, RecordingScan, gaugedAfterMasks, openingMasks, scanOpening, scanRecording, lineIn, jointNumber, jointPart}
 use Rattle.definitions.specs.Program.{bytesOf}
 use Rattle.theorems.proofs.Choice.{by-test}
 use Rattle.theorems.proofs.NextLines.{next-back, on-next}
@@ -66,26 +67,48 @@ masks-end (suc lines) earlier t =
     on-next (λ (s : Scan). EndOf t (s .rest)) (maskLine earlier t) _ _ (λ k e. end-whole t)
     (λ m rest e. end-later t rest _ (next-end recordingLines recordingForm maskForm (maskRefusal earlier) t m rest e) (masks-end lines (m ∷ earlier) rest))
 
-states-end : (C : ℕ) (masks : List ℕ) (lines k prior : ℕ) (t : List ℕ) → EndOf t ((scanStates C masks lines k prior t) .rest)
-unfolding scanStates
-states-end C masks zero k prior t = end-whole t
-states-end C masks (suc lines) k prior t =
-    on-next (λ (s : Scan). EndOf t (s .rest)) (stateLine C masks k prior t) _ _ (λ j e. end-whole t)
-    (λ s rest e. end-later t rest _ (next-end recordingLines recordingForm (stateForm C) (stateRefusal C masks k prior) t s rest e) (states-end C masks lines (k + 1) s rest))
+pub gauges-end : (lines : ℕ) (earlier t : List ℕ) → EndOf t ((scanGauges lines earlier t) .rest)
+unfolding scanGauges pick
+gauges-end zero earlier t = end-whole t
+gauges-end (suc lines) earlier t =
+    by-test (isGauge t)
+    (λ z. rw z (on-next (λ (s : GaugeScan). EndOf t (s .rest)) (gaugeLine earlier t) _ _ (λ k e. end-whole t)
+    (λ g rest e. end-later t rest _ (next-end recordingLines recordingForm gaugeForm (gaugeRefusal earlier) t g rest e) (gauges-end lines (g .atom ∷ earlier) rest))))
+    (λ z. rw z (end-whole t))
 
-masked-end : (C N : ℕ) (m : Scan) (t : List ℕ) → EndOf t (m .rest) → EndOf t ((recordingMasks C N m) .rest)
-unfolding pick
-masked-end C N m t e =
-    by-test (eqb (m .number) accepted)
-    (λ z. rw z (end-later t (m .rest) _ e (states-end C (m .words) N 0 0 (m .rest))))
+states-end : (C : ℕ) (masks : List ℕ) (g : Gauges) (lines k prior : ℕ) (t : List ℕ) → EndOf t ((scanStates C masks g lines k prior t) .rest)
+unfolding scanStates
+states-end C masks g zero k prior t = end-whole t
+states-end C masks g (suc lines) k prior t =
+    on-next (λ (s : Scan). EndOf t (s .rest)) (atLine C masks g k prior t) _ _ (λ j e. end-whole t)
+    (λ m rest e. end-later t rest _ (next-end recordingLines recordingForm (atForm C (length (g .atoms))) (atRefusal C masks g k prior) t m rest e)
+    (states-end C masks g lines (k + 1) (finishedState g m) rest))
+
+pub gauged-end : (C N : ℕ) (masks t : List ℕ) → EndOf t ((gaugedAfterMasks C N masks t) .rest)
+unfolding gaugedAfterMasks pick
+gauged-end C N masks t =
+    let s = scanGauges maxGauges [] t in
+    let e = gauges-end maxGauges [] t in
+    by-test (eqb (s .number) accepted)
+    (λ z. rw z (end-later t (s .rest) _ e (states-end C masks (s .gauges) N 0 0 (s .rest))))
     (λ z. rw z e)
+
+-- whatever follows the `owns` lines
+module _ (next : (C N : ℕ) (masks t : List ℕ) → RecordingScan) (ends : (C N : ℕ) (masks t : List ℕ) → EndOf t ((next C N masks t) .rest)) where
+  masked-end : (C N : ℕ) (m : Scan) (t : List ℕ) → EndOf t (m .rest) → EndOf t ((openingMasks next C N m) .rest)
+  unfolding pick
+  masked-end C N m t e = by-test (eqb (m .number) accepted) (λ z. rw z (end-later t (m .rest) _ e (ends C N (m .words) (m .rest)))) (λ z. rw z e)
+
+  pub opening-end : (t : List ℕ) → EndOf t ((scanOpening next t) .rest)
+  unfolding scanOpening
+  opening-end t =
+      on-next (λ (s : RecordingScan). EndOf t (s .rest)) (recordingHeadingLine t) _ _ (λ k e. end-whole t)
+      (λ h rest e. masked-end (h .first) (h .second) (scanMasks (h .first) [] rest) t
+      (end-later t rest _ (next-end recordingLines recordingForm recordingHeading (λ x. recordingHeadingRefusal (x .first) (x .second)) t h rest e) (masks-end (h .first) [] rest)))
 
 pub recording-end : (t : List ℕ) → EndOf t ((scanRecording t) .rest)
 unfolding scanRecording
-recording-end t =
-    on-next (λ (s : RecordingScan). EndOf t (s .rest)) (recordingHeadingLine t) _ _ (λ k e. end-whole t)
-    (λ h rest e. masked-end (h .first) (h .second) (scanMasks (h .first) [] rest) t
-    (end-later t rest _ (next-end recordingLines recordingForm recordingHeading (λ x. recordingHeadingRefusal (x .first) (x .second)) t h rest e) (masks-end (h .first) [] rest)))
+recording-end t = opening-end gaugedAfterMasks gauged-end t
 
 -- ---- the part handed back
 -- the line at which the readings ended; for 11 the rule's first

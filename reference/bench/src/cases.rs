@@ -7,6 +7,7 @@ use crate::sessions::{self, Arrival, NewRule};
 use ragyvosin::{full, Joint};
 use reference::generate::random::Random;
 use reference::generate::sessions::contents;
+use reference::generate::texts::any_recording_text;
 use reference::model::session::Contents;
 use std::fmt::Debug;
 
@@ -84,6 +85,18 @@ impl Source {
                 LineInput::exact(&mut random, nodes * LINE_BYTES)
             }
             Source::Any => LineInput::any(&mut random),
+        };
+        (0..self.count()).map(|_| draw()).collect()
+    }
+
+    /// Recording texts with eight gauges; any text where any is asked for.
+    fn gauged(self) -> Vec<Vec<u8>> {
+        let mut random = Random::new(7);
+        let mut draw = || match self {
+            Source::Exact { nodes, states } | Source::Rewritten { nodes, states } => {
+                RuleInput::exact(&mut random, nodes, states).gauged(&mut random)
+            }
+            Source::Any => any_recording_text(&mut random, full::MASKS, full::STATES),
         };
         (0..self.count()).map(|_| draw()).collect()
     }
@@ -232,6 +245,15 @@ fn read_recording(plan: Plan) -> Box<dyn Timed> {
     boxed(plan, plan.source.rules(), ReadSpace::new(), sides)
 }
 
+/// A recording with gauges, read.
+fn read_gauges(plan: Plan) -> Box<dyn Timed> {
+    let sides: Sides<Vec<u8>, ReadSpace, _> = vec![
+        (Side::Proved, |text, l| ragyvosin::read_recording(text, &mut l.masks, &mut l.states)),
+        (Side::Plain, |text, l| read::read_recording(text, &mut l.masks, &mut l.states)),
+    ];
+    boxed(plan, plan.source.gauged(), ReadSpace::new(), sides)
+}
+
 fn read_joint(plan: Plan) -> Box<dyn Timed> {
     let sides: Sides<RuleInput, ReadSpace, _> = vec![
         (Side::Proved, |i, l| {
@@ -282,7 +304,7 @@ impl Plan {
             Source::Any => return "any".into(),
         };
         match self.operation {
-            "project" | "read_recording" | "arrive" => format!("{states}"),
+            "project" | "read_recording" | "read_gauges" | "arrive" => format!("{states}"),
             "read_line" => format!("{}", nodes * LINE_BYTES),
             "rewrite_plain" | "rewrite_short" | "read_rule" | "write_rule" => format!("{nodes}"),
             _ => format!("{nodes}x{states}"),
@@ -300,6 +322,7 @@ impl Plan {
             "read_line" => read_line(self),
             "write_rule" => write_rule(self),
             "read_recording" => read_recording(self),
+            "read_gauges" => read_gauges(self),
             "read_joint" => read_joint(self),
             "arrive" => arrive(self),
             "replace_rule" => replace_rule(self),
@@ -321,6 +344,7 @@ const OF_RULES: [&str; 14] = [
     "read_line",
     "write_rule",
     "read_recording",
+    "read_gauges",
     "read_joint",
     "arrive",
     "replace_rule",

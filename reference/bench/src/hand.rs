@@ -3,6 +3,7 @@
 
 pub mod check;
 pub mod evidence;
+pub mod gauges;
 pub mod line;
 pub mod plain;
 pub mod read;

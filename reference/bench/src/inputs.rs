@@ -1,6 +1,7 @@
 //! Inputs of exact sizes, drawn from the generators of the reference model.
 
 use ragyvosin::{Recording, Rule, Table};
+use reference::generate::gauges::{gauged_by, gauged_text};
 use reference::generate::lines;
 use reference::generate::random::Random;
 use reference::generate::recordings::{self, RecordingTable};
@@ -104,6 +105,11 @@ impl RuleInput {
         let mut input = RuleInput::of(random, rule, recording);
         (input.rule_text, input.recording_text) = texts::any_pair(random);
         input
+    }
+
+    /// The recording's text with as many gauges as there may be.
+    pub fn gauged(&self, random: &mut Random) -> Vec<u8> {
+        gauged_text(&gauged_by(random, &self.recording, limits::GAUGES))
     }
 
     pub fn rule(&self) -> Rule<'_> {

@@ -6,6 +6,7 @@ use reference::model::refusal::{BRACKETS_DEEP, LENT_SPACE};
 
 use crate::difference::Difference;
 use crate::expected;
+use crate::gauges::misgauge;
 use crate::input::{Input, GUARD};
 use crate::last_state::LastState;
 use crate::library;
@@ -56,6 +57,7 @@ impl<'a> Check<'a> {
             self.misrewritten(input, &mut expected);
             self.misstepped(input, &mut expected);
             self.of_eight(input, &mut expected);
+            self.misgauged(input, &mut expected);
         }
         // The wrapper panics where a part isn't within its text.
         let found = catch_unwind(AssertUnwindSafe(|| library::of(input)));
@@ -134,6 +136,17 @@ impl<'a> Check<'a> {
         let Some(Place::OfEight(of_eight)) = self.place(operation) else { return };
         let wrong = of_eight::outcome(of_eight, input, expected);
         if let Some(wrong) = wrong.filter(|_| self.wrong(operation, Place::OfEight(of_eight))) {
+            *expected = wrong;
+        }
+    }
+
+    /// Expects what a wrong reader of gauges answers, if it belongs here and is
+    /// another answer.
+    fn misgauged(&self, input: &Input, expected: &mut Outcome) {
+        let operation = input.operation();
+        let Some(Place::Misgauge(misgauge)) = self.place(operation) else { return };
+        let wrong = misgauge::outcome(misgauge, input, expected);
+        if let Some(wrong) = wrong.filter(|_| self.wrong(operation, Place::Misgauge(misgauge))) {
             *expected = wrong;
         }
     }

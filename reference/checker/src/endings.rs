@@ -80,7 +80,7 @@ const ENDINGS: [&[u8]; 7] = [b"\n", b"\r\n", b"\r\r\n", b"\r", b"", b"\n\r", b"\
 
 /// Small texts, line by line: accepted ones, one with an unknown word, one of
 /// a controller that the example doesn't have, and ones with a line too many.
-const TEXT_LINES: [(Kind, &[&[u8]]); 6] = [
+const TEXT_LINES: [(Kind, &[&[u8]]); 7] = [
     (Kind::Rule, &[b"rule\t0\t3", b"atom\t1", b"not\t0", b"until\t0\t1"]),
     (Kind::Rule, &[b"rule\t1\t2", b"true", b"foo\t1"]),
     (Kind::Rule, &[b"rule\t2\t1", b"true"]),
@@ -90,6 +90,10 @@ const TEXT_LINES: [(Kind, &[&[u8]]); 6] = [
         &[b"recording\t1\t2", b"owns\t00000001", b"at\t01\t00000000", b"at\t00\t00000001"],
     ),
     (Kind::Recording, &[b"recording\t1\t1", b"owns\t00000001", b"at\t00\t00000000", b"x"]),
+    (
+        Kind::Gauges,
+        &[b"recording\t1\t1", b"owns\t00000001", b"gauge\t3\t0.00", b"at\t00\t00000000\t0.00"],
+    ),
 ];
 
 /// Every choice of endings for the lines of a small text.
@@ -170,7 +174,7 @@ pub fn jobs(plan: &Plan) -> Vec<Job<'_>> {
     for (kind, lines) in TEXT_LINES {
         jobs.push(Box::new(move |check| every_choice(check, kind, lines)));
     }
-    for kind in [Kind::Rule, Kind::Recording] {
+    for kind in [Kind::Rule, Kind::Recording, Kind::Gauges] {
         for returned in RETURNED {
             jobs.push(Box::new(move |check| at_every_place(check, kind, returned)));
         }

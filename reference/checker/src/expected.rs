@@ -2,6 +2,7 @@
 
 use reference::generate::recordings::RecordingTable;
 use reference::generate::rules::{JudgeTable, RuleTable};
+use reference::model::gauges::{AsWorded, Gauging};
 use reference::model::{self, Source, Verdict};
 
 use crate::input::{Input, Lent, Space};
@@ -40,20 +41,28 @@ fn write_rule(rule: &RuleTable, text: Lent) -> Outcome {
 }
 
 /// The outcome of reading a recording text.
-fn read_recording(text: &[u8], masks: Lent, states: Lent) -> Outcome {
+fn read_recording(gauging: &dyn Gauging, text: &[u8], [masks, states]: [Lent; 2]) -> Outcome {
     let (mut masks, mut states) = (Space::new(masks), Space::new(states));
-    let answer = model::read_recording(text, masks.lend(), states.lend());
+    let answer = model::read_recording_by(gauging, text, masks.lend(), states.lend());
     let answer = answer.map(|heading| [heading.controllers, heading.states]);
     outcome(answer, vec![masks.words(), states.words()])
 }
 
 /// The outcome of the joint reading.
-fn read_joint(rule: &[u8], recording: &[u8], [nodes, masks, states]: [Lent; 3]) -> Outcome {
+fn read_joint(gauging: &dyn Gauging, [rule, recording]: [&[u8]; 2], lent: [Lent; 3]) -> Outcome {
+    let [nodes, masks, states] = lent;
     let (mut nodes, mut masks) = (Space::new(nodes), Space::new(masks));
     let mut states = Space::new(states);
     let mut heading = [0; 5];
-    let part =
-        model::read_joint(rule, recording, nodes.lend(), masks.lend(), states.lend(), &mut heading);
+    let part = model::read_joint_by(
+        gauging,
+        rule,
+        recording,
+        nodes.lend(),
+        masks.lend(),
+        states.lend(),
+        &mut heading,
+    );
     let mut values: Vec<usize> = heading[1..].iter().map(|value| *value as usize).collect();
     values.extend([usize::from(part.source == Source::Recording), part.start, part.length]);
     let lent = vec![nodes.words(), masks.words(), states.words()];
@@ -121,13 +130,20 @@ pub fn evidence(
 
 /// What the model answers and leaves.
 pub fn of(input: &Input) -> Outcome {
+    of_by(&AsWorded, input)
+}
+
+/// The same with gauges read otherwise than they are worded.
+pub fn of_by(gauging: &dyn Gauging, input: &Input) -> Outcome {
     match input {
         Input::ReadRule { text, nodes } => read_rule(text, *nodes),
         Input::ReadLine { controller, line, nodes } => read_line(*controller, line, *nodes),
         Input::WriteRule { rule, text } => write_rule(rule, *text),
-        Input::ReadRecording { text, masks, states } => read_recording(text, *masks, *states),
+        Input::ReadRecording { text, masks, states } => {
+            read_recording(gauging, text, [*masks, *states])
+        }
         Input::ReadJoint { rule, recording, nodes, masks, states } => {
-            read_joint(rule, recording, [*nodes, *masks, *states])
+            read_joint(gauging, [rule, recording], [*nodes, *masks, *states])
         }
         Input::Project { recording, controller, places } => {
             project(recording, *controller, *places)

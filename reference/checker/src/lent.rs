@@ -1,6 +1,7 @@
 //! Lent space of every length, from none to three entries past the full size,
 //! for every lent slice of every operation.
 
+use reference::generate::gauges::{gauged_by, gauged_text};
 use reference::generate::random::Random;
 use reference::generate::recordings;
 use reference::generate::rules::{self, RuleTable};
@@ -71,7 +72,10 @@ fn large_inputs() -> Vec<Input> {
     while table.count < limits::TABLE_NODES {
         table = rules::table(&mut random, limits::TABLE_NODES);
     }
+    let gauged = gauged_text(&gauged_by(&mut random, &recording, limits::GAUGES));
     vec![
+        Input::read_recording(gauged.clone()),
+        Input::read_joint(rule_text(&rule), gauged),
         Input::read_rule(rule_text(&rule)),
         Input::read_line(limits::CONTROLLERS - 1, [&[b'!'; 63][..], b"a31"].concat()),
         Input::write_rule(rule.clone()),

@@ -14,6 +14,7 @@ mod early;
 mod endings;
 mod evidence;
 mod expected;
+mod gauges;
 mod growth;
 mod input;
 mod last_state;

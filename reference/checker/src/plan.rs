@@ -31,6 +31,12 @@ pub struct Plan {
     pub session_calls: usize,
     /// Batches of long lists, and of calls on any contents.
     pub session_batches: usize,
+    /// All texts of gauges' fields over a few bytes up to this length.
+    pub field_bytes: usize,
+    /// From one number, or small list of gauges, to the next.
+    pub gauge_step: usize,
+    /// Batches of random recordings with gauges.
+    pub gauge_batches: usize,
     /// All small rules on all small recordings.
     pub small: SmallPlan,
 }
@@ -76,6 +82,9 @@ impl Plan {
             early_batches: 100,
             session_calls: 4,
             session_batches: 100,
+            field_bytes: 6,
+            gauge_step: 1,
+            gauge_batches: 200,
             small: SmallPlan {
                 nodes: 3,
                 states: 4,
@@ -103,6 +112,8 @@ impl Plan {
             evidence_batches: 2000,
             early_batches: 1000,
             session_batches: 1000,
+            field_bytes: 7,
+            gauge_batches: 2000,
             small: SmallPlan {
                 every_recording_nodes: 3,
                 every_recording_states: 4,
@@ -133,6 +144,9 @@ impl Plan {
             early_batches: 2,
             session_calls: 2,
             session_batches: 1,
+            field_bytes: 1,
+            gauge_step: 7,
+            gauge_batches: 2,
             small: SmallPlan {
                 nodes: 1,
                 states: 2,

@@ -28,11 +28,13 @@ pub enum Section {
     Early,
     /// Sessions: lists of calls, and calls on any contents.
     Sessions,
+    /// Recordings with gauges.
+    Gauges,
 }
 
 impl Section {
     /// Every section, in order.
-    pub const ALL: [Section; 11] = [
+    pub const ALL: [Section; 12] = [
         Section::Trials,
         Section::Texts,
         Section::Endings,
@@ -44,6 +46,7 @@ impl Section {
         Section::Evidence,
         Section::Early,
         Section::Sessions,
+        Section::Gauges,
     ];
 
     /// The name that is printed and that `--only` takes.
@@ -60,6 +63,7 @@ impl Section {
             Section::Evidence => "evidence",
             Section::Early => "early",
             Section::Sessions => "sessions",
+            Section::Gauges => "gauges",
         }
     }
 }
@@ -119,6 +123,8 @@ pub enum Operation {
     Remaining,
     /// A session with a new rule is one that had it from the first state.
     Renewed,
+    /// A recording with gauges is read as that of its finished words.
+    Finished,
     /// No rule's rewritings exceed those of the rule that grows most.
     Growth,
     /// The program.
@@ -185,6 +191,7 @@ impl Operation {
             Operation::Early => "early",
             Operation::Remaining => "remaining",
             Operation::Renewed => "renewed",
+            Operation::Finished => "finished",
             Operation::Growth => "growth",
             Operation::Program => "judge",
             Operation::RuleProgram => "rule",
@@ -206,7 +213,7 @@ pub struct Counts {
 }
 
 /// How many refusal numbers there are, with 0 for accepted.
-const NUMBERS: usize = 19;
+const NUMBERS: usize = 21;
 
 /// What was compared of all kinds, and how often each number was answered.
 #[derive(Default, Debug)]
@@ -220,8 +227,8 @@ const ANSWERABLE: &[(Operation, &[usize])] = &[
     (Operation::ReadRule, &[0, 1, 2, 3, 4, 13]),
     (Operation::ReadLine, &[0, 2, 13, 15, 16]),
     (Operation::WriteRule, &[0, 2, 3, 4, 13]),
-    (Operation::ReadRecording, &[0, 5, 6, 7, 8, 10, 13]),
-    (Operation::ReadJoint, &[0, 1, 2, 3, 4, 5, 6, 7, 8, 10, 11, 13]),
+    (Operation::ReadRecording, &[0, 5, 6, 7, 8, 10, 13, 19, 20]),
+    (Operation::ReadJoint, &[0, 1, 2, 3, 4, 5, 6, 7, 8, 10, 11, 13, 19, 20]),
     (Operation::Project, &[0, 6, 7, 8, 10, 11, 13]),
     (Operation::JudgeLocal, &[0, 2, 3, 4, 6, 7, 8, 10, 11]),
     (Operation::RewritePlain, &[0, 2, 3, 4, 13]),
@@ -233,9 +240,9 @@ const ANSWERABLE: &[(Operation, &[usize])] = &[
     (Operation::Withdraw, &[0, 6, 13, 18]),
     (Operation::ReplaceRule, &[0, 2, 3, 4, 11, 13]),
     (Operation::SessionVerdicts, &[0, 2, 3, 4, 6, 7, 8, 10, 11]),
-    (Operation::Program, &[0, 1, 2, 3, 4, 5, 6, 7, 8, 10, 11, 14]),
+    (Operation::Program, &[0, 1, 2, 3, 4, 5, 6, 7, 8, 10, 11, 14, 19, 20]),
     (Operation::RuleProgram, &[0, 1, 2, 14, 15, 16]),
-    (Operation::WhyProgram, &[0, 1, 2, 3, 4, 5, 6, 7, 8, 10, 11, 14]),
+    (Operation::WhyProgram, &[0, 1, 2, 3, 4, 5, 6, 7, 8, 10, 11, 14, 19, 20]),
     (Operation::LongestProgram, &[0, 1, 2, 14]),
     (Operation::WatchProgram, &[0, 1, 2, 3, 4, 5, 6, 7, 8, 10, 11, 14, 17, 18]),
 ];

@@ -10,6 +10,7 @@ use reference::model::rule::{Node, ATOM, END, NEXT, NOT, OR, PREV, RUN, SINCE, T
 
 use crate::check::Check;
 use crate::difference::Difference;
+use crate::gauges;
 use crate::input::Input;
 use crate::outcome::Outcome;
 use crate::sessions;
@@ -55,7 +56,12 @@ fn never_runs(words: &[u64]) -> RecordingTable {
 
 /// Compares an outcome with the number that document 01 names, and with its
 /// values when it is accepted.
-fn named(check: &mut Check, input: Input, number: u8, values: &[usize]) -> Result<(), Difference> {
+pub fn named(
+    check: &mut Check,
+    input: Input,
+    number: u8,
+    values: &[usize],
+) -> Result<(), Difference> {
     let found = check.compare(&input)?;
     let values = if number == 0 { values.to_vec() } else { vec![0; found.values.len()] };
     answered(check, input, found, number, values)
@@ -205,7 +211,7 @@ fn joint_readings(check: &mut Check) -> Result<(), Difference> {
 
 /// A refused text, rule or recording: the number, and the part of it that is
 /// handed back.
-fn handed_back(
+pub fn handed_back(
     check: &mut Check,
     texts: [&[u8]; 2],
     number: u8,
@@ -619,5 +625,6 @@ pub fn jobs<'a>() -> Vec<Job<'a>> {
         Box::new(eleven_masks_lent),
     ];
     jobs.extend(sessions::trials::jobs());
+    jobs.extend(gauges::trials::jobs());
     jobs
 }

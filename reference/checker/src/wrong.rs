@@ -5,6 +5,7 @@ use std::sync::atomic::{AtomicBool, Ordering};
 
 use reference::model::early::Asked;
 
+use crate::gauges::misgauge::Misgauge;
 use crate::misread::Misreading;
 use crate::misrewrite::Misrewriting;
 use crate::misstep::Misstep;
@@ -59,6 +60,8 @@ pub enum Place {
     Open,
     /// What a session answers or leaves, by one that is kept wrongly.
     Miskept(Miskept),
+    /// What is read of a recording, by a wrong reader of gauges.
+    Misgauge(Misgauge),
 }
 
 impl Place {
@@ -90,6 +93,7 @@ impl Place {
             Place::LeftOut(Asked::OwnAtoms) => "another_own_atom",
             Place::Open => "open",
             Place::Miskept(miskept) => miskept.name(),
+            Place::Misgauge(misgauge) => misgauge.name(),
         }
     }
 }
@@ -141,6 +145,11 @@ impl Wrong {
             let section = Section::Sessions;
             Wrong { section, operation, place: Place::Miskept(miskept) }
         }));
+        for operation in [Operation::ReadRecording, Operation::ReadJoint] {
+            let place = |misgauge| Place::Misgauge(misgauge);
+            let wrong = |place| Wrong { section: Section::Gauges, operation, place };
+            all.extend(Misgauge::ALL.map(|(misgauge, _)| wrong(place(misgauge))));
+        }
         all
     }
 }
@@ -263,6 +272,9 @@ fn lists() -> Vec<(Section, Operation, &'static [Place])> {
         (Section::Sessions, Operation::SessionVerdicts, &[Value]),
         (Section::Sessions, Operation::Remaining, &[Value]),
         (Section::Sessions, Operation::Renewed, &[Content]),
+        (Section::Gauges, Operation::ReadRecording, &[Number, Value, Content, Unused, Zero]),
+        (Section::Gauges, Operation::ReadJoint, &[Number, Value, Line, Content, Untouched]),
+        (Section::Gauges, Operation::Finished, &[Content]),
     ]);
     lists
 }

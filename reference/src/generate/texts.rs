@@ -1,6 +1,7 @@
 //! Rule texts, recording texts and program inputs, and damage of every kind.
 
 use super::endings::any_endings;
+use super::gauges::with_or_without;
 use super::random::Random;
 use super::recordings::{self, RecordingTable};
 use super::rules::{self, RuleTable};
@@ -107,10 +108,13 @@ pub enum Damage {
     UnknownWord,
     /// The last field of a line is dropped.
     FieldDropped,
+    /// A threshold or value, or any field of digits where there is none, becomes
+    /// one at or beyond the limits or not of its form.
+    GaugeChanged,
 }
 
 /// Every kind of damage.
-pub const DAMAGES: [Damage; 27] = [
+pub const DAMAGES: [Damage; 28] = [
     Damage::ByteChanged,
     Damage::OddByte,
     Damage::ByteDropped,
@@ -138,6 +142,7 @@ pub const DAMAGES: [Damage; 27] = [
     Damage::FieldsAdded,
     Damage::UnknownWord,
     Damage::FieldDropped,
+    Damage::GaugeChanged,
 ];
 
 /// Numbers at and beyond each limit, and beyond what a machine word holds;
@@ -184,8 +189,61 @@ pub const NUMBERS: [&str; 39] = [
     "340282366920938463463374607431768211457",
 ];
 
+/// Thresholds and values at and beyond each limit, and beyond what a machine word
+/// holds, and what is nearly of their form.
+pub const GAUGE_NUMBERS: [&str; 48] = [
+    "0.00",
+    "-0.00",
+    "0.01",
+    "-0.01",
+    "0.09",
+    "0.10",
+    "9.99",
+    "-10.00",
+    "327.66",
+    "327.67",
+    "327.68",
+    "-327.67",
+    "-327.68",
+    "-327.69",
+    "328.00",
+    "655.35",
+    "655.36",
+    "-655.36",
+    "21474836.48",
+    "42949672.96",
+    "92233720368547758.08",
+    "184467440737095516.16",
+    "-184467440737095516.15",
+    "18446744073709551616.00",
+    "99999999999999999999.00",
+    "-99999999999999999999.99",
+    "00.50",
+    "-00.01",
+    "01.00",
+    ".50",
+    "-.50",
+    "+1.00",
+    "--1.00",
+    "-+1.00",
+    "1.5",
+    "1.",
+    "1",
+    "-1",
+    "-",
+    ".",
+    "",
+    "1.500",
+    "1,50",
+    "1.5.0",
+    "1.-5",
+    "1.5x",
+    " 1.50",
+    "1e2",
+];
+
 /// Words that may or may not be first words of lines.
-const WORDS: [&str; 21] = [
+const WORDS: [&str; 22] = [
     "true",
     "atom",
     "not",
@@ -199,6 +257,7 @@ const WORDS: [&str; 21] = [
     "rule",
     "recording",
     "owns",
+    "gauge",
     "at",
     "unti",
     "untill",
@@ -219,19 +278,29 @@ fn places(text: &[u8], condition: impl Fn(u8) -> bool) -> Vec<usize> {
     (0..text.len()).filter(|at| condition(text[*at])).collect()
 }
 
-/// The starts and ends of the fields that are all digits.
-fn numbers(text: &[u8]) -> Vec<(usize, usize)> {
+/// The starts and ends of the fields that a condition picks; none is empty.
+fn picked_fields(text: &[u8], condition: impl Fn(&[u8]) -> bool) -> Vec<(usize, usize)> {
     let mut found = Vec::new();
     let mut start = 0;
     for end in 0..=text.len() {
         if end == text.len() || matches!(text[end], 9 | 10 | 13) {
-            if start < end && text[start..end].iter().all(u8::is_ascii_digit) {
+            if start < end && condition(&text[start..end]) {
                 found.push((start, end));
             }
             start = end + 1;
         }
     }
     found
+}
+
+/// The starts and ends of the fields that are all digits.
+fn numbers(text: &[u8]) -> Vec<(usize, usize)> {
+    picked_fields(text, |field| field.iter().all(u8::is_ascii_digit))
+}
+
+/// The starts and ends of the fields with a point.
+fn pointed(text: &[u8]) -> Vec<(usize, usize)> {
+    picked_fields(text, |field| field.contains(&b'.'))
 }
 
 /// Puts bytes in place of a part of a text.
@@ -269,9 +338,11 @@ fn damage_lines(random: &mut Random, text: &mut Vec<u8>, damage: Damage) {
         Damage::LineDropped => drop(lines.remove(one)),
         Damage::LineDoubled => lines.insert(one, lines[one].clone()),
         _ => {
-            let closed: [&[u8]; 6] =
-                [b"\n", b"\r\n", b"true\n", b"at\t00\t00000000\r\n", b"-\n", b"-\r\n"];
-            let more: [&[u8]; 6] = [b"x", b"\t\r", b"\r", b"x\r", b"x\r\r\n", b"\r\r\n"];
+            let gauge: &[u8] = b"gauge\t3\t0.50\n";
+            let closed: [&[u8]; 7] =
+                [b"\n", b"\r\n", b"true\n", b"at\t00\t00000000\r\n", b"-\n", b"-\r\n", gauge];
+            let more: [&[u8]; 7] =
+                [b"x", b"\t\r", b"\r", b"x\r", b"x\r\r\n", b"\r\r\n", &gauge[..13]];
             let extra = if random.once_in(2) { closed } else { more };
             lines.push(random.pick(&extra).to_vec());
         }
@@ -298,6 +369,16 @@ fn damage_number(random: &mut Random, text: &mut Vec<u8>, damage: Damage) {
             replace(text, start, end, b"99999999999999999999");
         }
         _ => replace(text, start, start, b"0"),
+    }
+}
+
+/// Damage to a threshold or value, or to a field of digits where there is none.
+fn damage_gauge(random: &mut Random, text: &mut Vec<u8>) {
+    let pointed = pointed(text);
+    let fields = if pointed.is_empty() { numbers(text) } else { pointed };
+    if !fields.is_empty() {
+        let (start, end) = random.pick(&fields);
+        replace(text, start, end, random.pick(&GAUGE_NUMBERS).as_bytes());
     }
 }
 
@@ -367,7 +448,7 @@ fn damage_fields(random: &mut Random, text: &mut Vec<u8>, damage: Damage) {
     match damage {
         Damage::WordChanged => replace(&mut line, 0, word, random.pick(&WORDS).as_bytes()),
         Damage::FieldsAdded => {
-            line.extend(random.pick(&["\t", "\t0", "\t1\t2", "\tx", " 0"]).bytes())
+            line.extend(random.pick(&["\t", "\t0", "\t1\t2", "\tx", " 0", "\t0.00"]).bytes())
         }
         Damage::UnknownWord => line = unknown_line(random),
         _ => line.truncate(line.iter().rposition(|byte| *byte == 9).unwrap_or(0)),
@@ -398,6 +479,7 @@ pub fn damage(random: &mut Random, text: &[u8], damage: Damage) -> Vec<u8> {
             damage_number(random, &mut text, damage);
         }
         Damage::MarkDigits => damage_mark_digits(random, &mut text),
+        Damage::GaugeChanged => damage_gauge(random, &mut text),
         Damage::LastNewlineDropped => drop(text.pop()),
         Damage::WordChanged | Damage::FieldsAdded | Damage::UnknownWord | Damage::FieldDropped => {
             damage_fields(random, &mut text, damage)
@@ -433,19 +515,21 @@ pub fn any_rule_text(random: &mut Random, most: usize) -> Vec<u8> {
     }
 }
 
-/// A recording text, likewise.
+/// A recording text, likewise, with gauges or without.
 pub fn any_recording_text(
     random: &mut Random,
     most_controllers: usize,
     most_states: usize,
 ) -> Vec<u8> {
-    let valid = recording_text(&recordings::recording(random, most_controllers, most_states));
+    let valid = recordings::recording(random, most_controllers, most_states);
+    let valid = with_or_without(random, &valid);
     let valid = any_endings(random, valid);
     match random.below(12) {
         0..=2 => valid,
         3 | 4 => {
             let damaged = recordings::damaged_recording(random, most_controllers, most_states);
-            any_endings(random, recording_text(&damaged))
+            let damaged = with_or_without(random, &damaged);
+            any_endings(random, damaged)
         }
         5 => any_bytes(random),
         _ => damaged(random, &valid),
@@ -454,7 +538,7 @@ pub fn any_recording_text(
 
 /// A few bytes: any at all, or those that texts are made of.
 pub fn any_bytes(random: &mut Random) -> Vec<u8> {
-    let common = b"\t\t\n\n01289afrutlenaotwx-\r\0\xff";
+    let common = b"\t\t\n\n01289afrutlenaotwx-.\r\0\xff";
     let any = random.once_in(2);
     (0..random.below(60)).map(|_| if any { random.byte() } else { random.pick(common) }).collect()
 }
@@ -466,7 +550,8 @@ pub fn any_pair(random: &mut Random) -> (Vec<u8>, Vec<u8>) {
     let controller = random.below(recording.controllers);
     let rule = rules::rule_for(random, controller, limits::RULE_NODES);
     let rule = any_endings(random, rule_text(&rule));
-    let recording = any_endings(random, recording_text(&recording));
+    let recording = with_or_without(random, &recording);
+    let recording = any_endings(random, recording);
     match random.below(8) {
         0 | 1 => (rule, recording),
         2 => {

@@ -29,3 +29,9 @@ pub const LINE_BYTES: usize = 1024;
 pub const OPEN_BRACKETS: usize = 16;
 /// "Lent space for fewer than 8,192 pairs is refused with 13."
 pub const PAIRS: usize = 8192;
+/// "a recording may have up to 8 lines `gauge`".
+pub const GAUGES: usize = 8;
+/// "Thresholds and values are signed, from -327.68": in hundredths.
+pub const LEAST: i128 = -32768;
+/// "to 327.67": in hundredths.
+pub const MOST: i128 = 32767;

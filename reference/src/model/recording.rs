@@ -93,6 +93,22 @@ pub fn obeys_output_rule(masks: &[u32], before: State, after: State) -> bool {
     })
 }
 
+/// Refusal 6 of a state: a run mark at C or above.
+pub fn check_marks(controllers: usize, state: State) -> Result<(), u8> {
+    if (controllers..32).any(|controller| bit(state.scheduled, controller)) {
+        return Err(refusal::RECORDING_LIMIT);
+    }
+    Ok(())
+}
+
+/// Refusal 10 of a state after the one before it, if there is one.
+pub fn check_output(masks: &[u32], before: Option<State>, state: State) -> Result<(), u8> {
+    if before.is_some_and(|before| !obeys_output_rule(masks, before, state)) {
+        return Err(refusal::OUTPUT_RULE);
+    }
+    Ok(())
+}
+
 /// Refusals 6 and 10 of a state after the one before it, if there is one, in a
 /// recording of `controllers` controllers.
 pub fn check_state(
@@ -101,13 +117,8 @@ pub fn check_state(
     before: Option<State>,
     state: State,
 ) -> Result<(), u8> {
-    if (controllers..32).any(|controller| bit(state.scheduled, controller)) {
-        return Err(refusal::RECORDING_LIMIT);
-    }
-    if before.is_some_and(|before| !obeys_output_rule(masks, before, state)) {
-        return Err(refusal::OUTPUT_RULE);
-    }
-    Ok(())
+    check_marks(controllers, state)?;
+    check_output(masks, before, state)
 }
 
 /// Refusal 7 of the masks that are there, C at most.

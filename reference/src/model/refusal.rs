@@ -32,3 +32,7 @@ pub const BRACKETS_DEEP: u8 = 16;
 pub const SESSION_FULL: u8 = 17;
 /// A state is withdrawn from a session that holds none.
 pub const SESSION_EMPTY: u8 = 18;
+/// A second gauge for an atom.
+pub const GAUGE_TWICE: u8 = 19;
+/// A gauge's bit is already set in the word.
+pub const GAUGE_SET: u8 = 20;

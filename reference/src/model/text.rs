@@ -3,6 +3,7 @@
 
 use std::ops::Range;
 
+use super::gauges::{AsWorded, Before, Gauge, Gauging, Hundredths, Measured};
 use super::recording::{self, Recording, State};
 use super::rule::{self, Language, Node, Rule, KIND_WORDS};
 use super::{limits, refusal};
@@ -73,6 +74,12 @@ impl Lines<'_> {
                 read(&self.text[line.clone()]).map_err(|number| RefusedLine { number, line })
             }
         }
+    }
+
+    /// Is the next line a closed one with this first field?
+    fn next_is(&self, word: &[u8]) -> bool {
+        let next = closed_line(self.text, self.start);
+        next.is_some_and(|(line, _)| fields(&self.text[line])[0] == word)
     }
 
     /// "for a line too many the first extra one" (up to its ending or the end).
@@ -206,23 +213,45 @@ pub fn mark_digits(controllers: usize) -> usize {
     }
 }
 
-/// The line `at`, run marks, word, in a recording of so many controllers.
-pub fn state_of_line(controllers: usize, line: &[u8]) -> Result<State, u8> {
+/// The line `gauge`, atom, threshold.
+fn gauge_of_line(gauging: &dyn Gauging, line: &[u8]) -> Result<Gauge, u8> {
     let fields = fields(line);
-    if fields.len() != 3 || fields[0] != b"at" {
+    if fields.len() != 3 || fields[0] != b"gauge" {
+        return Err(refusal::RECORDING_FORM);
+    }
+    let atom = decimal(fields[1]).ok_or(refusal::RECORDING_FORM)?;
+    let threshold = gauging.number(fields[2]).ok_or(refusal::RECORDING_FORM)?;
+    Ok(Gauge { atom, threshold })
+}
+
+/// The line `at`, run marks, word, in a recording of so many controllers; with
+/// so many gauges "each `at` line then ends with one value per gauge".
+fn measured_of_line(
+    gauging: &dyn Gauging,
+    controllers: usize,
+    gauges: usize,
+    line: &[u8],
+) -> Result<Measured, u8> {
+    let fields = fields(line);
+    if fields.len() != 3 + gauges || fields[0] != b"at" {
         return Err(refusal::RECORDING_FORM);
     }
     let scheduled =
         hexadecimal(fields[1], mark_digits(controllers)).ok_or(refusal::RECORDING_FORM)?;
     let atoms = hexadecimal(fields[2], 8).ok_or(refusal::RECORDING_FORM)?;
-    Ok(State { atoms, scheduled })
+    let values = fields[3..].iter().map(|field| gauging.number(field));
+    let values: Option<Vec<Hundredths>> = values.collect();
+    let values = values.ok_or(refusal::RECORDING_FORM)?;
+    Ok(Measured { state: State { atoms, scheduled }, values })
 }
 
-/// A recording text: its lines (5, 6, 7, 10 of each), then the line count (8).
-pub fn read_recording(text: &[u8]) -> Result<Recording, RefusedLine> {
-    let mut lines =
-        Lines { text, start: 0, form: refusal::RECORDING_FORM, lines: refusal::RECORDING_LINES };
-    let (controllers, length) = lines.read(recording_heading)?;
+/// The line `at` of a session, whose "arriving words are finished ones".
+pub fn state_of_line(controllers: usize, line: &[u8]) -> Result<State, u8> {
+    Ok(measured_of_line(&AsWorded, controllers, 0, line)?.state)
+}
+
+/// The masks of a recording text: 5 and 7 of each line.
+fn masks_of_lines(lines: &mut Lines, controllers: usize) -> Result<Vec<u32>, RefusedLine> {
     let mut masks = Vec::new();
     for _ in 0..controllers {
         masks.push(lines.read(|line| {
@@ -231,12 +260,43 @@ pub fn read_recording(text: &[u8]) -> Result<Recording, RefusedLine> {
             Ok(mask)
         })?);
     }
-    let mut states = Vec::new();
+    Ok(masks)
+}
+
+/// "After the `owns` lines a recording may have up to 8 lines `gauge`": 5, 6 and
+/// 19 of each.
+fn gauges_of_lines(gauging: &dyn Gauging, lines: &mut Lines) -> Result<Vec<Gauge>, RefusedLine> {
+    let mut gauges = Vec::new();
+    while gauges.len() < gauging.most() && lines.next_is(b"gauge") {
+        gauges.push(lines.read(|line| {
+            let gauge = gauge_of_line(gauging, line)?;
+            gauging.check_gauge(&gauges, gauge)?;
+            Ok(gauge)
+        })?);
+    }
+    Ok(gauges)
+}
+
+/// A recording text: its lines (5, 6, 7, 19, 20, 10 of each), then the line
+/// count (8).
+pub fn read_recording(text: &[u8]) -> Result<Recording, RefusedLine> {
+    read_recording_by(&AsWorded, text)
+}
+
+/// The same with gauges read otherwise than they are worded.
+pub fn read_recording_by(gauging: &dyn Gauging, text: &[u8]) -> Result<Recording, RefusedLine> {
+    let mut lines =
+        Lines { text, start: 0, form: refusal::RECORDING_FORM, lines: refusal::RECORDING_LINES };
+    let (controllers, length) = lines.read(recording_heading)?;
+    let masks = masks_of_lines(&mut lines, controllers)?;
+    let gauges = gauges_of_lines(gauging, &mut lines)?;
+    let mut states: Vec<State> = Vec::new();
     for _ in 0..length {
         states.push(lines.read(|line| {
-            let state = state_of_line(controllers, line)?;
-            recording::check_state(controllers, &masks, states.last().copied(), state)?;
-            Ok(state)
+            let measured = measured_of_line(gauging, controllers, gauges.len(), line)?;
+            let state = states.last().copied();
+            let before = Before { controllers, masks: &masks, gauges: &gauges, state };
+            gauging.check_state(before, &measured)
         })?);
     }
     lines.finish()?;

@@ -79,10 +79,20 @@ fn output_broken(masks: &[u32], before: u64, state: u64) -> bool {
 
 /// One state against the state before it, if there is one: 6, 10.
 pub fn state(controllers: usize, masks: &[u32], before: Option<u64>, state: u64) -> Result<(), u8> {
-    let marks = state >> limits::ATOMS;
-    if marks >> controllers != 0 {
+    marks(controllers, state)?;
+    output(masks, before, state)
+}
+
+/// Run marks of the controllers that there are.
+pub fn marks(controllers: usize, state: u64) -> Result<(), u8> {
+    if state >> limits::ATOMS >> controllers != 0 {
         return Err(refusal::RECORDING_LIMIT);
     }
+    Ok(())
+}
+
+/// The output rule against the state before.
+pub fn output(masks: &[u32], before: Option<u64>, state: u64) -> Result<(), u8> {
     if before.is_some_and(|before| output_broken(masks, before, state)) {
         return Err(refusal::OUTPUT_RULE);
     }

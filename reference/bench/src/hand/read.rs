@@ -2,6 +2,7 @@
 //! fields by their tabs.
 
 use super::check;
+use super::gauges::{hundredths, Gauges, Numbers};
 use super::node::{self, ATOM, END, NEXT, NOT, OR, PREV, RUN, SINCE, TRUE, UNTIL};
 use ragyvosin::{full, Joint};
 use reference::model::{limits, refusal};
@@ -50,6 +51,12 @@ impl<'a> Lines<'a> {
         let value = read(line).map_err(|number| self.refused(number))?;
         self.start += end + 1;
         Ok(value)
+    }
+
+    /// Does the next line have this first field?
+    fn next_is(&self, word: &[u8]) -> bool {
+        let rest = self.text[self.start..].strip_prefix(word);
+        rest.is_some_and(|rest| matches!(rest.first(), Some(b'\t' | b'\r' | b'\n')))
     }
 
     /// No line may be left.
@@ -187,16 +194,45 @@ fn mask_line(seen: u32, line: &[u8]) -> Result<u32, u8> {
     Ok(mask)
 }
 
-/// The word of a state line of a recording of so many controllers.
-fn state_line(controllers: usize, line: &[u8]) -> Option<u64> {
+/// The word of a state line of a recording of so many controllers, and its
+/// values, one for each gauge.
+fn state_line(controllers: usize, gauges: usize, line: &[u8]) -> Option<(u64, Numbers)> {
     let (word, rest) = split(line)?;
     if word != b"at" {
         return None;
     }
-    let (marks, atoms) = split(rest)?;
+    let (marks, rest) = split(rest)?;
+    let mut fields = rest.split(|byte| *byte == b'\t');
+    let atoms = fields.next()?;
+    let mut values = [0; limits::GAUGES];
+    for value in &mut values[..gauges] {
+        *value = hundredths(fields.next()?)?;
+    }
+    if fields.next().is_some() {
+        return None;
+    }
     let digits = if controllers > limits::TWO_DIGIT_CONTROLLERS { 3 } else { 2 };
     let (marks, atoms) = (hexadecimal(marks, digits)?, hexadecimal(atoms, 8)?);
-    Some(u64::from(marks) << 32 | u64::from(atoms))
+    Some((u64::from(marks) << 32 | u64::from(atoms), values))
+}
+
+/// A gauge line's atom and threshold.
+fn gauge_line(line: &[u8]) -> Option<(usize, i32)> {
+    let (_, rest) = split(line)?;
+    let (atom, threshold) = split(rest)?;
+    Some((decimal(atom)?, hundredths(threshold)?))
+}
+
+/// The gauges of the lines after the masks, eight at most.
+fn scan_gauges(lines: &mut Lines) -> Result<Gauges, Refused> {
+    let mut gauges = Gauges::default();
+    while gauges.count < limits::GAUGES && lines.next_is(b"gauge") {
+        lines.read(|line| {
+            let (atom, threshold) = gauge_line(line).ok_or(refusal::RECORDING_FORM)?;
+            gauges.take(atom, threshold)
+        })?;
+    }
+    Ok(gauges)
 }
 
 /// C and N of a recording, its masks and states into lent space.
@@ -217,11 +253,15 @@ fn scan_recording(
         *mask = lines.read(|line| mask_line(seen, line))?;
         seen |= *mask;
     }
+    let gauges = scan_gauges(&mut lines)?;
     let mut before = None;
     for word in states[..count].iter_mut() {
         *word = lines.read(|line| {
-            let state = state_line(controllers, line).ok_or(refusal::RECORDING_FORM)?;
-            check::state(controllers, masks, before, state)?;
+            let line = state_line(controllers, gauges.count, line);
+            let (state, values) = line.ok_or(refusal::RECORDING_FORM)?;
+            check::marks(controllers, state)?;
+            let state = gauges.finish(state, &values)?;
+            check::output(masks, before, state)?;
             Ok(state)
         })?;
         before = Some(*word);

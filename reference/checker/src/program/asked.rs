@@ -11,7 +11,9 @@ use crate::difference::Difference;
 use crate::evidence::far_reaching;
 use crate::input::Input;
 use crate::plan::Plan;
-use crate::program::judged::{accepted_input, damaged_input, edges, ending_edges, partings};
+use crate::program::judged::{
+    accepted_input, damaged_input, edges, ending_edges, gauge_edges, partings,
+};
 use crate::program::{listed, random, require, Expected, WHY};
 use crate::tally::Operation;
 use crate::trials::{example_rule, recording_r, widest};
@@ -95,7 +97,7 @@ fn refused_texts() -> Vec<Vec<u8>> {
 /// The inputs of the program of document 01 after each first line in turn, odd
 /// first lines, and the input with the longest output that we know of.
 fn asked_edges() -> Vec<Vec<u8>> {
-    let texts = [refused_texts(), ending_edges(), partings(), edges()].concat();
+    let texts = [refused_texts(), ending_edges(), partings(), edges(), gauge_edges()].concat();
     let firsts = FIRSTS.iter().cycle();
     let mut inputs: Vec<Vec<u8>> =
         texts.iter().zip(firsts).map(|(texts, first)| after(first, texts)).collect();

@@ -1,11 +1,15 @@
 //! Inputs of the program of document 01.
 
 use reference::generate::endings::{any_endings, with_returns};
+use reference::generate::gauge_trials::{text, TRIALS};
+use reference::generate::gauges::{gauged_by, gauged_text, with_or_without, LEAST};
 use reference::generate::random::Random;
 use reference::generate::recordings::RecordingTable;
 use reference::generate::texts::{self, program_input, recording_text, rule_text};
 use reference::generate::{recordings, rules};
-use reference::model::limits::{CONTROLLERS, PROGRAM_INPUT, RULE_NODES, STATES};
+use reference::model::limits::{CONTROLLERS, GAUGES, PROGRAM_INPUT, RULE_NODES, STATES};
+use reference::model::longest_rule;
+use reference::model::text::write_rule;
 
 use crate::check::Check;
 use crate::difference::Difference;
@@ -130,12 +134,43 @@ pub fn edges() -> Vec<Vec<u8>> {
     inputs
 }
 
-/// An accepted input up to all limits.
+/// The example with gauges for both atoms, whose finished words are its own: it
+/// prints what it printed.
+fn gauged_example(check: &mut Check) -> Result<(), Difference> {
+    let recording = "recording 2 5; owns 00000001; owns 00000002; gauge 1 -0.50; gauge 0 5.00; \
+        at 01 00000000 -0.50 4.99; at 02 00000000 0.00 5.00; at 01 00000000 -0.51 327.67; \
+        at 02 00000000 -327.68 0.00; at 00 00000000 1.00 -5.00";
+    let input = program_input(&rule_text(&example_rule()), &text(recording));
+    let output = "local 3\nown yes no\nplain 55 yes no\nshort 43 yes no\n".replace(' ', "\t");
+    let expected = Expected { output: output.into_bytes(), errors: Vec::new() };
+    require(check, JUDGE, &input, &expected, &[])?;
+    require(check, JUDGE, &with_returns(&input, |_| true), &expected, &[])
+}
+
+/// The trials of gauges, after a rule; and the longest recording text that is
+/// accepted.
+pub fn gauge_edges() -> Vec<Vec<u8>> {
+    let rule = b"rule\t0\t1\natom\t3\n";
+    let mut inputs: Vec<Vec<u8>> =
+        TRIALS.iter().map(|(lines, _)| program_input(rule, &text(lines))).collect();
+    let (masks, states) = (vec![0; CONTROLLERS], vec![0; STATES]);
+    let table = RecordingTable { controllers: CONTROLLERS, length: STATES, masks, states };
+    let mut longest = gauged_by(&mut Random::new(1), &table, GAUGES);
+    longest.gauges = (24..32).map(|atom| (atom, LEAST + 1)).collect();
+    longest.values = vec![vec![LEAST; GAUGES]; STATES];
+    let rule = write_rule(&longest_rule(RULE_NODES));
+    let accepted = program_input(&rule, &gauged_text(&longest));
+    inputs.extend([with_returns(&accepted, |_| true), accepted]);
+    inputs
+}
+
+/// An input up to all limits, accepted but for now and then a gauge.
 pub fn accepted_input(random: &mut Random) -> Vec<u8> {
     let recording = recordings::recording(random, CONTROLLERS, STATES);
     let controller = random.below(recording.controllers);
     let rule = rules::rule_for(random, controller, RULE_NODES);
-    any_endings(random, program_input(&rule_text(&rule), &recording_text(&recording)))
+    let recording = with_or_without(random, &recording);
+    any_endings(random, program_input(&rule_text(&rule), &recording))
 }
 
 /// An accepted input with a few damages of any kinds.
@@ -143,8 +178,8 @@ pub fn damaged_input(random: &mut Random) -> Vec<u8> {
     let recording = recordings::recording(random, CONTROLLERS, 6);
     let controller = random.below(recording.controllers);
     let rule = rules::rule_for(random, controller, 6);
-    let input = program_input(&rule_text(&rule), &recording_text(&recording));
-    let input = any_endings(random, input);
+    let recording = with_or_without(random, &recording);
+    let input = any_endings(random, program_input(&rule_text(&rule), &recording));
     texts::damaged(random, &input)
 }
 
@@ -160,7 +195,8 @@ fn any_input(random: &mut Random) -> Vec<u8> {
 /// All runs of the program.
 pub fn jobs(plan: &Plan) -> Vec<Job<'_>> {
     let mut jobs: Vec<Job> = vec![Box::new(mid_step)];
-    for inputs in [ending_edges(), partings(), edges()] {
+    jobs.push(Box::new(gauged_example));
+    for inputs in [ending_edges(), partings(), edges(), gauge_edges()] {
         jobs.extend(listed(JUDGE, inputs));
     }
     jobs.push(Box::new(example));

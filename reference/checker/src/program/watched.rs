@@ -180,6 +180,8 @@ fn events() -> Vec<Vec<u8>> {
         "at 00 00000000\rwithdraw\n",
         "at 00 00000000\n\r\nwithdraw\r",
         "at ff 00000000\n",
+        "gauge 3 0.00\n",
+        "at 00 00000000 0.00\n",
     ];
     texts.extend(odd.map(|line| [&state[..], &tabbed(line)].concat()));
     texts

@@ -1,6 +1,6 @@
--- `scan_recording` meets its contract: one law for each return, and the room that masks and states ask (RecordingLaws).
+-- `scan_recording` meets its contract: one law for each return, and the room that masks and the rest ask (RecordingLaws: heading-refused, mask-room, masks-refused, rest-room, recording-scanned).
 use native.Mathlib.Omega.{arith}
-use Rattle.recording_reader.proofs.RecordingLaws.{heading-refused, mask-room, masks-refused, state-room, recording-scanned}
+use Rattle.recording_reader.proofs.RecordingLaws.{heading-refused, mask-room, masks-refused, rest-room, recording-scanned}
 use borrow.Author.Needs.{needs}
 use Rattle.recording_reader.proofs.scan.scan_recording.Statement.{statement}
 use Rattle.recording_reader.proofs.scan.scan_recording.Tie as tie
@@ -26,8 +26,8 @@ same-length c = omega arith
 returns : tie.Need-returns
 returns c = search masks-refused
 
-scan-states-requires : tie.Need-scan-states-requires
-scan-states-requires c κs = search state-room
+scan-rest-requires : tie.Need-scan-rest-requires
+scan-rest-requires c κs = search rest-room
 
 enum-known-number : tie.Need-enum-known-number
 enum-known-number c = search needs
@@ -58,7 +58,7 @@ scan-recording-spec =
     unread-requires
     same-length
     returns
-    scan-states-requires
+    scan-rest-requires
     enum-known-number
     unread-requires-2
     same-length-2

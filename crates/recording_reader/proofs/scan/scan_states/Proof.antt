@@ -1,15 +1,17 @@
--- `scan_states` meets its contract (LoopLaws: state-next-fits, states-start, states-next, states-refused, states-done).
+-- `scan_states` meets its contract (LoopLaws: state-next-fits, states-start, states-next, measured-next, states-refused, measured-refused, states-done).
+use Prim.Native.Nat.{_-_}
+use Rattle.recording_reader.proofs.LoopLaws.{state-next-fits, StatesLeft, states-start, states-next, measured-next, states-refused, measured-refused, states-done}
+use mathlib.Core.Logic.{⊎-elim}
 use borrow.Author.Needs.{needs}
 use Prim.Native.Nat.{_-_}
-use Rattle.recording_reader.proofs.LoopLaws.{state-next-fits, StatesLeft, states-start, states-next, states-refused, states-done}
 use Rattle.recording_reader.proofs.scan.scan_states.Statement.{statement}
 use Rattle.recording_reader.proofs.scan.scan_states.Tie as tie
 
 abbrev Inv-loop : tie.InvT-loop
-Inv-loop text start controllers count masks states₀ at₀ prior₀ k₀ states at prior k = StatesLeft controllers count masks start text states₀ states at prior k
+Inv-loop text gauges controllers count masks states₀ at₀ prior₀ k₀ states at prior k = StatesLeft controllers count masks gauges text states₀ states at prior k
 
 abbrev μ-loop : tie.MeasureT-loop
-μ-loop text start controllers count masks states₀ at₀ prior₀ k₀ states at prior k = count - k
+μ-loop text gauges controllers count masks states₀ at₀ prior₀ k₀ states at prior k = count - k
 
 loop-holds : tie.Need-loop-holds Inv-loop μ-loop
 loop-holds c = search states-start
@@ -29,8 +31,11 @@ first-line-requires c κs = search needs
 next-state-requires : tie.Need-next-state-requires Inv-loop μ-loop
 next-state-requires c κs = search needs
 
-enum-known-state : tie.Need-enum-known-state Inv-loop μ-loop
-enum-known-state c = search needs
+next-measured-requires : tie.Need-next-measured-requires Inv-loop μ-loop
+next-measured-requires c κs = search needs
+
+enum-known-read : tie.Need-enum-known-read Inv-loop μ-loop
+enum-known-read c = search needs
 
 mul-states : tie.Need-mul-states Inv-loop μ-loop
 mul-states c = search needs
@@ -48,16 +53,16 @@ loop-less : tie.Need-loop-less Inv-loop μ-loop
 loop-less c = search needs
 
 loop-again : tie.Need-loop-again Inv-loop μ-loop
-loop-again c = search states-next
+loop-again c = ⊎-elim (λ w. search states-next) (λ w. search measured-next) (c .before .before .before .before .if1 .came)
 
-enum-known-number : tie.Need-enum-known-number Inv-loop μ-loop
-enum-known-number c = search needs
+enum-known-read-2 : tie.Need-enum-known-read-2 Inv-loop μ-loop
+enum-known-read-2 c = search needs
 
 same-length : tie.Need-same-length Inv-loop μ-loop
 same-length c = search needs
 
 returns : tie.Need-returns Inv-loop μ-loop
-returns c = search states-refused
+returns c = ⊎-elim (λ w. search states-refused) (λ w. search measured-refused) (c .before .before .before .if1 .came)
 
 pick-requires : tie.Need-pick-requires Inv-loop μ-loop
 pick-requires c κs = search needs
@@ -80,14 +85,15 @@ scan-states-spec =
     part-t-end
     first-line-requires
     next-state-requires
-    enum-known-state
+    next-measured-requires
+    enum-known-read
     mul-states
     slice-write-states
     add-at
     add-k
     loop-less
     loop-again
-    enum-known-number
+    enum-known-read-2
     same-length
     returns
     pick-requires

@@ -1,0 +1,5 @@
+pub mod FinishLaws
+pub mod StepLaws
+pub mod ValuesLaws
+pub mod LineLaws
+pub mod ScanLaws
