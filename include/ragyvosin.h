@@ -113,7 +113,8 @@ enum {
     RGV_ROW_WORDS = 6144,      /* 1,024 row pairs */
     RGV_RULE_BYTES = 1024,
     RGV_PAIRS = 8192,          /* a node and a place: 64 times 128 */
-    RGV_HEADING = 4            /* the numbers of a session's heading, no more and no fewer */
+    RGV_HEADING = 4,           /* the numbers of a session's heading, no more and no fewer */
+    RGV_ARCHIVE_BYTES = 8192   /* an archive text, or a recording text that is made of one */
 };
 
 /*
@@ -317,6 +318,31 @@ uint8_t rgv_session_verdicts(const size_t heading[4],
                              const uint32_t *nodes, size_t nodes_len,
                              const uint64_t *states, size_t states_len,
                              size_t values[3]);
+
+/*
+ * Makes the archive text of a recording text without gauges: its first line
+ * and its `owns` lines, then C lines `runs`, controller 0 first, and 32 lines
+ * `bits`, atom 0 first, each with one field of N digits 0 or 1, state 0 first.
+ * A mark in the last state is kept. Byte 10 at each line. Full size: archive
+ * RGV_ARCHIVE_BYTES; no archive text is longer than 5,933 bytes.
+ * values: length of the archive text. Refusals: 13, then 5, 6, 7, 10, 8 as of
+ * reading a recording without gauges: a gauge line is 5, after the last `at`
+ * line 8.
+ */
+uint8_t rgv_to_archive(const uint8_t *text, size_t text_len,
+                       uint8_t *archive, size_t archive_len,
+                       size_t values[1]);
+
+/*
+ * Makes the recording text of an archive text: the inverse, byte for byte where
+ * lines end in byte 10 alone. Full size: text RGV_ARCHIVE_BYTES; no recording
+ * text is longer than 2,219 bytes.
+ * values: length of the recording text. Refusals: 13; 5, 6 and 7 line by line;
+ * then 8; then 10, when all lines are read.
+ */
+uint8_t rgv_from_archive(const uint8_t *archive, size_t archive_len,
+                         uint8_t *text, size_t text_len,
+                         size_t values[1]);
 
 #ifdef __cplusplus
 }

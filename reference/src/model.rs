@@ -7,6 +7,7 @@
 //! accepted. What is lent past the full size is never touched. The calls of a
 //! session, which a refusal leaves as it was, are in [`session`].
 
+pub mod archive;
 pub mod early;
 pub mod evidence;
 pub mod gauges;

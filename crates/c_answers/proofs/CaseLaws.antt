@@ -15,6 +15,9 @@ use Rattle.rule_reader.specs.declared.RuleRead.the-variants as rule
 use Rattle.rule_writer.specs.Writing.{writeAnswer as ruleWritten}
 use Rattle.rule_writer.specs.declared.RuleWritten.{RuleWritten}
 use Rattle.rule_writer.specs.declared.RuleWritten.the-variants as written
+use Rattle.archives.specs.Converting.{textAnswer as textWritten}
+use Rattle.archives.specs.declared.TextWritten.{TextWritten}
+use Rattle.archives.specs.declared.TextWritten.the-variants as text
 use Rattle.recording_reader.specs.Reading.{readAnswer as recordingRead}
 use Rattle.recording_reader.specs.declared.RecordingRead.{RecordingRead}
 use Rattle.recording_reader.specs.declared.RecordingRead.the-variants as recording
@@ -61,6 +64,17 @@ module _ (w : RuleWritten) where
   pub written-refused : (number : ℕ) → w ≡ written.Refused number → number ∷ 0 ∷ [] ≡ heading 1 (ruleWritten w)
   unfolding heading
   written-refused number e = rw e
+
+module _ (w : TextWritten) where
+  -- `of_text_written`, accepted: 0 and the length are `heading` of the answer
+  pub text-laid : (n : ℕ) → w ≡ text.Length n → 0 ∷ n ∷ [] ≡ heading 1 (textWritten w)
+  unfolding heading
+  text-laid n e = rw e
+
+  -- `of_text_written`, refused: the number and a zero are `heading` of the answer
+  pub text-refused : (number : ℕ) → w ≡ text.Refused number → number ∷ 0 ∷ [] ≡ heading 1 (textWritten w)
+  unfolding heading
+  text-refused number e = rw e
 
 module _ (w : RecordingRead) where
   -- `of_recording_read`, accepted: 0, C and N are `heading` of the answer
@@ -149,6 +163,8 @@ pub ruleset case-laws = (
   rule-refused,
   written-laid,
   written-refused,
+  text-laid,
+  text-refused,
   recording-laid,
   recording-refused,
   projection-laid,

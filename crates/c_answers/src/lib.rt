@@ -9,9 +9,11 @@ ghost use Rattle.judges.specs.Verdicts.{answerOf as judged};
 ghost use Rattle.sessions.specs.Answers.{answerOf as sessionJudged};
 ghost use Rattle.evidence.specs.Answers.{answerOf as explained};
 ghost use Rattle.rewriting.specs.Answers.{answerOf as rewritten};
+ghost use Rattle.archives.specs.Converting.{textAnswer as textWritten};
 ghost use Rattle.joint_reading.specs.Scanning.{partOf};
 ghost use Rattle.joint_reading.specs.Joining.{headingOf};
 ghost use Rattle.c_answers.specs.Values.{heading, partValues, sessionValues};
+use archives::TextWritten;
 use evidence::Explanation;
 use joint_reading::scan::Found;
 use judges::verdicts::Judgement;
@@ -80,6 +82,21 @@ pub fn of_rule_written(answer: RuleWritten) -> OneValue
             values: [length],
         },
         RuleWritten::Refused(number) => OneValue {
+            number,
+            values: [0],
+        },
+    }
+}
+
+pub fn of_text_written(answer: TextWritten) -> OneValue
+    ensures { λ r. ⌜ r .number ∷ r .values ≡ heading 1 (textWritten answer) ⌝ }
+{
+    match answer {
+        TextWritten::Length(bytes) => OneValue {
+            number: Refusal::NONE,
+            values: [bytes],
+        },
+        TextWritten::Refused(number) => OneValue {
             number,
             values: [0],
         },

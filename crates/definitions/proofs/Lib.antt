@@ -15,3 +15,4 @@ pub mod SessionTrials
 pub mod WatchTrials
 pub mod MeasureTrials
 pub mod GaugeTrials
+pub mod ArchiveTrials

@@ -14,9 +14,12 @@ pub mod RuleText
 pub mod Measures
 pub mod Gauges
 pub mod RecordingText
+pub mod RecordingWriting
+pub mod Archive
 pub mod Operations
 pub mod Sessions
 pub mod Program
+pub mod ArchivePrograms
 pub mod Watching
 pub mod LinePrograms
 pub mod Longest

@@ -140,3 +140,7 @@ gaugeBitSet = 20
 -- "Lent space for fewer than 8,192 pairs is refused with 13": the readings behind a verdict, one for each place and node
 abbrev pub maxPairs : ℕ
 maxPairs = maxStates * maxRuleNodes
+
+-- "The full size of the lent space is 8,192 bytes either way": an archive text, and a recording text that is written of one
+abbrev pub maxArchiveBytes : ℕ
+maxArchiveBytes = 8192

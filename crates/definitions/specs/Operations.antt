@@ -4,7 +4,7 @@ use mathlib.Core.Bool.{Bool, _||_}
 use mathlib.Core.List.{List, [], _∷_, _++_, map}
 use lib.ListN.{length, take, drop, getD, replicate}
 use lib.Dec.{eqb, ltb}
-use Rattle.definitions.specs.Limits.{accepted, lentShort, maxRuleNodes, maxControllers, maxStates, maxTableNodes, maxRowWords, maxRuleBytes, maxPairs}
+use Rattle.definitions.specs.Limits.{accepted, lentShort, maxRuleNodes, maxControllers, maxStates, maxTableNodes, maxRowWords, maxRuleBytes, maxPairs, maxArchiveBytes}
 use Rattle.definitions.specs.Bounded.{pick, orElse, bit}
 use Rattle.definitions.specs.Nodes.{nodeWord}
 use Rattle.definitions.specs.Tables.{Rule, Table, tableOf, ruleRefusal, tableRefusal, nodesIn}
@@ -14,7 +14,8 @@ use Rattle.definitions.specs.Readings.{whole, rowsOf, Verdicts, verdicts
 use Rattle.definitions.specs.Evidence.{Found, evidence, pairWord}
 use Rattle.definitions.specs.Rewriting.{Rewritten, rewriting}
 use Rattle.definitions.specs.RuleText.{scanRule, ruleText}
-use Rattle.definitions.specs.RecordingText.{scanRecording, Part, emptyStart, jointNumber, jointPart}
+use Rattle.definitions.specs.RecordingText.{scanRecording, scanPlain, Part, emptyStart, jointNumber, jointPart}
+use Rattle.definitions.specs.Archive.{scanArchive, archived, restored}
 
 -- what an operation answers: the refusal number or 0, and its values
 pub record Answer : Type 0 where
@@ -196,3 +197,27 @@ judgeRecordingAnswer t R c rows =
 unfoldable pub judgeRecordingRows : (t : Table) (R : Recording) (c : ℕ) (rows : List ℕ) → List ℕ
 judgeRecordingRows t R c rows =
     left (judgeRecordingNumber t R c rows) maxRowWords (pairsWords (rowsOf (whole R c) (nodesIn (t .count) (t .nodes)))) rows
+
+-- "Rearrange a recording without gauges": "The full size of the lent space is 8,192 bytes either way, below it 13", then the recording's refusal
+unfoldable pub toArchiveNumber : (text archive : List ℕ) → ℕ
+toArchiveNumber text archive = pick (tooShort maxArchiveBytes archive) lentShort ((scanPlain text) .number)
+
+-- its answer: the length
+unfoldable pub toArchiveAnswer : (text archive : List ℕ) → Answer
+toArchiveAnswer text archive = answer (toArchiveNumber text archive) (length (archived text) ∷ [])
+
+-- its lent archive text
+unfoldable pub toArchiveText : (text archive : List ℕ) → List ℕ
+toArchiveText text archive = left (toArchiveNumber text archive) maxArchiveBytes (archived text) archive
+
+-- "the inverse": 13, then "5, 6, 7, 8 or 10 as a recording would"
+unfoldable pub fromArchiveNumber : (archive text : List ℕ) → ℕ
+fromArchiveNumber archive text = pick (tooShort maxArchiveBytes text) lentShort ((scanArchive archive) .number)
+
+-- its answer: the length
+unfoldable pub fromArchiveAnswer : (archive text : List ℕ) → Answer
+fromArchiveAnswer archive text = answer (fromArchiveNumber archive text) (length (restored archive) ∷ [])
+
+-- its lent recording text
+unfoldable pub fromArchiveText : (archive text : List ℕ) → List ℕ
+fromArchiveText archive text = left (fromArchiveNumber archive text) maxArchiveBytes (restored archive) text

@@ -1,9 +1,9 @@
 -- Bytes written into a text.
 use mathlib.Core.Path.{_≡_}
 use Prim.Native.Nat.{ℕ, _+_, _≤_}
-use mathlib.Core.List.{List, _∷_, _++_}
+use mathlib.Core.List.{List, [], _∷_, _++_}
 use lib.ListN.{length, take, drop}
-use Rattle.definitions.specs.Lines.{tab, digits}
+use Rattle.definitions.specs.Lines.{tab, newline, digits}
 
 -- a text with a word laid over it from a place on
 unfoldable pub laidAt : ℕ → List ℕ → List ℕ → List ℕ
@@ -23,3 +23,8 @@ pub record OutputIs (printed output : List ℕ) (r : ℕ) (output′ : List ℕ)
   pub count : r ≡ length printed
   pub lies : output′ ≡ printed ++ drop (length printed) output
   pub within : r ≤ length output′
+
+-- lines, each closed by byte 10
+unfoldable pub linesText : List (List ℕ) → List ℕ
+linesText [] = []
+linesText (l ∷ ls) = l ++ (newline ∷ linesText ls)

@@ -4,3 +4,4 @@ pub mod SameEvidence
 pub mod EarlyVerdicts
 pub mod SpaceParts
 pub mod SessionRuns
+pub mod ArchiveRoundTrips

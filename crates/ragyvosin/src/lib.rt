@@ -1,4 +1,4 @@
-// The operations of document 01, reading a rule in one line, the readings behind a verdict, and sessions: each answer and each lent slice is what the definition
+// The operations of document 01, reading a rule in one line, the readings behind a verdict, sessions, and archive texts: each answer and each lent slice is what the definition
 // of its operation says, on every input. `ruleRead` to `rewritten` list document 01's number and values for each case of an answer.
 // What these contracts give together: `same-verdicts-all-four-times` (proofs/SameVerdicts), schedule independence, and `same-bits-same-verdict`
 // (proofs/SameEvidence), what the readings behind a verdict promise; `announced-verdicts-stay` (proofs/EarlyVerdicts), which verdicts stay when the
@@ -13,6 +13,7 @@ ghost use Rattle.definitions.specs.Recordings.{recordingOf};
 ghost use Rattle.definitions.specs.Operations.{readRuleAnswer, readRuleNodes, writeRuleAnswer, writeRuleText, readRecordingAnswer, readRecordingMasks, readRecordingStates};
 ghost use Rattle.definitions.specs.Operations.{readJointHeading, readJointNodes, readJointMasks, readJointStates, readJointPart, projectAnswer, projectPlaces, judgeLocalAnswer};
 ghost use Rattle.definitions.specs.Operations.{evidenceAnswer, evidencePairs, rewriteAnswer, rewriteTable, judgeRecordingAnswer, judgeRecordingRows};
+ghost use Rattle.definitions.specs.Operations.{toArchiveAnswer, toArchiveText, fromArchiveAnswer, fromArchiveText};
 ghost use Rattle.definitions.specs.OneLine.{readLineAnswer, readLineNodes};
 ghost use Rattle.definitions.specs.Sessions.{lentSpace, openNumber, arriveNumber, withdrawNumber, replaceNumber, leaves, Open, Arrive, Withdraw, Replace, verdictsAnswer};
 ghost use Rattle.rule_reader.specs.Reading.{readAnswer as ruleRead};
@@ -23,7 +24,9 @@ ghost use Rattle.judges.specs.Verdicts.{answerOf as judged};
 ghost use Rattle.sessions.specs.Answers.{answerOf as sessionJudged, saysNone};
 ghost use Rattle.evidence.specs.Answers.{answerOf as explained};
 ghost use Rattle.rewriting.specs.Answers.{answerOf as rewritten};
+ghost use Rattle.archives.specs.Converting.{textAnswer as textWritten};
 ghost use Rattle.ragyvosin.specs.Parts.{placeIn, bytesIn};
+pub use archives::TextWritten;
 pub use evidence::Explanation;
 pub use judges::verdicts::Judgement;
 pub use judges::verdicts::Verdicts;
@@ -284,4 +287,20 @@ pub fn session_verdicts(
     ensures { λ r. ⌜ saysNone r ≡ eqb (getD (now (heading .entry)) 3 0) 0 ⌝ }
 {
     sessions::query::session_verdicts(heading, masks, nodes, states)
+}
+
+// "One line per atom": "Rearrange a recording without gauges"
+pub fn to_archive(text: &[u8], archive: &mut [u8]) -> TextWritten
+    ensures { λ r. ⌜ textWritten r ≡ toArchiveAnswer (now (text .entry)) (now (archive .entry)) ⌝ }
+    ensures { λ _. ⌜ now (archive .exit) ≡ toArchiveText (now (text .entry)) (now (archive .entry)) ⌝ }
+{
+    archives::to_archive(text, archive)
+}
+
+// "the inverse"
+pub fn from_archive(archive: &[u8], text: &mut [u8]) -> TextWritten
+    ensures { λ r. ⌜ textWritten r ≡ fromArchiveAnswer (now (archive .entry)) (now (text .entry)) ⌝ }
+    ensures { λ _. ⌜ now (text .exit) ≡ fromArchiveText (now (archive .entry)) (now (text .entry)) ⌝ }
+{
+    archives::from_archive(archive, text)
 }

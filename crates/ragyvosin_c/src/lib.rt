@@ -7,6 +7,7 @@ ghost use Rattle.definitions.specs.Recordings.{recordingOf};
 ghost use Rattle.definitions.specs.Operations.{readRuleAnswer, readRuleNodes, writeRuleAnswer, writeRuleText, readRecordingAnswer, readRecordingMasks, readRecordingStates};
 ghost use Rattle.definitions.specs.Operations.{readJointHeading, readJointNodes, readJointMasks, readJointStates, readJointPart, projectAnswer, projectPlaces, judgeLocalAnswer};
 ghost use Rattle.definitions.specs.Operations.{evidenceAnswer, evidencePairs, rewriteAnswer, rewriteTable, judgeRecordingAnswer, judgeRecordingRows};
+ghost use Rattle.definitions.specs.Operations.{toArchiveAnswer, toArchiveText, fromArchiveAnswer, fromArchiveText};
 ghost use Rattle.definitions.specs.OneLine.{readLineAnswer, readLineNodes};
 ghost use Rattle.definitions.specs.Sessions.{lentSpace, openNumber, arriveNumber, withdrawNumber, replaceNumber, leaves, Open, Arrive, Withdraw, Replace, verdictsAnswer};
 ghost use Rattle.c_answers.specs.Values.{heading, partValues, sessionValues, isSet};
@@ -19,6 +20,7 @@ use c_answers::of_rewriting;
 use c_answers::of_rule_read;
 use c_answers::of_rule_written;
 use c_answers::of_session_verdicts;
+use c_answers::of_text_written;
 use joint_reading::join;
 
 // Values: controller, node count.
@@ -355,6 +357,32 @@ pub extern "C" fn rgv_session_verdicts(
 {
     let answer = ragyvosin::session_verdicts(heading, masks, nodes, states);
     let laid = of_session_verdicts(answer);
+    let laid_values = laid.values;
+    *values = laid_values;
+    laid.number
+}
+
+// Value: length.
+#[no_mangle]
+pub extern "C" fn rgv_to_archive(text: &[u8], archive: &mut [u8], values: &mut [usize; 1]) -> u8
+    ensures { λ r. ⌜ r ∷ now (values .exit) ≡ heading 1 (toArchiveAnswer (now (text .entry)) (now (archive .entry))) ⌝ }
+    ensures { λ _. ⌜ now (archive .exit) ≡ toArchiveText (now (text .entry)) (now (archive .entry)) ⌝ }
+{
+    let answer = ragyvosin::to_archive(text, archive);
+    let laid = of_text_written(answer);
+    let laid_values = laid.values;
+    *values = laid_values;
+    laid.number
+}
+
+// Value: length.
+#[no_mangle]
+pub extern "C" fn rgv_from_archive(archive: &[u8], text: &mut [u8], values: &mut [usize; 1]) -> u8
+    ensures { λ r. ⌜ r ∷ now (values .exit) ≡ heading 1 (fromArchiveAnswer (now (archive .entry)) (now (text .entry))) ⌝ }
+    ensures { λ _. ⌜ now (text .exit) ≡ fromArchiveText (now (archive .entry)) (now (text .entry)) ⌝ }
+{
+    let answer = ragyvosin::from_archive(archive, text);
+    let laid = of_text_written(answer);
     let laid_values = laid.values;
     *values = laid_values;
     laid.number

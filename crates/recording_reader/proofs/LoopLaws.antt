@@ -20,16 +20,17 @@ use Rattle.lines.specs.Reading.{FirstLine, LinesScanned}
 use Rattle.lines.specs.declared.Line.{Line}
 use Rattle.lines.proofs.PartLaws.{part-to-end, empty-yes, empty-no}
 use Rattle.lines.proofs.LoopLaws.{Lines, lines-none, lines-stop, lines-next, after-line, line-inside}
-use Rattle.recording_reader.specs.NextLines.{maskAnswer, stateAnswer, seenLine, stateLine}
-use Rattle.recording_reader.specs.Measured.{atAnswer}
+use Rattle.recording_reader.specs.NextLines.{maskAnswer, seenLine}
+use Rattle.at_lines.specs.Lines.{stateAnswer, stateLine}
+use Rattle.at_lines.specs.Measured.{atAnswer}
 use Rattle.gauges.specs.Scanning.{gaugesIn}
 use Rattle.gauges.specs.declared.scan.Gauged.{Gauged}
 use Rattle.recording_reader.specs.declared.line.MaskRead.{MaskRead}
 use Rattle.recording_reader.specs.declared.line.MaskRead.the-variants as mask
-use Rattle.recording_reader.specs.declared.line.StateRead.{StateRead}
-use Rattle.recording_reader.specs.declared.line.StateRead.the-variants as state
+use Rattle.at_lines.specs.declared.StateRead.{StateRead}
+use Rattle.at_lines.specs.declared.StateRead.the-variants as state
 use Rattle.recording_reader.proofs.MaskLaws.{MaskIs, mask-is, mask-denied}
-use Rattle.recording_reader.proofs.MeasuredLaws.{AtIs, at-is, at-denied, without-values}
+use Rattle.at_lines.proofs.MeasuredLaws.{AtIs, at-is, at-denied, without-values}
 use Rattle.recording_reader.proofs.ScanLaws.{seenMasks, seen-masks, mask-step, mask-stop, masks-end, state-step, state-stop, states-end}
 
 -- ---- `scan_masks`

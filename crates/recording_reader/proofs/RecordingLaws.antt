@@ -3,13 +3,14 @@ use mathlib.Core.Path.{_≡_, refl, ap, sym, _∙_}
 use mathlib.Core.List.{List, []}
 use Prim.Native.Nat.{ℕ, _≤_}
 use native.Mathlib.Omega.{arith}
-use lib.ListN.{length, take, drop, length-drop}
+use lib.ListN.{length, take, drop, replicate, length-drop}
 use lib.Seq.{take-at}
+use lib.IntN.{ℤ}
 use borrow.Author.Tests.{eq-eqb, ne-eqb}
 use Rattle.definitions.specs.Limits.{maxGauges, maxControllers, maxStates}
 use Rattle.definitions.specs.Bounded.{pick}
 use Rattle.definitions.specs.Lines.{restOf, Heading, heading, refused, read, onNext, Scan}
-use Rattle.definitions.specs.Gauges.{Gauges}
+use Rattle.definitions.specs.Gauges.{Gauges, noGauges}
 use Rattle.definitions.specs.RecordingText.{recordingHeadingLine, scanMasks, GaugeScan, scanGauges, scanStates, RecordingScan, recordingStop, recordingStates, afterGauges, gaugedAfterMasks, openingMasks, scanOpening, scanRecording}
 use Rattle.theorems.proofs.TextNumbers.{recording-of-text}
 use Rattle.lent.specs.Space.{laid}
@@ -24,7 +25,7 @@ use Rattle.recording_reader.specs.NextLines.{headingAnswer}
 use Rattle.recording_reader.specs.declared.line.HeadingRead.{HeadingRead}
 use Rattle.recording_reader.specs.declared.line.HeadingRead.the-variants as first
 use Rattle.recording_reader.proofs.HeadingLaws.{Headed, headed, unheaded}
-use Rattle.recording_reader.specs.Scanning.{Room, MaskRoom, RestRoom, StateRoom, RestScanned, RecordingScanned}
+use Rattle.recording_reader.specs.Scanning.{Room, MaskRoom, RestRoom, StateRoom, NoGauges, RestScanned, RecordingScanned}
 use Rattle.recording_reader.specs.declared.scan.Scanned.{Scanned}
 use Rattle.recording_reader.proofs.ScanLaws.{masks-counted, states-counted, scan-own, heading-some}
 
@@ -144,6 +145,20 @@ module _ (C N start : ℕ) (text masks states : List ℕ) (room : RestRoom C N s
           statesPast =
               laid-past maxStates (scanStates C masks all N 0 0 (drop (g .at) text) .words) states states′ (omega (arith, states-few .most, room .short)) (s .words);
         }
+
+-- ---- `scan_plain`
+-- `no_gauges`: eight atoms, none of them a gauge's
+pub none-held : (at : ℕ) (thresholds : List ℤ) → NoGauges at (record { number = 0; at = at; count = 0; atoms = replicate 8 0; thresholds = thresholds })
+none-held at thresholds = record { held = record { few = omega arith; long = refl; below = λ i h. absurd (omega arith) }; place = refl; none = refl }
+
+module _ (C N start : ℕ) (text masks states : List ℕ) (room : RestRoom C N start text states) (g : Gauged) (n : NoGauges start g) where
+  pub plain-room : StateRoom C N g text states
+  plain-room = record { few = room .few; short = room .short; gauges = n .held; inside = omega (arith, n .place, room .inside); room = room .room }
+
+  -- `scan_plain`: the state lines of no gauges, `scanStates` of `noGauges`
+  pub plain-scanned : (r : Stopped) (states′ : List ℕ) → LinesScanned (scanStates C masks (gaugesIn (g .count) (g .atoms) (g .thresholds)) N 0 0 (drop (g .at) text)) text states r states′
+      → LinesScanned (scanStates C masks noGauges N 0 0 (drop start text)) text states r states′
+  plain-scanned r states′ s = rw (n .none, n .place) at s
 
 -- ---- `scan_recording`
 -- the first line was refused, or read

@@ -1,4 +1,3 @@
 pub mod NextLines
-pub mod Measured
 pub mod Scanning
 pub mod Reading

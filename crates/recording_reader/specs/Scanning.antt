@@ -4,9 +4,11 @@ use Prim.Native.Nat.{ℕ, _-_, _≤_}
 use mathlib.Core.List.{List}
 use lib.ListN.{length, drop}
 use Rattle.definitions.specs.Limits.{accepted, lentShort, maxControllers, maxStates}
+use Rattle.definitions.specs.Gauges.{noGauges}
 use Rattle.definitions.specs.RecordingText.{RecordingScan, scanRecording}
 use Rattle.lent.specs.Space.{laid}
 use Rattle.gauges.specs.Held.{GaugesHeld}
+use Rattle.gauges.specs.Scanning.{gaugesIn}
 use Rattle.gauges.specs.declared.scan.Gauged.{Gauged}
 use Rattle.recording_reader.specs.declared.scan.Scanned.{Scanned}
 
@@ -35,6 +37,12 @@ pub record StateRoom (C N : ℕ) (g : Gauged) (text states : List ℕ) : Type 0 
   pub gauges : GaugesHeld (g .count) (g .atoms)
   pub inside : g .at ≤ length text
   pub room : maxStates ≤ length states
+
+-- no gauges, from a place of the text on
+pub record NoGauges (at : ℕ) (g : Gauged) : Type 0 where
+  pub held : GaugesHeld (g .count) (g .atoms)
+  pub place : g .at ≡ at
+  pub none : gaugesIn (g .count) (g .atoms) (g .thresholds) ≡ noGauges
 
 -- what follows these masks of C controllers was read as s says: the states are laid over the start of lent space
 pub record RestScanned (s : RecordingScan) (masks : List ℕ) (C : ℕ) (text states : List ℕ) (r : Scanned) (states′ : List ℕ) : Type 0 where

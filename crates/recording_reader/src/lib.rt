@@ -1,7 +1,6 @@
-// The reader of a recording text: masks and states into lent space, C and N as the answer; refused, lent space is zeros. `line`: one line each;
-// `measured`: an `at` line with values; `scan`: all lines up to the first refusal.
+// The reader of a recording text: masks and states into lent space, C and N as the answer; refused, lent space is zeros. `line`: the first lines; `scan`:
+// all lines up to the first refusal.
 pub mod line;
-pub mod measured;
 pub mod scan;
 
 ghost use Rattle.recording_reader.specs.Reading.{ReadRecording};

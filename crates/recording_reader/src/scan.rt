@@ -2,17 +2,18 @@
 ghost use mathlib.Core.List.{[]};
 ghost use mathlib.Core.Path.{_≡_};
 ghost use lib.ListN.{take, drop};
+ghost use Rattle.definitions.specs.Gauges.{noGauges};
 ghost use Rattle.definitions.specs.RecordingText.{scanMasks, scanStates, gaugedAfterMasks};
 ghost use Rattle.gauges.specs.Scanning.{gaugesIn};
 ghost use Rattle.lines.specs.Reading.{LinesScanned};
-ghost use Rattle.recording_reader.specs.Scanning.{Room, MaskRoom, RestRoom, StateRoom, RestScanned, RecordingScanned};
+ghost use Rattle.recording_reader.specs.Scanning.{Room, MaskRoom, RestRoom, StateRoom, NoGauges, RestScanned, RecordingScanned};
 use super::line::HeadingRead;
 use super::line::MaskRead;
-use super::line::StateRead;
 use super::line::next_heading;
 use super::line::next_mask;
-use super::line::next_state;
-use super::measured::next_measured;
+use at_lines::StateRead;
+use at_lines::measured::next_measured;
+use at_lines::next_state;
 use gauges::scan::Gauged;
 use gauges::scan::scan_gauges;
 use lines::Stopped;
@@ -94,6 +95,37 @@ fn scan_states(
     }
     let number = choice::pick(at < text.len(), Refusal::RECORDING_LINES, Refusal::NONE);
     Stopped { number, at }
+}
+
+// No gauges: the state lines begin at a place.
+fn no_gauges(at: usize) -> Gauged
+    ensures { λ r. ⌜ NoGauges at r ⌝ }
+{
+    let atoms = [0u32; 8];
+    let thresholds = [0i32; 8];
+    Gauged {
+        number: Refusal::NONE,
+        at: at,
+        count: 0,
+        atoms: atoms,
+        thresholds: thresholds,
+    }
+}
+
+// The state lines of a recording without gauges from `start` to the end of the text, into `states`, up to the first refusal.
+pub fn scan_plain(
+    text: &[u8],
+    start: usize,
+    controllers: usize,
+    count: usize,
+    masks: &[u32],
+    states: &mut [u64],
+) -> Stopped
+    requires { ⌜ RestRoom controllers count start (now text) (now states) ⌝ }
+    ensures { λ r. ⌜ LinesScanned (scanStates controllers (now (masks .entry)) noGauges count 0 0 (drop start (now (text .entry)))) (now (text .entry)) (now (states .entry)) r (now (states .exit)) ⌝ }
+{
+    let none = no_gauges(start);
+    scan_states(text, none, controllers, count, masks, states)
 }
 
 // A reading that ends before the states.

@@ -33,6 +33,8 @@ impl Limits {
     pub const OPEN_BRACKETS: usize = 16;
 
     pub const PAIRS: usize = Limits::STATES * Limits::RULE_NODES;
+
+    pub const ARCHIVE_BYTES: usize = 8192;
 }
 
 pub struct Refusal {}

@@ -83,3 +83,14 @@ pub mod SessionCalls
 pub mod SessionVerdicts
 pub mod SessionEarly
 pub mod MadeSessions
+pub mod HexLaws
+pub mod NumberBits
+pub mod TurnLaws
+pub mod OpeningLaws
+pub mod OpeningReads
+pub mod RecordingTexts
+pub mod SignalLaws
+pub mod ArchiveTexts
+pub mod SignalLines
+pub mod ArchiveLengths
+pub mod ArchiveRoundTrips

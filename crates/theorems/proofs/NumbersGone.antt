@@ -12,8 +12,9 @@ use Rattle.definitions.specs.Tables.{Rule, Table, nodeRefusal, nodesRefusal, ru
 use Rattle.definitions.specs.Recordings.{Recording, recordingRefusal, controllerRefusal}
 use Rattle.definitions.specs.Lines.{Parsed, formed, malformed, onParsed}
 use Rattle.definitions.specs.RuleText.{scanRule}
-use Rattle.definitions.specs.RecordingText.{scanRecording, jointNumber}
-use Rattle.definitions.specs.Operations.{readRuleNumber, writeRuleNumber, readRecordingNumber, readJointNumber, projectNumber, judgeLocalNumber, evidenceNumber, rewriteNumber, judgeRecordingNumber}
+use Rattle.definitions.specs.RecordingText.{scanRecording, scanPlain, jointNumber}
+use Rattle.definitions.specs.Archive.{scanArchive}
+use Rattle.definitions.specs.Operations.{readRuleNumber, writeRuleNumber, readRecordingNumber, readJointNumber, projectNumber, judgeLocalNumber, evidenceNumber, rewriteNumber, judgeRecordingNumber, toArchiveNumber, fromArchiveNumber}
 use Rattle.definitions.specs.OneLineSigns.{Sign}
 use Rattle.definitions.specs.OneLineGrammar.{Tree}
 use Rattle.definitions.specs.OneLineReading.{signsOf, treeOf}
@@ -21,6 +22,7 @@ use Rattle.definitions.specs.OneLine.{sentenceRefusal, lineRefusal, readLineNum
 use Rattle.theorems.proofs.Choice.{both-false}
 use Rattle.theorems.proofs.TextNumbers.{rule-text-number, recording-text-number}
 use Rattle.theorems.proofs.RefusalBounds.{pick-of, or-else-of, recording-number}
+use Rattle.theorems.proofs.OpeningReads.{plain-number, archive-number}
 
 -- neither of the two numbers
 pub record Given (number : ℕ) : Type 0 where
@@ -100,7 +102,14 @@ one-line-given controller line =
     let form = given lineForm refl in
     either-given _ lineForm _ form (parsed-given (signsOf line) lineForm _ form (λ s. parsed-given (treeOf s) lineForm _ form (sentence-given controller s)))
 
--- ---- the eleven operations: whatever tables, texts and lent space they get, the number that they answer is neither
+-- ---- archive texts
+plain-given : (t : List ℕ) → Given ((scanPlain t) .number)
+plain-given = plain-number Given (given accepted refl) (given recordingForm refl) (given recordingLimits refl) (given masksMeet refl) (given recordingLines refl) (given outputRule refl)
+
+archive-given : (t : List ℕ) → Given ((scanArchive t) .number)
+archive-given = archive-number Given (given accepted refl) (given recordingForm refl) (given recordingLimits refl) (given masksMeet refl) (given recordingLines refl) (given outputRule refl)
+
+-- ---- the thirteen operations on texts and tables: whatever tables, texts and lent space they get, the number that they answer is neither
 lent-given : (z : Bool) (number : ℕ) → Given number → Given (pick z lentShort number)
 lent-given z number g = either-given z lentShort number (given lentShort refl) g
 
@@ -116,9 +125,11 @@ pub record NeitherAnswered : Type 0 where
   pub rewrite : (r : Rule) (table : List ℕ) → Given (rewriteNumber r table)
   pub judgeRecording : (t : Table) (R : Recording) (c : ℕ) (rows : List ℕ) → Given (judgeRecordingNumber t R c rows)
   pub readLine : (controller : ℕ) (line nodes : List ℕ) → Given (readLineNumber controller line nodes)
+  pub toArchive : (text archive : List ℕ) → Given (toArchiveNumber text archive)
+  pub fromArchive : (archive text : List ℕ) → Given (fromArchiveNumber archive text)
 
 pub nine-and-twelve-are-never-answered : NeitherAnswered
-unfolding readRuleNumber writeRuleNumber readRecordingNumber readJointNumber projectNumber judgeLocalNumber evidenceNumber rewriteNumber judgeRecordingNumber readLineNumber
+unfolding readRuleNumber writeRuleNumber readRecordingNumber readJointNumber projectNumber judgeLocalNumber evidenceNumber rewriteNumber judgeRecordingNumber readLineNumber toArchiveNumber fromArchiveNumber
 nine-and-twelve-are-never-answered =
     let rack : (R : Recording) (c : ℕ) → Given (orElse (recordingRefusal R) (controllerRefusal (R .controllers) c))
     = λ R c. first-given _ _ (recording-given R) (controller-given (R .controllers) c) in
@@ -135,4 +146,6 @@ nine-and-twelve-are-never-answered =
       rewrite = λ r t. lent-given _ _ (rule-given r);
       judgeRecording = λ t R c rows. lent-given _ _ (first-given _ _ (table-given t) (rack R c));
       readLine = λ c l ns. lent-given _ _ (one-line-given c l);
+      toArchive = λ text archive. lent-given _ _ (plain-given text);
+      fromArchive = λ archive text. lent-given _ _ (archive-given archive);
     }

@@ -71,7 +71,7 @@ module _ (P : ℕ → Type 0) (none : P accepted) where
     at-number set C masks g k prior m =
         pick-of P _ recordingLimits _ limits (pick-of P _ gaugeBitSet _ set (state-number C masks k prior (finishedState g m)))
 
-    states-number : (C : ℕ) (masks : List ℕ) (k prior : ℕ) (ss : List ℕ) → P (statesRefusal C masks k prior ss)
+    pub states-number : (C : ℕ) (masks : List ℕ) (k prior : ℕ) (ss : List ℕ) → P (statesRefusal C masks k prior ss)
     unfolding statesRefusal
     states-number C masks k prior [] = none
     states-number C masks k prior (s ∷ ss) = or-else-of P _ _ (state-number C masks k prior s) (states-number C masks (k + 1) s ss)

@@ -44,9 +44,8 @@ module _ (P : ℕ → Type 0) (none : P accepted) where
         (next-number ruleLines ruleForm ruleHeading (λ h. ruleHeadingRefusal (h .first) (h .second)) t P lines form (λ h z. pick-of P _ accepted ruleLimits none limits))
         (λ h rest e. nodes-number (h .second) 0 rest)
 
-  -- ---- recording texts
-  module _ (form : P recordingForm) (limits : P recordingLimits) (meet : P masksMeet) (lines : P recordingLines) (output : P outputRule)
-      (second : P secondGauge) (set : P gaugeBitSet) where
+  -- ---- the first line and the `owns` lines of a recording text, and then what follows them
+  module _ (form : P recordingForm) (limits : P recordingLimits) (meet : P masksMeet) (lines : P recordingLines) where
     -- a refused line of a recording text, from its check
     line-number : {A : Type 0} (of : List ℕ → Parsed A) (check : A → ℕ) (t : List ℕ) → ((a : A) → P (check a))
         → (k : ℕ) → nextLine recordingLines recordingForm of check t ≡ refused k → P k
@@ -59,6 +58,21 @@ module _ (P : ℕ → Type 0) (none : P accepted) where
         on-next (λ (s : Scan). P (s .number)) (maskLine earlier t) _ _ (line-number maskForm (maskRefusal earlier) t (λ m. pick-of P _ masksMeet accepted meet none))
         (λ m rest e. masks-number left (m ∷ earlier) rest)
 
+    module _ (next : (C N : ℕ) (masks t : List ℕ) → RecordingScan) (later : (C N : ℕ) (masks t : List ℕ) → P ((next C N masks t) .number)) where
+      masked-number : (C N : ℕ) (m : Scan) → P (m .number) → P ((openingMasks next C N m) .number)
+      unfolding pick
+      masked-number C N m p = by-test (eqb (m .number) accepted) (λ z. rw z (later C N (m .words) (m .rest))) (λ z. rw z p)
+
+      pub opening-number : (t : List ℕ) → P ((scanOpening next t) .number)
+      unfolding scanOpening recordingHeadingRefusal
+      opening-number t =
+          on-next (λ (s : RecordingScan). P (s .number)) (recordingHeadingLine t) _ _
+          (line-number recordingHeading (λ h. recordingHeadingRefusal (h .first) (h .second)) t (λ h. pick-of P _ accepted recordingLimits none limits))
+          (λ h rest e. masked-number (h .first) (h .second) (scanMasks (h .first) [] rest) (masks-number (h .first) [] rest))
+
+  -- ---- recording texts
+  module _ (form : P recordingForm) (limits : P recordingLimits) (meet : P masksMeet) (lines : P recordingLines) (output : P outputRule)
+      (second : P secondGauge) (set : P gaugeBitSet) where
     gauge-number : (earlier : List ℕ) (g : Gauge) → P (gaugeRefusal earlier g)
     unfolding gaugeRefusal
     gauge-number earlier g = pick-of P _ _ recordingLimits (pick-of P _ secondGauge accepted second none) limits
@@ -68,7 +82,7 @@ module _ (P : ℕ → Type 0) (none : P accepted) where
     gauges-number zero earlier t = none
     gauges-number (suc left) earlier t =
         by-test (isGauge t)
-        (λ z. rw z (on-next (λ (s : GaugeScan). P (s .number)) (gaugeLine earlier t) _ _ (line-number gaugeForm (gaugeRefusal earlier) t (gauge-number earlier))
+        (λ z. rw z (on-next (λ (s : GaugeScan). P (s .number)) (gaugeLine earlier t) _ _ (line-number form limits meet lines gaugeForm (gaugeRefusal earlier) t (gauge-number earlier))
         (λ g rest e. gauges-number left (g .atom ∷ earlier) rest)))
         (λ z. rw z none)
 
@@ -77,7 +91,7 @@ module _ (P : ℕ → Type 0) (none : P accepted) where
     states-number C masks g zero k prior t = pick-of P _ accepted recordingLines none lines
     states-number C masks g (suc left) k prior t =
         on-next (λ (s : Scan). P (s .number)) (atLine C masks g k prior t) _ _
-        (line-number (atForm C (length (g .atoms))) (atRefusal C masks g k prior) t (at-number P none limits output set C masks g k prior))
+        (line-number form limits meet lines (atForm C (length (g .atoms))) (atRefusal C masks g k prior) t (at-number P none limits output set C masks g k prior))
         (λ m rest e. states-number C masks g left (k + 1) (finishedState g m) rest)
 
     gauged-number : (C N : ℕ) (masks t : List ℕ) → P ((gaugedAfterMasks C N masks t) .number)
@@ -86,16 +100,9 @@ module _ (P : ℕ → Type 0) (none : P accepted) where
         let s = scanGauges maxGauges [] t in
         by-test (eqb (s .number) accepted) (λ z. rw z (states-number C masks (s .gauges) N 0 0 (s .rest))) (λ z. rw z (gauges-number maxGauges [] t))
 
-    masked-number : (C N : ℕ) (m : Scan) → P (m .number) → P ((openingMasks gaugedAfterMasks C N m) .number)
-    unfolding pick
-    masked-number C N m p = by-test (eqb (m .number) accepted) (λ z. rw z (gauged-number C N (m .words) (m .rest))) (λ z. rw z p)
-
     pub recording-text-number : (t : List ℕ) → P ((scanRecording t) .number)
-    unfolding scanRecording scanOpening recordingHeadingRefusal
-    recording-text-number t =
-        on-next (λ (s : RecordingScan). P (s .number)) (recordingHeadingLine t) _ _
-        (line-number recordingHeading (λ h. recordingHeadingRefusal (h .first) (h .second)) t (λ h. pick-of P _ accepted recordingLimits none limits))
-        (λ h rest e. masked-number (h .first) (h .second) (scanMasks (h .first) [] rest) (masks-number (h .first) [] rest))
+    unfolding scanRecording
+    recording-text-number t = opening-number form limits meet lines gaugedAfterMasks gauged-number t
 
 -- ---- no text is refused with 11, which is for joining alone, or with 13, which is for lent space alone
 pub record OfText (number : ℕ) : Type 0 where

@@ -151,6 +151,11 @@ unfolding scanOpening onNext
 opening-by next next′ t f =
     by-next (recordingHeadingLine t) (λ k e. rw e) (λ h rest e. rw (e, f h rest e (scanMasks (h .first) [] rest) refl))
 
+-- reading a recording text without gauges is reading it as before them
+pub plain-text-before : (t : List ℕ) → scanPlain t ≡ scanOpening afterBefore t
+unfolding scanPlain
+plain-text-before t = opening-by afterMasks afterBefore t (λ h rest e m q. plain-before (h .first) (h .second) (m .words) (m .rest))
+
 -- no gauge line follows the `owns` lines
 abbrev pub WithoutGauges : List ℕ → Type 0
 WithoutGauges t = (h : Heading) (rest : List ℕ) → recordingHeadingLine t ≡ read h rest → isGauge ((scanMasks (h .first) [] rest) .rest) ≡ false
@@ -165,4 +170,4 @@ unfolding scanRecording scanPlain
 texts-without-gauges-as-before t w =
     let p = opening-by gaugedAfterMasks afterMasks t
     (λ h rest e m q. gauged-plain (h .first) (h .second) (m .words) (m .rest) (ap (λ (s : Scan). isGauge (s .rest)) q ∙ w h rest e)) in
-    record { plain = p; before = p ∙ opening-by afterMasks afterBefore t (λ h rest e m q. plain-before (h .first) (h .second) (m .words) (m .rest)) }
+    record { plain = p; before = p ∙ plain-text-before t }

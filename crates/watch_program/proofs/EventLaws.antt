@@ -28,7 +28,7 @@ use Rattle.lines.specs.Reading.{FirstLine}
 use Rattle.lines.specs.declared.Line.{Line}
 use Rattle.printing.specs.Printing.{Printed}
 use Rattle.printing.proofs.PrintLaws.{digits-fit}
-use Rattle.recording_reader.proofs.StateLaws.{digits-few, state-not, state-formed}
+use Rattle.at_lines.proofs.StateLaws.{digits-few, state-not, state-formed}
 use Rattle.sessions.specs.Calls.{ArriveIs, WithdrawIs}
 use Rattle.watch_program.specs.Events.{meant, eventNumber, eventLeaves, Taken, RefusedRoom, EventIs}
 use Rattle.watch_program.specs.declared.event.Event.{Event}

@@ -1,7 +1,7 @@
 //! The operations, each with its sides and its inputs.
 
 use crate::case::{Case, Side, Sides, Timed};
-use crate::hand::{evidence, line, plain, read, rewrite, tuned, write};
+use crate::hand::{archive, evidence, line, plain, read, rewrite, tuned, write};
 use crate::inputs::{LineInput, RuleInput, TableInput};
 use crate::sessions::{self, Arrival, NewRule};
 use ragyvosin::{full, Joint};
@@ -254,6 +254,28 @@ fn read_gauges(plan: Plan) -> Box<dyn Timed> {
     boxed(plan, plan.source.gauged(), ReadSpace::new(), sides)
 }
 
+fn to_archive(plan: Plan) -> Box<dyn Timed> {
+    let sides: Sides<RuleInput, Vec<u8>, _> = vec![
+        (Side::Proved, |i, l| ragyvosin::to_archive(&i.recording_text, l)),
+        (Side::Plain, |i, l| archive::to_archive(&i.recording_text, l)),
+    ];
+    boxed(plan, plan.source.rules(), lent(full::ARCHIVE_BYTES, 0xa5), sides)
+}
+
+/// Of the archive texts of the recordings; of what has none, of the text itself.
+fn from_archive(plan: Plan) -> Box<dyn Timed> {
+    let archived = |input: RuleInput| {
+        let read = reference::model::text::read_plain(&input.recording_text);
+        read.map_or(input.recording_text, |read| reference::model::archive::write_archive(&read))
+    };
+    let sides: Sides<Vec<u8>, Vec<u8>, _> = vec![
+        (Side::Proved, |i, l| ragyvosin::from_archive(i, l)),
+        (Side::Plain, |i, l| archive::from_archive(i, l)),
+    ];
+    let inputs = plan.source.rules().into_iter().map(archived).collect();
+    boxed(plan, inputs, lent(full::ARCHIVE_BYTES, 0xa5), sides)
+}
+
 fn read_joint(plan: Plan) -> Box<dyn Timed> {
     let sides: Sides<RuleInput, ReadSpace, _> = vec![
         (Side::Proved, |i, l| {
@@ -304,7 +326,10 @@ impl Plan {
             Source::Any => return "any".into(),
         };
         match self.operation {
-            "project" | "read_recording" | "read_gauges" | "arrive" => format!("{states}"),
+            "project" | "read_recording" | "read_gauges" | "arrive" | "to_archive"
+            | "from_archive" => {
+                format!("{states}")
+            }
             "read_line" => format!("{}", nodes * LINE_BYTES),
             "rewrite_plain" | "rewrite_short" | "read_rule" | "write_rule" => format!("{nodes}"),
             _ => format!("{nodes}x{states}"),
@@ -324,6 +349,8 @@ impl Plan {
             "read_recording" => read_recording(self),
             "read_gauges" => read_gauges(self),
             "read_joint" => read_joint(self),
+            "to_archive" => to_archive(self),
+            "from_archive" => from_archive(self),
             "arrive" => arrive(self),
             "replace_rule" => replace_rule(self),
             "session_verdicts" => session_verdicts(self),
@@ -334,7 +361,7 @@ impl Plan {
 }
 
 /// The operations that take a rule, a recording or both.
-const OF_RULES: [&str; 14] = [
+const OF_RULES: [&str; 17] = [
     "judge_local",
     "evidence",
     "project",
@@ -350,6 +377,8 @@ const OF_RULES: [&str; 14] = [
     "replace_rule",
     "session_verdicts",
     "session",
+    "to_archive",
+    "from_archive",
 ];
 
 /// Every operation, the judge of tables over its own source.

@@ -1,6 +1,7 @@
 //! The operations written by hand for speed, with the same answers as the
 //! proved library: the same numbers, values and lent entries.
 
+pub mod archive;
 pub mod check;
 pub mod evidence;
 pub mod gauges;

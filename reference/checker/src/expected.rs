@@ -128,6 +128,16 @@ pub fn evidence(
     model::evidence(*controller, *count, nodes, *controllers, *length, masks, states, weak, pairs)
 }
 
+/// The outcome of making one text of the other.
+fn archive(back: bool, text: &[u8], made: Lent) -> Outcome {
+    let mut made = Space::new(made);
+    let answer = match back {
+        false => model::archive::to_archive(text, made.lend()),
+        true => model::archive::from_archive(text, made.lend()),
+    };
+    outcome(answer.map(|length| [length]), vec![made.words()])
+}
+
 /// What the model answers and leaves.
 pub fn of(input: &Input) -> Outcome {
     of_by(&AsWorded, input)
@@ -162,5 +172,6 @@ pub fn of_by(gauging: &dyn Gauging, input: &Input) -> Outcome {
             let answer = evidence(rule, recording, *weak, pairs.lend());
             outcome(answer.map(|count| [count]), vec![pairs.words()])
         }
+        Input::Archive { back, text, made } => archive(*back, text, *made),
     }
 }

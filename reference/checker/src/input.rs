@@ -156,6 +156,8 @@ pub enum Input {
     JudgeRecording { table: JudgeTable, recording: RecordingTable, controller: usize, rows: Lent },
     /// The readings behind a verdict, the weak or the strong one.
     Evidence { rule: RuleTable, recording: RecordingTable, weak: bool, pairs: Lent },
+    /// The archive text of a recording text, or the inverse.
+    Archive { back: bool, text: Vec<u8>, made: Lent },
 }
 
 /// A lent slice of an input.
@@ -223,6 +225,11 @@ impl Input {
     pub fn evidence(rule: RuleTable, recording: RecordingTable, weak: bool) -> Input {
         Input::Evidence { rule, recording, weak, pairs: Lent::ample(limits::PAIRS) }
     }
+
+    /// The archive text of a recording text, or the inverse.
+    pub fn archive(back: bool, text: Vec<u8>) -> Input {
+        Input::Archive { back, text, made: Lent::ample(limits::ARCHIVE_BYTES) }
+    }
 }
 
 impl Input {
@@ -240,13 +247,17 @@ impl Input {
             Input::Rewrite { short: true, .. } => Operation::RewriteShort,
             Input::JudgeRecording { .. } => Operation::JudgeRecording,
             Input::Evidence { .. } => Operation::Evidence,
+            Input::Archive { back: false, .. } => Operation::ToArchive,
+            Input::Archive { back: true, .. } => Operation::FromArchive,
         }
     }
 
     /// The texts that it has, in the order in which they are read.
     pub fn texts(&self) -> Vec<&[u8]> {
         match self {
-            Input::ReadRule { text, .. } | Input::ReadRecording { text, .. } => vec![text],
+            Input::ReadRule { text, .. }
+            | Input::ReadRecording { text, .. }
+            | Input::Archive { text, .. } => vec![text],
             Input::ReadJoint { rule, recording, .. } => vec![rule, recording],
             _ => vec![],
         }
@@ -256,7 +267,9 @@ impl Input {
     pub fn with_texts(&self, other: impl Fn(&[u8]) -> Vec<u8>) -> Input {
         let mut input = self.clone();
         match &mut input {
-            Input::ReadRule { text, .. } | Input::ReadRecording { text, .. } => *text = other(text),
+            Input::ReadRule { text, .. }
+            | Input::ReadRecording { text, .. }
+            | Input::Archive { text, .. } => *text = other(text),
             Input::ReadJoint { rule, recording, .. } => {
                 (*rule, *recording) = (other(rule), other(recording));
             }
@@ -283,6 +296,7 @@ impl Input {
             Input::Rewrite { table, .. } => vec![slice("table", limits::TABLE_NODES, table)],
             Input::JudgeRecording { rows, .. } => vec![slice("rows", limits::ROW_WORDS, rows)],
             Input::Evidence { pairs, .. } => vec![slice("pairs", limits::PAIRS, pairs)],
+            Input::Archive { made, .. } => vec![slice("made", limits::ARCHIVE_BYTES, made)],
         }
     }
 
@@ -298,6 +312,7 @@ impl Input {
             Input::Rewrite { table, .. } => vec![table],
             Input::JudgeRecording { rows, .. } => vec![rows],
             Input::Evidence { pairs, .. } => vec![pairs],
+            Input::Archive { made, .. } => vec![made],
         }
     }
 
@@ -346,6 +361,7 @@ impl fmt::Display for Input {
             Input::Evidence { rule, recording, weak, pairs } => {
                 write!(out, "{rule:?}, {recording:?}, weak {weak}, pairs {pairs:?}")
             }
+            Input::Archive { text, made, .. } => write!(out, "{}, made {made:?}", quoted(text)),
         }
     }
 }

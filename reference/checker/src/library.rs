@@ -128,5 +128,13 @@ pub fn of(input: &Input) -> Outcome {
             let answer = ragyvosin::evidence(rule, recording, *weak, pairs.lend());
             outcome(answer, vec![pairs.words()])
         }
+        Input::Archive { back, text, made } => {
+            let mut made = Space::new(*made);
+            let answer = match back {
+                false => ragyvosin::to_archive(text, made.lend()),
+                true => ragyvosin::from_archive(text, made.lend()),
+            };
+            outcome(answer, vec![made.words()])
+        }
     }
 }

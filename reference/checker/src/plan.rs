@@ -37,6 +37,8 @@ pub struct Plan {
     pub gauge_step: usize,
     /// Batches of random recordings with gauges.
     pub gauge_batches: usize,
+    /// Batches of archive texts.
+    pub archive_batches: usize,
     /// All small rules on all small recordings.
     pub small: SmallPlan,
 }
@@ -85,6 +87,7 @@ impl Plan {
             field_bytes: 6,
             gauge_step: 1,
             gauge_batches: 200,
+            archive_batches: 100,
             small: SmallPlan {
                 nodes: 3,
                 states: 4,
@@ -114,6 +117,7 @@ impl Plan {
             session_batches: 1000,
             field_bytes: 7,
             gauge_batches: 2000,
+            archive_batches: 1000,
             small: SmallPlan {
                 every_recording_nodes: 3,
                 every_recording_states: 4,
@@ -147,6 +151,7 @@ impl Plan {
             field_bytes: 1,
             gauge_step: 7,
             gauge_batches: 2,
+            archive_batches: 1,
             small: SmallPlan {
                 nodes: 1,
                 states: 2,

@@ -1,5 +1,6 @@
 //! The programs themselves, through their standard input.
 
+mod archived;
 mod asked;
 mod judged;
 mod longest;
@@ -16,7 +17,9 @@ use std::thread::{self, JoinHandle};
 use std::time::{Duration, Instant};
 
 use reference::generate::random::Random;
-use reference::model::{longest_program, program, program_says, rule_program, watching, why};
+use reference::model::{
+    archive, longest_program, program, program_says, rule_program, watching, why,
+};
 
 use crate::check::Check;
 use crate::difference::Difference;
@@ -83,16 +86,36 @@ const WATCH: Program = Program {
     says: |_| Vec::new(),
 };
 
+/// The program that makes an archive text.
+const ARCHIVE: Program = Program {
+    operation: Operation::ArchiveProgram,
+    name: "archive",
+    variable: "RAGYVOSIN_ARCHIVE",
+    model: archive::print_archive,
+    says: archive::archive_says,
+};
+
+/// The program that makes a recording text of an archive text.
+const UNARCHIVE: Program = Program {
+    operation: Operation::UnarchiveProgram,
+    name: "unarchive",
+    variable: "RAGYVOSIN_UNARCHIVE",
+    model: archive::print_recording,
+    says: archive::recording_says,
+};
+
 /// Makes the runs of a program.
 type Runs = fn(&Plan) -> Vec<Job<'_>>;
 
 /// All programs, each with its runs.
-const PROGRAMS: [(Program, Runs); 5] = [
+const PROGRAMS: [(Program, Runs); 7] = [
     (JUDGE, judged::jobs),
     (RULE, typed::jobs),
     (WHY, asked::jobs),
     (LONGEST, longest::jobs),
     (WATCH, watched::jobs),
+    (ARCHIVE, archived::there),
+    (UNARCHIVE, archived::back),
 ];
 
 /// Runs of one job.

@@ -8,7 +8,7 @@ use crate::sessions::Sessions;
 use crate::small::Small;
 use crate::tally::{Section, Tally};
 use crate::wrong::WrongAnswer;
-use crate::{endings, gauges, lent, lines, program, sampled, texts, trials, work};
+use crate::{archive, endings, gauges, lent, lines, program, sampled, texts, trials, work};
 
 /// Runs a section: what was compared, or the first difference.
 pub fn run(section: Section, plan: &Plan, wrong: &WrongAnswer) -> Result<Tally, Difference> {
@@ -25,5 +25,6 @@ pub fn run(section: Section, plan: &Plan, wrong: &WrongAnswer) -> Result<Tally, 
         Section::Early => work::run(section, wrong, &Early::new(plan).jobs()),
         Section::Sessions => work::run(section, wrong, &Sessions::new(plan).jobs()),
         Section::Gauges => work::run(section, wrong, &gauges::jobs(plan)),
+        Section::Archive => work::run(section, wrong, &archive::jobs(plan)),
     }
 }

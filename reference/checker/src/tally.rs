@@ -30,11 +30,13 @@ pub enum Section {
     Sessions,
     /// Recordings with gauges.
     Gauges,
+    /// Archive texts: there and back, and every kind of damage.
+    Archive,
 }
 
 impl Section {
     /// Every section, in order.
-    pub const ALL: [Section; 12] = [
+    pub const ALL: [Section; 13] = [
         Section::Trials,
         Section::Texts,
         Section::Endings,
@@ -47,6 +49,7 @@ impl Section {
         Section::Early,
         Section::Sessions,
         Section::Gauges,
+        Section::Archive,
     ];
 
     /// The name that is printed and that `--only` takes.
@@ -64,6 +67,7 @@ impl Section {
             Section::Early => "early",
             Section::Sessions => "sessions",
             Section::Gauges => "gauges",
+            Section::Archive => "archive",
         }
     }
 }
@@ -104,6 +108,10 @@ pub enum Operation {
     ReplaceRule,
     /// The verdicts of a session.
     SessionVerdicts,
+    /// The archive text of a recording text.
+    ToArchive,
+    /// The recording text of an archive text.
+    FromArchive,
     /// An accepted text, read and written, is the same text with byte 10 at
     /// each line.
     RoundTrip,
@@ -137,6 +145,10 @@ pub enum Operation {
     LongestProgram,
     /// The program `watch`.
     WatchProgram,
+    /// The program `archive`.
+    ArchiveProgram,
+    /// The program `unarchive`.
+    UnarchiveProgram,
 }
 
 impl Operation {
@@ -183,6 +195,8 @@ impl Operation {
             Operation::Withdraw => "withdraw",
             Operation::ReplaceRule => "replace_rule",
             Operation::SessionVerdicts => "session_verdicts",
+            Operation::ToArchive => "to_archive",
+            Operation::FromArchive => "from_archive",
             Operation::RoundTrip => "round_trip",
             Operation::Endings => "endings",
             Operation::Schedules => "schedules",
@@ -198,6 +212,8 @@ impl Operation {
             Operation::WhyProgram => "why",
             Operation::LongestProgram => "longest",
             Operation::WatchProgram => "watch",
+            Operation::ArchiveProgram => "archive",
+            Operation::UnarchiveProgram => "unarchive",
         }
     }
 }
@@ -240,11 +256,15 @@ const ANSWERABLE: &[(Operation, &[usize])] = &[
     (Operation::Withdraw, &[0, 6, 13, 18]),
     (Operation::ReplaceRule, &[0, 2, 3, 4, 11, 13]),
     (Operation::SessionVerdicts, &[0, 2, 3, 4, 6, 7, 8, 10, 11]),
+    (Operation::ToArchive, &[0, 5, 6, 7, 8, 10, 13]),
+    (Operation::FromArchive, &[0, 5, 6, 7, 8, 10, 13]),
     (Operation::Program, &[0, 1, 2, 3, 4, 5, 6, 7, 8, 10, 11, 14, 19, 20]),
     (Operation::RuleProgram, &[0, 1, 2, 14, 15, 16]),
     (Operation::WhyProgram, &[0, 1, 2, 3, 4, 5, 6, 7, 8, 10, 11, 14, 19, 20]),
     (Operation::LongestProgram, &[0, 1, 2, 14]),
     (Operation::WatchProgram, &[0, 1, 2, 3, 4, 5, 6, 7, 8, 10, 11, 14, 17, 18]),
+    (Operation::ArchiveProgram, &[0, 5, 8, 14]),
+    (Operation::UnarchiveProgram, &[0, 5, 8, 14]),
 ];
 
 impl Tally {

@@ -252,6 +252,8 @@ fn lists() -> Vec<(Section, Operation, &'static [Place])> {
         (Section::Program, Operation::LongestProgram, LONGEST_PRINTERS),
         (Section::Program, Operation::WatchProgram, &[Named, Content, Length]),
         (Section::Program, Operation::WatchProgram, WATCH_PRINTERS),
+        (Section::Program, Operation::ArchiveProgram, &[Named, Content, Length, Line]),
+        (Section::Program, Operation::UnarchiveProgram, &[Named, Content, Length, Line]),
         (Section::Small, Operation::Project, &[Number, Value, Content]),
         (Section::Small, Operation::Beginnings, &[Number, Content]),
         (Section::Small, Operation::RewritePlain, &[Value, Content]),
@@ -275,6 +277,12 @@ fn lists() -> Vec<(Section, Operation, &'static [Place])> {
         (Section::Gauges, Operation::ReadRecording, &[Number, Value, Content, Unused, Zero]),
         (Section::Gauges, Operation::ReadJoint, &[Number, Value, Line, Content, Untouched]),
         (Section::Gauges, Operation::Finished, &[Content]),
+        (Section::Archive, Operation::ToArchive, &[Named, Number, Value]),
+        (Section::Archive, Operation::ToArchive, &[Content, Unused, Zero, Untouched, Beyond]),
+        (Section::Archive, Operation::FromArchive, &[Named, Number, Value]),
+        (Section::Archive, Operation::FromArchive, &[Content, Unused, Zero, Untouched, Beyond]),
+        (Section::Archive, Operation::RoundTrip, &[Content]),
+        (Section::Archive, Operation::Endings, &[Value]),
     ]);
     lists
 }

@@ -40,6 +40,8 @@ pub mod full {
     pub const RULE_BYTES: usize = 1024;
     /// Pairs of a node and a place.
     pub const PAIRS: usize = RULE_NODES * PLACES;
+    /// Bytes of an archive text, or of a recording text that is made of one.
+    pub const ARCHIVE_BYTES: usize = 8192;
     /// Numbers of a session's heading.
     pub const HEADING: usize = 4;
 }
@@ -118,6 +120,38 @@ pub fn write_rule(rule: Rule, text: &mut [u8]) -> (u8, [usize; 1]) {
             rule.count,
             rule.nodes.as_ptr(),
             rule.nodes.len(),
+            text.as_mut_ptr(),
+            text.len(),
+            &mut values,
+        )
+    };
+    (number, values)
+}
+
+/// Makes the archive text of a recording text: its length.
+pub fn to_archive(text: &[u8], archive: &mut [u8]) -> (u8, [usize; 1]) {
+    let mut values = [usize::MAX; 1];
+    // SAFETY: as in `read_rule`.
+    let number = unsafe {
+        sys::rgv_to_archive(
+            text.as_ptr(),
+            text.len(),
+            archive.as_mut_ptr(),
+            archive.len(),
+            &mut values,
+        )
+    };
+    (number, values)
+}
+
+/// Makes the recording text of an archive text: its length.
+pub fn from_archive(archive: &[u8], text: &mut [u8]) -> (u8, [usize; 1]) {
+    let mut values = [usize::MAX; 1];
+    // SAFETY: as in `read_rule`.
+    let number = unsafe {
+        sys::rgv_from_archive(
+            archive.as_ptr(),
+            archive.len(),
             text.as_mut_ptr(),
             text.len(),
             &mut values,

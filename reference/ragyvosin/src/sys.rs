@@ -29,6 +29,22 @@ extern "C" {
         values: *mut [usize; 1],
     ) -> u8;
 
+    pub fn rgv_to_archive(
+        text: *const u8,
+        text_len: usize,
+        archive: *mut u8,
+        archive_len: usize,
+        values: *mut [usize; 1],
+    ) -> u8;
+
+    pub fn rgv_from_archive(
+        archive: *const u8,
+        archive_len: usize,
+        text: *mut u8,
+        text_len: usize,
+        values: *mut [usize; 1],
+    ) -> u8;
+
     pub fn rgv_read_recording(
         text: *const u8,
         text_len: usize,

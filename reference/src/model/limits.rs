@@ -35,3 +35,5 @@ pub const GAUGES: usize = 8;
 pub const LEAST: i128 = -32768;
 /// "to 327.67": in hundredths.
 pub const MOST: i128 = 32767;
+/// "The full size of the lent space is 8,192 bytes either way": archive texts.
+pub const ARCHIVE_BYTES: usize = 8192;

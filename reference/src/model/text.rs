@@ -50,7 +50,7 @@ pub fn only_line(text: &[u8]) -> Option<&[u8]> {
 }
 
 /// The lines of a text, in order.
-struct Lines<'a> {
+pub(super) struct Lines<'a> {
     text: &'a [u8],
     start: usize,
     /// The number for a line that isn't closed.
@@ -62,7 +62,10 @@ struct Lines<'a> {
 impl Lines<'_> {
     /// Reads one line and hands it to `read`. "for an unclosed line all that
     /// is left, for a missing line the empty end of that text".
-    fn read<T>(&mut self, read: impl FnOnce(&[u8]) -> Result<T, u8>) -> Result<T, RefusedLine> {
+    pub(super) fn read<T>(
+        &mut self,
+        read: impl FnOnce(&[u8]) -> Result<T, u8>,
+    ) -> Result<T, RefusedLine> {
         let end = self.text.len();
         if self.start == end {
             return Err(RefusedLine { number: self.lines, line: end..end });
@@ -83,7 +86,7 @@ impl Lines<'_> {
     }
 
     /// "for a line too many the first extra one" (up to its ending or the end).
-    fn finish(&self) -> Result<(), RefusedLine> {
+    pub(super) fn finish(&self) -> Result<(), RefusedLine> {
         if self.start == self.text.len() {
             return Ok(());
         }
@@ -92,7 +95,7 @@ impl Lines<'_> {
 }
 
 /// The fields of a line.
-fn fields(line: &[u8]) -> Vec<&[u8]> {
+pub(super) fn fields(line: &[u8]) -> Vec<&[u8]> {
     line.split(|byte| *byte == TAB).collect()
 }
 
@@ -250,8 +253,14 @@ pub fn state_of_line(controllers: usize, line: &[u8]) -> Result<State, u8> {
     Ok(measured_of_line(&AsWorded, controllers, 0, line)?.state)
 }
 
-/// The masks of a recording text: 5 and 7 of each line.
-fn masks_of_lines(lines: &mut Lines, controllers: usize) -> Result<Vec<u32>, RefusedLine> {
+/// The lines of a recording text, or of an archive text.
+pub(super) fn recording_lines(text: &[u8]) -> Lines<'_> {
+    Lines { text, start: 0, form: refusal::RECORDING_FORM, lines: refusal::RECORDING_LINES }
+}
+
+/// "the heading and `owns` lines": N and the masks (5, 6, 7 of each line).
+pub(super) fn read_opening(lines: &mut Lines) -> Result<(usize, Vec<u32>), RefusedLine> {
+    let (controllers, length) = lines.read(recording_heading)?;
     let mut masks = Vec::new();
     for _ in 0..controllers {
         masks.push(lines.read(|line| {
@@ -260,7 +269,7 @@ fn masks_of_lines(lines: &mut Lines, controllers: usize) -> Result<Vec<u32>, Ref
             Ok(mask)
         })?);
     }
-    Ok(masks)
+    Ok((length, masks))
 }
 
 /// "After the `owns` lines a recording may have up to 8 lines `gauge`": 5, 6 and
@@ -277,34 +286,54 @@ fn gauges_of_lines(gauging: &dyn Gauging, lines: &mut Lines) -> Result<Vec<Gauge
     Ok(gauges)
 }
 
+/// "N lines `at`", with their finished words: 5, 6, 20 and 10 of each.
+fn states_of_lines(
+    gauging: &dyn Gauging,
+    lines: &mut Lines,
+    length: usize,
+    masks: &[u32],
+    gauges: &[Gauge],
+) -> Result<Vec<State>, RefusedLine> {
+    let controllers = masks.len();
+    let mut states: Vec<State> = Vec::new();
+    for _ in 0..length {
+        states.push(lines.read(|line| {
+            let measured = measured_of_line(gauging, controllers, gauges.len(), line)?;
+            let state = states.last().copied();
+            let before = Before { controllers, masks, gauges, state };
+            gauging.check_state(before, &measured)
+        })?);
+    }
+    Ok(states)
+}
+
 /// A recording text: its lines (5, 6, 7, 19, 20, 10 of each), then the line
 /// count (8).
 pub fn read_recording(text: &[u8]) -> Result<Recording, RefusedLine> {
     read_recording_by(&AsWorded, text)
 }
 
+/// "a recording without gauges": a gauge line is no `at` line.
+pub fn read_plain(text: &[u8]) -> Result<Recording, RefusedLine> {
+    let mut lines = recording_lines(text);
+    let (length, masks) = read_opening(&mut lines)?;
+    let states = states_of_lines(&AsWorded, &mut lines, length, &masks, &[])?;
+    lines.finish()?;
+    Ok(Recording { masks, states })
+}
+
 /// The same with gauges read otherwise than they are worded.
 pub fn read_recording_by(gauging: &dyn Gauging, text: &[u8]) -> Result<Recording, RefusedLine> {
-    let mut lines =
-        Lines { text, start: 0, form: refusal::RECORDING_FORM, lines: refusal::RECORDING_LINES };
-    let (controllers, length) = lines.read(recording_heading)?;
-    let masks = masks_of_lines(&mut lines, controllers)?;
+    let mut lines = recording_lines(text);
+    let (length, masks) = read_opening(&mut lines)?;
     let gauges = gauges_of_lines(gauging, &mut lines)?;
-    let mut states: Vec<State> = Vec::new();
-    for _ in 0..length {
-        states.push(lines.read(|line| {
-            let measured = measured_of_line(gauging, controllers, gauges.len(), line)?;
-            let state = states.last().copied();
-            let before = Before { controllers, masks: &masks, gauges: &gauges, state };
-            gauging.check_state(before, &measured)
-        })?);
-    }
+    let states = states_of_lines(gauging, &mut lines, length, &masks, &gauges)?;
     lines.finish()?;
     Ok(Recording { masks, states })
 }
 
 /// Adds one record to a text.
-fn put_line(text: &mut Vec<u8>, fields: &[&[u8]]) {
+pub(super) fn put_line(text: &mut Vec<u8>, fields: &[&[u8]]) {
     text.extend(fields.join(&TAB));
     text.push(NEWLINE);
 }

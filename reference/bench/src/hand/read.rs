@@ -8,13 +8,13 @@ use ragyvosin::{full, Joint};
 use reference::model::{limits, refusal};
 
 /// A refusal number and where its line starts.
-struct Refused {
-    number: u8,
+pub struct Refused {
+    pub number: u8,
     start: usize,
 }
 
 /// The lines of a text, with the numbers for their form and their count.
-struct Lines<'a> {
+pub struct Lines<'a> {
     text: &'a [u8],
     start: usize,
     form: u8,
@@ -32,16 +32,16 @@ fn without_return(line: &[u8]) -> &[u8] {
 }
 
 impl<'a> Lines<'a> {
-    fn new(text: &'a [u8], form: u8, missing: u8) -> Lines<'a> {
+    pub fn new(text: &'a [u8], form: u8, missing: u8) -> Lines<'a> {
         Lines { text, start: 0, form, missing }
     }
 
-    fn refused(&self, number: u8) -> Refused {
+    pub fn refused(&self, number: u8) -> Refused {
         Refused { number, start: self.start }
     }
 
     /// Reads the next line.
-    fn read<T>(&mut self, read: impl FnOnce(&'a [u8]) -> Result<T, u8>) -> Result<T, Refused> {
+    pub fn read<T>(&mut self, read: impl FnOnce(&'a [u8]) -> Result<T, u8>) -> Result<T, Refused> {
         let rest = &self.text[self.start..];
         if rest.is_empty() {
             return Err(self.refused(self.missing));
@@ -60,7 +60,7 @@ impl<'a> Lines<'a> {
     }
 
     /// No line may be left.
-    fn finish(&self) -> Result<(), Refused> {
+    pub fn finish(&self) -> Result<(), Refused> {
         if self.start < self.text.len() {
             return Err(self.refused(self.missing));
         }
@@ -69,7 +69,7 @@ impl<'a> Lines<'a> {
 }
 
 /// A part before the first tab, and what follows it.
-fn split(line: &[u8]) -> Option<(&[u8], &[u8])> {
+pub fn split(line: &[u8]) -> Option<(&[u8], &[u8])> {
     let tab = find(line, b'\t')?;
     Some((&line[..tab], &line[tab + 1..]))
 }
@@ -235,38 +235,55 @@ fn scan_gauges(lines: &mut Lines) -> Result<Gauges, Refused> {
     Ok(gauges)
 }
 
-/// C and N of a recording, its masks and states into lent space.
-fn scan_recording(
-    text: &[u8],
-    masks: &mut [u32],
-    states: &mut [u64],
-) -> Result<[usize; 2], Refused> {
-    let mut lines = Lines::new(text, refusal::RECORDING_FORM, refusal::RECORDING_LINES);
+/// C and N of a recording, its masks into lent space.
+pub fn scan_opening(lines: &mut Lines, masks: &mut [u32]) -> Result<[usize; 2], Refused> {
     let (controllers, count) = lines.read(|line| {
         let (controllers, count) = heading(line, b"recording").ok_or(refusal::RECORDING_FORM)?;
         check::recording_heading(controllers, count)?;
         Ok((controllers, count))
     })?;
-    let masks = &mut masks[..controllers];
     let mut seen = 0;
-    for mask in masks.iter_mut() {
+    for mask in masks[..controllers].iter_mut() {
         *mask = lines.read(|line| mask_line(seen, line))?;
         seen |= *mask;
     }
-    let gauges = scan_gauges(&mut lines)?;
+    Ok([controllers, count])
+}
+
+/// So many states of a recording with these gauges into lent space, and then the end.
+fn scan_states(
+    lines: &mut Lines,
+    gauges: &Gauges,
+    masks: &[u32],
+    states: &mut [u64],
+) -> Result<(), Refused> {
     let mut before = None;
-    for word in states[..count].iter_mut() {
+    for word in states.iter_mut() {
         *word = lines.read(|line| {
-            let line = state_line(controllers, gauges.count, line);
+            let line = state_line(masks.len(), gauges.count, line);
             let (state, values) = line.ok_or(refusal::RECORDING_FORM)?;
-            check::marks(controllers, state)?;
+            check::marks(masks.len(), state)?;
             let state = gauges.finish(state, &values)?;
             check::output(masks, before, state)?;
             Ok(state)
         })?;
         before = Some(*word);
     }
-    lines.finish()?;
+    lines.finish()
+}
+
+/// C and N of a recording, its masks and states into lent space; gauge lines are
+/// read where it may have gauges.
+pub fn scan_recording(
+    text: &[u8],
+    gauged: bool,
+    masks: &mut [u32],
+    states: &mut [u64],
+) -> Result<[usize; 2], Refused> {
+    let mut lines = Lines::new(text, refusal::RECORDING_FORM, refusal::RECORDING_LINES);
+    let [controllers, count] = scan_opening(&mut lines, masks)?;
+    let gauges = if gauged { scan_gauges(&mut lines)? } else { Gauges::default() };
+    scan_states(&mut lines, &gauges, &masks[..controllers], &mut states[..count])?;
     Ok([controllers, count])
 }
 
@@ -284,7 +301,7 @@ pub fn read_recording(text: &[u8], masks: &mut [u32], states: &mut [u64]) -> (u8
     if masks.len() < full::MASKS || states.len() < full::STATES {
         return (refusal::LENT_SPACE, [0; 2]);
     }
-    let scanned = scan_recording(text, masks, states);
+    let scanned = scan_recording(text, true, masks, states);
     let [controllers, count] = *scanned.as_ref().unwrap_or(&[0; 2]);
     masks[controllers..full::MASKS].fill(0);
     states[count..full::STATES].fill(0);
@@ -309,7 +326,7 @@ fn join<'a>(
         Ok(values) => values,
         Err(refused) => return refused_line(refused.number, true, rule, refused.start),
     };
-    let [controllers, length] = match scan_recording(recording, masks, states) {
+    let [controllers, length] = match scan_recording(recording, true, masks, states) {
         Ok(values) => values,
         Err(refused) => return refused_line(refused.number, false, recording, refused.start),
     };

@@ -6,27 +6,45 @@ use ragyvosin::{full, Rule};
 use reference::model::refusal;
 
 /// The text and how many bytes of it were written.
-struct Writer<'a> {
+pub struct Writer<'a> {
     text: &'a mut [u8],
     length: usize,
 }
 
-impl Writer<'_> {
-    fn bytes(&mut self, bytes: &[u8]) {
+impl<'a> Writer<'a> {
+    pub fn new(text: &'a mut [u8]) -> Writer<'a> {
+        Writer { text, length: 0 }
+    }
+
+    pub fn length(&self) -> usize {
+        self.length
+    }
+
+    pub fn bytes(&mut self, bytes: &[u8]) {
         self.text[self.length..self.length + bytes.len()].copy_from_slice(bytes);
         self.length += bytes.len();
     }
 
-    fn byte(&mut self, byte: u8) {
+    pub fn byte(&mut self, byte: u8) {
         self.text[self.length] = byte;
         self.length += 1;
     }
 
-    /// A tab and a number, which here is below 100.
-    fn field(&mut self, number: usize) {
+    /// So many hexadecimal digits, highest first.
+    pub fn hexadecimal(&mut self, value: u64, digits: usize) {
+        for place in (0..digits).rev() {
+            self.byte(b"0123456789abcdef"[(value >> (4 * place) & 15) as usize]);
+        }
+    }
+
+    /// A tab and a number, which here is below 1,000.
+    pub fn field(&mut self, number: usize) {
         self.byte(b'\t');
+        if number >= 100 {
+            self.byte(b'0' + (number / 100) as u8);
+        }
         if number >= 10 {
-            self.byte(b'0' + (number / 10) as u8);
+            self.byte(b'0' + (number / 10 % 10) as u8);
         }
         self.byte(b'0' + (number % 10) as u8);
     }
@@ -51,7 +69,7 @@ pub fn write_rule(rule: Rule, text: &mut [u8]) -> (u8, [usize; 1]) {
     if let Err(number) = check::rule(rule) {
         return refused(number, text, full::RULE_BYTES);
     }
-    let mut writer = Writer { text: &mut text[..full::RULE_BYTES], length: 0 };
+    let mut writer = Writer::new(&mut text[..full::RULE_BYTES]);
     writer.bytes(b"rule");
     writer.field(rule.controller);
     writer.field(rule.count);
@@ -59,7 +77,7 @@ pub fn write_rule(rule: Rule, text: &mut [u8]) -> (u8, [usize; 1]) {
     for word in &rule.nodes[..rule.count] {
         writer.node(*word);
     }
-    let length = writer.length;
+    let length = writer.length();
     text[length..full::RULE_BYTES].fill(0);
     (0, [length])
 }

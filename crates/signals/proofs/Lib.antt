@@ -1,0 +1,4 @@
+pub mod FilledLaws
+pub mod LayingLaws
+pub mod ScanningLaws
+pub mod WritingLaws
