@@ -174,8 +174,6 @@ pub record Limits : Type 0 where
   pub notLong : step (replicate 16383 120 ++ (10 ∷ [])) (Opening []) ≡ stepped (Opening (replicate 16383 120 ++ (10 ∷ []))) []
   -- 14 of a new rule's text, whatever its last line is; what is held stays, and the next line is an event
   pub longRule : step (replicate 16376 120) (Ruling (bytes "rule\t0\t2\n") (holding 1)) ≡ stepped (Running (holding 1)) (bytes "refused\t14\t\n")
-  pub longHeading : (step (bytes "rule\t" ++ replicate 16380 48) (Running (holding 1))) .printed ≡ bytes "refused\t14\t\n"
-  pub notLongRule : (step (replicate 16374 120 ++ (10 ∷ [])) (Ruling (bytes "rule\t0\t2\n") (holding 1))) .printed ≡ bytes "refused\t2\t" ++ (replicate 1024 120 ++ (10 ∷ []))
   -- 17
   pub full : step (bytes "at\t00\t00000000\n") (Running (holding 128)) ≡ stepped (Running (holding 128)) (bytes "refused\t17\tat\t00\t00000000\n")
   pub fullMark : (step (bytes "at\t04\t00000000\n") (Running (holding 128))) .printed ≡ bytes "refused\t17\tat\t04\t00000000\n"
@@ -187,4 +185,4 @@ pub record Limits : Type 0 where
 
 limits : Limits
 unfolding watched
-limits = record { long = refl; notLong = refl; longRule = refl; longHeading = refl; notLongRule = refl; full = refl; fullMark = refl; longLine = refl; lineOf1024 = refl; noVerdict = refl }
+limits = record { long = refl; notLong = refl; longRule = refl; full = refl; fullMark = refl; longLine = refl; lineOf1024 = refl; noVerdict = refl }
