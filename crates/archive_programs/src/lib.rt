@@ -1,4 +1,6 @@
 // The programs `archive` and `unarchive` as functions, from the input's bytes to the output's bytes: one engine with a flag.
+#![tactic(auto)]
+
 ghost use Rattle.std.specs.Prelude.{◌≡◌, drop};
 ghost use Rattle.definitions.specs.Lines.{line_of};
 ghost use Rattle.definitions.specs.Program.{refused_text};

@@ -1,5 +1,7 @@
 // A recording text made an archive text, and the inverse: text to text, one engine with a flag. `reading`: either text into masks and states, up to the first
 // refusal; `writing`: either text from them.
+#![tactic(auto)]
+
 pub mod reading;
 pub mod writing;
 
@@ -10,7 +12,7 @@ use rules::limits::{Limits, Refusal};
 use writing::put_text;
 
 // The length of the text, or the refusal.
-#[derive(Drop)]
+#[derive(Clone, Copy)]
 pub enum TextWritten {
     Length(usize),
     Refused(u8),

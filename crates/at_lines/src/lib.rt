@@ -1,5 +1,7 @@
 // The `at` lines of a recording text: the next line, refused with a number or read as a state. Here without gauges; `measured`: a line that ends with values.
 // The line has `len` bytes; nothing is kept of it but its state.
+#![tactic(auto)]
+
 pub mod measured;
 
 ghost use Rattle.std.specs.Prelude.{◌≡◌};
@@ -14,7 +16,7 @@ use rules::choice::pick_index;
 use rules::limits::{Limits, Refusal};
 
 // A state as one word, or the refusal.
-#[derive(Drop)]
+#[derive(Clone, Copy)]
 pub enum StateRead {
     State(u64),
     Refused(u8),

@@ -1,4 +1,6 @@
 // Each answer as C has it: its number, and its values in an array of fixed length, zeros on a refusal.
+#![tactic(auto)]
+
 ghost use Rattle.std.specs.Prelude.{◌≡◌, ◌∷◌, ◌++◌};
 ghost use Rattle.rule_reader.specs.Reading.{read_answer as rule_read};
 ghost use Rattle.rule_writer.specs.Writing.{write_answer as rule_written};
@@ -27,28 +29,28 @@ use rules::limits::Refusal;
 use sessions::query::SessionVerdicts;
 
 // A number and one value.
-#[derive(Drop)]
+#[derive(Clone, Copy)]
 pub struct OneValue {
     pub number: u8,
     pub values: [usize; 1],
 }
 
 // A number and two values.
-#[derive(Drop)]
+#[derive(Clone, Copy)]
 pub struct TwoValues {
     pub number: u8,
     pub values: [usize; 2],
 }
 
 // A number and three values.
-#[derive(Drop)]
+#[derive(Clone, Copy)]
 pub struct ThreeValues {
     pub number: u8,
     pub values: [usize; 3],
 }
 
 // A number and seven values.
-#[derive(Drop)]
+#[derive(Clone, Copy)]
 pub struct SevenValues {
     pub number: u8,
     pub values: [usize; 7],

@@ -1,5 +1,7 @@
 // The evaluator of a table over a trace of state words: a weak and a strong row for each node, into lent rows. `leaf`: the rows of a node without operands.
 // It gives no verdict.
+#![tactic(auto)]
+
 pub mod leaf;
 
 ghost use Rattle.std.specs.Prelude.{◌≡◌, ◌++◌, ◌+◌, ◌*◌, ◌<◌, ◌≤◌, length, drop};
@@ -17,7 +19,7 @@ use rules::node::Node;
 pub const UNREAD_CONTROLLER: usize = 0;
 
 // How many of the states are the trace, the controller whose runs are read, and the atoms that it owns.
-#[derive(Drop)]
+#[derive(Clone, Copy)]
 pub struct Traced {
     pub count: usize,
     pub controller: usize,
@@ -25,7 +27,7 @@ pub struct Traced {
 }
 
 // The leaves seen so far: a slot holds the number of the last node whose leaf fell into it.
-#[derive(Drop)]
+#[derive(Clone, Copy)]
 pub struct Seen {}
 
 impl Seen {

@@ -11,7 +11,7 @@ use rules::limits::Limits;
 use walk::walk;
 
 // The verdicts of a rule on its local trace, and how many pairs decide the chosen one.
-#[derive(Drop)]
+#[derive(Clone, Copy)]
 pub struct Explained {
     pub verdicts: Verdicts,
     pub count: usize,

@@ -1,5 +1,7 @@
 // The readings behind a verdict as an operation: of any rule on any recording, in lent space. `accepted`: of what is accepted already; `found`, `pairs`: the
 // pairs of a node of kind atom and a place, from the places that are wanted.
+#![tactic(auto)]
+
 pub mod accepted;
 pub mod found;
 pub mod pairs;
@@ -16,7 +18,7 @@ use rules::choice::{or_else, pick, pick_index};
 use rules::headings::RuleHeading;
 use rules::limits::{Limits, Refusal};
 
-#[derive(Drop)]
+#[derive(Clone, Copy)]
 pub enum Explanation {
     Pairs(usize),
     Refused(u8),

@@ -1,5 +1,7 @@
 // What is printed of an accepted rule and recording: the verdict that is asked for, and a line for each reading behind it. `verdict`, `line`: these lines.
 // Nothing is refused here.
+#![tactic(auto)]
+
 pub mod line;
 pub mod verdict;
 

@@ -12,7 +12,7 @@ use rules::limits::Limits;
 use rules::node::Node;
 
 // What is said of a pair: the state of the recording, the controller's step, the atom, its bit there, the rule's node.
-#[derive(Drop)]
+#[derive(Clone, Copy)]
 struct Line {
     state: u32,
     step: u32,

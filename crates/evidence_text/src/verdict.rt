@@ -8,7 +8,7 @@ use judges::verdicts::Verdicts;
 pub const VERDICT_BYTES: usize = 11;
 
 // A line: so many bytes of these.
-#[derive(Drop)]
+#[derive(Clone, Copy)]
 pub struct VerdictLine {
     pub bytes: [u8; VERDICT_BYTES],
     pub count: usize,

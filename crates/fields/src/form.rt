@@ -9,7 +9,7 @@ use super::number::Field;
 use lines::scan;
 
 // Two fields that are read as numbers.
-#[derive(Drop)]
+#[derive(Clone, Copy)]
 pub enum Pair {
     Numbers(u32, u32),
     Malformed,

@@ -4,7 +4,7 @@ ghost use Rattle.definitions.specs.Lines.{decimal, hex_digit, hexadecimal};
 ghost use Rattle.fields.specs.Fields.{largest, widest, cap, capped, exact};
 
 // A field that is read as a number.
-#[derive(Drop)]
+#[derive(Clone, Copy)]
 pub enum Field {
     Number(u32),
     Malformed,

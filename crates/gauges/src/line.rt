@@ -15,7 +15,7 @@ use measures::Measure;
 use rules::limits::{Limits, Refusal};
 
 // Atom and threshold, or the refusal of a gauge line.
-#[derive(Drop)]
+#[derive(Clone, Copy)]
 pub enum GaugeRead {
     Gauge(u32, i32),
     Refused(u8),

@@ -9,7 +9,7 @@ use lines::first_line;
 use rules::limits::{Limits, Refusal};
 
 // What the gauge lines gave: the refusal or 0, the place of the line that they end at, and the first `count` atoms and thresholds.
-#[derive(Drop)]
+#[derive(Clone, Copy)]
 pub struct Gauged {
     pub number: u8,
     pub at: usize,

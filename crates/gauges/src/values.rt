@@ -12,14 +12,14 @@ use measures::Measure;
 use rules::limits::Refusal;
 
 // The word so far, and the refusal so far or 0.
-#[derive(Drop)]
+#[derive(Clone, Copy)]
 pub struct Step {
     pub word: u32,
     pub refusal: u8,
 }
 
 // The finished word, or the refusal of the values.
-#[derive(Drop)]
+#[derive(Clone, Copy)]
 pub enum Finish {
     Word(u32),
     Refused(u8),

@@ -147,7 +147,7 @@ pub const OPENING: [u32; MOST] = [
 ];
 
 // A list of document 01: how many of its rows are the weak image's, how many there are, the rows.
-#[derive(Drop)]
+#[derive(Clone, Copy)]
 pub struct Block {
     pub weak: usize,
     pub count: usize,
@@ -342,7 +342,7 @@ const SHORT_SINCE: Block = Block {
 };
 
 // A form is a kind's number, or one of these.
-#[derive(Drop)]
+#[derive(Clone, Copy)]
 pub struct Form {}
 
 impl Form {

@@ -1,5 +1,7 @@
 // The images of one node of a rule, from those of its operands; the opening before the first and the closing after the last. `blocks`: the documents' lists
 // of nodes as data; `lay`: the loop that lays them.
+#![tactic(auto)]
+
 pub mod blocks;
 pub mod lay;
 
@@ -16,7 +18,7 @@ use rules::choice::pick;
 use rules::node::Node;
 
 // The numbers of the weak and the strong image of a rule's node, and whether it is tolerant.
-#[derive(Drop)]
+#[derive(Clone, Copy)]
 pub struct Image {
     pub weak: u16,
     pub strong: u16,
@@ -24,7 +26,7 @@ pub struct Image {
 }
 
 // "The result carries node count and both tops."
-#[derive(Drop)]
+#[derive(Clone, Copy)]
 pub struct Tops {
     pub count: usize,
     pub weak: usize,

@@ -1,5 +1,7 @@
 // The joint reading: the rule text, then the recording text, then the two together, and the refused line as a part of its text. `space`: the three lent tables;
 // `scan`: both texts up to the first refusal, and which line is handed back. Nothing is judged here.
+#![tactic(auto)]
+
 pub mod scan;
 pub mod space;
 

@@ -10,7 +10,7 @@ use rule_reader::scan_rule;
 use rules::limits::Refusal;
 
 // The number and, accepted, controller, node count, C and N; and the part handed back: of which text, from where, how long.
-#[derive(Drop)]
+#[derive(Clone, Copy)]
 pub struct Found {
     pub number: u8,
     pub controller: u32,

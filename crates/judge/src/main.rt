@@ -1,5 +1,7 @@
 // Judges the rule and the recording on standard input, and prints to standard output. On standard error it says where a
 // refused line stands, or what could not be read or written.
+#![tactic(auto)]
+
 use libc::STDOUT_FILENO;
 use refused_line::refused_line;
 use report::REFUSED;

@@ -1,4 +1,6 @@
 // The program: both texts are read, judged, and printed of.
+#![tactic(auto)]
+
 ghost use Rattle.definitions.specs.Program.{texts_output, program_output};
 ghost use Rattle.printing.specs.Printing.{Printed, OutputIs};
 ghost use Rattle.rules.specs.Headings.{rule_in};

@@ -20,7 +20,7 @@ use rules::limits::{Limits, Refusal};
 use rules::table_check::rule_refusal;
 
 // The local trace of one controller: its mask, how many places there are, and their words; what stands past these does not matter.
-#[derive(Drop)]
+#[derive(Clone, Copy)]
 pub struct LocalTrace {
     pub controller: usize,
     pub mask: u32,

@@ -6,13 +6,13 @@ use rows::pair::Pair;
 use rows::stored::load;
 use rules::limits::Limits;
 
-#[derive(Drop)]
+#[derive(Clone, Copy)]
 pub struct Verdicts {
     pub weak: bool,
     pub strong: bool,
 }
 
-#[derive(Drop)]
+#[derive(Clone, Copy)]
 pub enum Judgement {
     Judged(Verdicts),
     Refused(u8),

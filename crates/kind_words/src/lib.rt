@@ -1,4 +1,6 @@
 // Kind words: fixed byte strings, compared when reading and handed out for printing.
+#![tactic(auto)]
+
 ghost use Rattle.std.specs.Prelude.{◌≡◌};
 ghost use Rattle.definitions.specs.Nodes.{kind_number, kind_of};
 ghost use Rattle.definitions.specs.RuleText.{word_kind};
@@ -54,7 +56,7 @@ fn late_kind_of_word(w: &[u8]) -> u8
 }
 
 // A kind's word: its letters in the first bytes, and how many they are.
-#[derive(Drop)]
+#[derive(Clone, Copy)]
 pub struct Word(pub [u8; 5], pub usize);
 
 // The words by the numbers of their kinds.

@@ -1,4 +1,6 @@
 // Lent space: zeroing a part of it, and laying words over its start. What an operation leaves there is in proofs/LeftLaws.
+#![tactic(auto)]
+
 ghost use Rattle.std.specs.Prelude.{◌≡◌, ◌++◌, ◌≤◌, length, take, drop};
 ghost use Rattle.definitions.specs.Limits.{accepted};
 ghost use Rattle.definitions.specs.Operations.{left};

@@ -6,7 +6,7 @@ use rules::choice::pick;
 use rules::limits::{Limits, Refusal};
 
 // How the input is refused, 0 where it is one line and its end; and how many bytes its first line has.
-#[derive(Drop)]
+#[derive(Clone, Copy)]
 pub struct OnlyLine {
     pub number: u8,
     pub len: usize,

@@ -1,5 +1,7 @@
 // Lines of a text: the first line with either ending, what is after it, and how the next line is refused for its end. `scan`: bytes and the rest after one.
 // What a line says is not asked here.
+#![tactic(auto)]
+
 pub mod scan;
 
 ghost use Rattle.std.specs.Prelude.{◌≡◌};
@@ -7,14 +9,14 @@ ghost use Rattle.definitions.specs.Lines.{line_length};
 ghost use Rattle.lines.specs.Reading.{Ending, FirstLine, end_refusal};
 
 // The first line of a text: how many bytes it has without its ending, and where the text after its ending begins.
-#[derive(Drop)]
+#[derive(Clone, Copy)]
 pub struct Line {
     pub len: usize,
     pub next: usize,
 }
 
 // How a reading of lines ended: the refusal or 0, and the place of the line that it ended at.
-#[derive(Drop)]
+#[derive(Clone, Copy)]
 pub struct Stopped {
     pub number: u8,
     pub at: usize,

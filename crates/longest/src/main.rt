@@ -1,5 +1,7 @@
 // Makes the rule text whose plain table grows most, of as many nodes as standard input says, and prints it to standard output.
 // On standard error it says what could not be read or written.
+#![tactic(auto)]
+
 use libc::STDOUT_FILENO;
 use line_programs::longest;
 use rules::limits::Limits;

@@ -1,4 +1,6 @@
 // Words of marks: the operators on 64 places at once, a mark a bit, the first place lowest.
+#![tactic(auto)]
+
 ghost use Rattle.std.specs.Prelude.{◌≡◌, ◌+◌, ◌<◌, ◌≤◌, Bool, true, false, List, length, replicate};
 ghost use Rattle.definitions.specs.Limits.{word_marks};
 ghost use Rattle.definitions.specs.Bounded.{bit};
@@ -10,7 +12,7 @@ ghost use Rattle.mark_words.specs.Words.{Window, gathered};
 pub const WORD_MARKS: usize = 64;
 
 // For each place: does q come within a reach of places with p at each before it, and is p at each place of the reach.
-#[derive(Drop)]
+#[derive(Clone, Copy)]
 pub struct Reach {
     pub found: u64,
     pub held: u64,

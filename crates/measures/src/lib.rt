@@ -1,5 +1,7 @@
 // Signed numbers of a text, with two decimals, as hundredths. `sign`: the steps that take signed integers, so that all above speaks of the logic's integers.
 // What a number is for is not asked here.
+#![tactic(auto)]
+
 pub mod sign;
 
 ghost use Rattle.std.specs.Prelude.{◌≡◌, ◌+◌, ◌*◌};
@@ -12,7 +14,7 @@ use fields::number::Field;
 use lines::scan;
 
 // What a field of a signed number is.
-#[derive(Drop)]
+#[derive(Clone, Copy)]
 pub enum Measure {
     Value(i32),
     Outside,

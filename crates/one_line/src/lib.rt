@@ -1,4 +1,6 @@
 // Reading a rule in one line: what refuses it is found first, and what is read then can't fail.
+#![tactic(auto)]
+
 ghost use Rattle.std.specs.Prelude.{◌≡◌, ◌≤◌, length};
 ghost use Rattle.definitions.specs.Limits.{max_line_bytes, max_rule_nodes};
 ghost use Rattle.lent.specs.Space.{laid};
@@ -11,7 +13,7 @@ use rule_reader::RuleRead;
 use rules::limits::{Limits, Refusal};
 
 // The refusal of a line or 0, and how many signs it has.
-#[derive(Drop)]
+#[derive(Clone, Copy)]
 struct Checked {
     number: u8,
     signs: usize,

@@ -1,5 +1,7 @@
 // A rule in one line, read: a function for each level of the grammar, which call one another. The signs that are left fall from call to call, and so does the
 // number of brackets that may still be opened. `word`, `write`: the nodes that they emit. They never refuse.
+#![tactic(auto)]
+
 pub mod word;
 pub mod write;
 
@@ -13,7 +15,7 @@ use one_line_signs::sign::Sign;
 use rules::limits::Limits;
 
 // How far a reader came: the next sign, and the next node.
-#[derive(Drop)]
+#[derive(Clone, Copy)]
 pub struct Spot {
     pub at: usize,
     pub made: usize,

@@ -6,7 +6,7 @@ use super::token;
 use super::token::Token;
 
 // How many signs the line spells, where it spells any.
-#[derive(Drop)]
+#[derive(Clone, Copy)]
 pub enum Signs {
     Count(usize),
     Nothing,

@@ -1,6 +1,6 @@
 // The codes of signs; specs/Codes.antt is their meaning. An atom's code is ATOM and its number, and a number above every limit counts as the limit.
 
-#[derive(Drop)]
+#[derive(Clone, Copy)]
 pub struct Sign {}
 
 impl Sign {

@@ -11,7 +11,7 @@ use rules::limits::Limits;
 
 // The signs so far: whether each stands where it may, whether an operand is due, the brackets that are open, the most that were, the
 // nodes that the signs add, and whether each atom is below its limit.
-#[derive(Drop)]
+#[derive(Clone, Copy)]
 pub struct Tally {
     pub placed: bool,
     pub due: bool,

@@ -10,7 +10,7 @@ use lines::scan;
 use rules::limits::Limits;
 
 // The code of a sign and the place after it, where one stands there.
-#[derive(Drop)]
+#[derive(Clone, Copy)]
 pub enum Token {
     Sign(u8, usize),
     Nothing,

@@ -1,4 +1,6 @@
 // Bytes, words and numbers written into a text: each function changes what it writes and nothing else, and answers the place after it.
+#![tactic(auto)]
+
 ghost use Rattle.std.specs.Prelude.{◌+◌, ◌<◌, ◌≤◌, [], ◌∷◌, length};
 ghost use Rattle.definitions.specs.Lines.{tab, digits};
 ghost use Rattle.printing.specs.Printing.{Printed, counted_line};

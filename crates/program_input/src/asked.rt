@@ -4,7 +4,7 @@ ghost use Rattle.program_input.specs.Asking.{AskedIs};
 use lines::{first_line, scan};
 
 // A reading, weak or strong, of the texts that begin at this byte; or nothing, in a first line of so many bytes.
-#[derive(Drop)]
+#[derive(Clone, Copy)]
 pub enum Asked {
     Reading(bool, usize),
     Nothing(usize),

@@ -1,4 +1,6 @@
 // The input of a program: split at its first line `-`. `asked`: what the first line of the input of `why` asks for. No text is read here.
+#![tactic(auto)]
+
 pub mod asked;
 
 ghost use Rattle.std.specs.Prelude.{◌≡◌, length};
@@ -9,7 +11,7 @@ ghost use Rattle.program_input.specs.Splitting.{SplitAt};
 use lines::{first_line, scan};
 
 // Where the rule text ends and where the recording text begins.
-#[derive(Drop)]
+#[derive(Clone, Copy)]
 pub struct Parts {
     pub rule_end: usize,
     pub recording_at: usize,

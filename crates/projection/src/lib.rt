@@ -1,5 +1,7 @@
 // Projection as an operation: the local trace of one controller of any recording, in lent space. `pass`: one pass over the states, which after each holds the
 // local trace so far; `places`: of an accepted recording; `place_state`: the state that a place is. No atom is read here.
+#![tactic(auto)]
+
 pub mod pass;
 pub mod place_state;
 pub mod places;
@@ -14,7 +16,7 @@ use recordings::masks::mask_at;
 use rules::choice::{or_else, pick, pick_index};
 use rules::limits::{Limits, Refusal};
 
-#[derive(Drop)]
+#[derive(Clone, Copy)]
 pub enum Projection {
     Places(usize),
     Refused(u8),

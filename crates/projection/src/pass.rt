@@ -12,7 +12,7 @@ use rules::choice::{pick_index, pick_word};
 
 // What is held beside the lent places: the run marks of all states but the last, how many places stand before the last place, the word
 // of the last place, and the state taken last. Whether that one is a run is told by the next.
-#[derive(Drop)]
+#[derive(Clone, Copy)]
 pub struct Pass {
     pub run: Row,
     pub placed: usize,

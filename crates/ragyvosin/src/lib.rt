@@ -3,6 +3,8 @@
 // What these contracts give together: `same_verdicts_all_four_times` (proofs/SameVerdicts), schedule independence, and `same_bits_same_verdict`
 // (proofs/SameEvidence), what the readings behind a verdict promise; `announced_verdicts_stay` (proofs/EarlyVerdicts), which verdicts stay when the
 // recording goes on; `runs_as_from_the_start` and `replaced_as_opened` (proofs/SessionRuns), what a session answers.
+#![tactic(auto)]
+
 ghost use Rattle.std.specs.Prelude.{◌≡◌, true, false, [], eqb, get_or};
 ghost use Rattle.definitions.specs.Tables.{rule_of, table_of};
 ghost use Rattle.definitions.specs.Recordings.{recording_of};

@@ -1,4 +1,6 @@
 // The operations for C: each returns its number, and its values lie in `values`, zeros on a refusal.
+#![tactic(auto)]
+
 ghost use Rattle.std.specs.Prelude.{◌≡◌, true, false, [], ◌∷◌, ◌++◌};
 ghost use Rattle.definitions.specs.Tables.{rule_of, table_of};
 ghost use Rattle.definitions.specs.Recordings.{recording_of};

@@ -1,5 +1,7 @@
 // The reader of a recording text: masks and states into lent space, C and N as the answer; refused, lent space is zeros. `line`: the first lines; `scan`:
 // all lines up to the first refusal.
+#![tactic(auto)]
+
 pub mod line;
 pub mod scan;
 
@@ -10,7 +12,7 @@ use rules::limits::{Limits, Refusal};
 use scan::scan_recording;
 
 // C and N, or the refusal.
-#[derive(Drop)]
+#[derive(Clone, Copy)]
 pub enum RecordingRead {
     Recording(usize, usize),
     Refused(u8),

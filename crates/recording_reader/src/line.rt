@@ -14,13 +14,13 @@ use recordings::{check, masks};
 use rules::limits::Refusal;
 
 // C and N, or the refusal.
-#[derive(Drop)]
+#[derive(Clone, Copy)]
 pub enum HeadingRead {
     Heading(usize, usize),
     Refused(u8),
 }
 
-#[derive(Drop)]
+#[derive(Clone, Copy)]
 pub enum MaskRead {
     Mask(u32),
     Refused(u8),

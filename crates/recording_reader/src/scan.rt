@@ -15,7 +15,7 @@ use rules::choice;
 use rules::limits::Refusal;
 
 // What a recording text gave: the refusal or 0, C and N, and the place of the refused line.
-#[derive(Drop)]
+#[derive(Clone, Copy)]
 pub struct Scanned {
     pub number: u8,
     pub controllers: usize,

@@ -1,5 +1,7 @@
 // The writer of a recording's lines: the heading and `owns` lines, which an archive text has too, and the `at` lines. Nothing is checked here: the caller has
 // an accepted recording, and room.
+#![tactic(auto)]
+
 ghost use Rattle.std.specs.Prelude.{◌≡◌, ◌+◌, ◌<◌, ◌≤◌, [], length};
 ghost use Rattle.definitions.specs.RecordingWriting.{hex_byte, hex_text, mask_text, state_text, masks_text, states_text, opening_text};
 ghost use Rattle.printing.specs.Printing.{Printed};

@@ -1,6 +1,6 @@
 // What stands before the masks and states of a recording.
 
-#[derive(Drop)]
+#[derive(Clone, Copy)]
 pub struct RecordingHeading {
     pub controllers: usize,
     pub count: usize,

@@ -1,4 +1,6 @@
 // Where the refused line of the program's input stands: in which text, and its number there (`number`). Nothing is judged or printed here.
+#![tactic(auto)]
+
 pub mod number;
 
 ghost use Rattle.std.specs.Prelude.{◌≡◌};
@@ -11,7 +13,7 @@ use program_input::split;
 use rules::limits::{Limits, Refusal};
 
 // The text that has the refused line and the line's number in it, or neither: the input is accepted or too long.
-#[derive(Drop)]
+#[derive(Clone, Copy)]
 pub enum Line {
     OfRule(u32),
     OfRecording(u32),

@@ -1,5 +1,7 @@
 // What the program `judge` prints, line by line: of a refusal, and of an accepted rule and recording. `read`: both texts as tables, or their refusal printed;
 // `tables`: accepted ones judged in each way.
+#![tactic(auto)]
+
 pub mod read;
 pub mod tables;
 
@@ -17,7 +19,7 @@ use rewritten_judge::Rewritten;
 pub const REFUSED: u8 = b'r';
 
 // All that is printed of an accepted rule and recording.
-#[derive(Drop)]
+#[derive(Clone, Copy)]
 pub struct Report {
     pub places: u32,
     pub own: Verdicts,
@@ -26,7 +28,7 @@ pub struct Report {
 }
 
 // How a line ends: so many bytes of these.
-#[derive(Drop)]
+#[derive(Clone, Copy)]
 struct Ending {
     bytes: [u8; 9],
     count: usize,

@@ -9,7 +9,7 @@ use rules::headings::RuleHeading;
 use rules::limits::{Limits, Refusal};
 
 // What reading comes to: so many bytes printed of the refusal, or the headings of the tables.
-#[derive(Drop)]
+#[derive(Clone, Copy)]
 pub enum Read {
     Refused(usize),
     Tables(RuleHeading, RecordingHeading),

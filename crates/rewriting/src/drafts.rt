@@ -9,7 +9,7 @@ use rules::limits::Limits;
 use rules::node::Node;
 
 // How many nodes were emitted, and the image of the last of the rule's nodes.
-#[derive(Drop)]
+#[derive(Clone, Copy)]
 pub struct Draft {
     pub at: usize,
     pub last: Image,

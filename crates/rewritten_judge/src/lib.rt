@@ -1,4 +1,6 @@
 // Demand 3 in code: rewrite the rule, judge the whole recording by that table. The verdicts are those of the rule on its own local trace.
+#![tactic(auto)]
+
 ghost use Rattle.theorems.proofs.ScheduleIndependence.{Accepted};
 ghost use Rattle.rules.specs.Headings.{rule_in};
 ghost use Rattle.recordings.specs.Heading.{recording_in};
@@ -13,7 +15,7 @@ use rules::headings::{RuleHeading, TableHeading};
 use rules::limits::Limits;
 
 // The node count of a rewritten rule, and its verdicts.
-#[derive(Drop)]
+#[derive(Clone, Copy)]
 pub struct Rewritten {
     pub count: u32,
     pub verdicts: Verdicts,

@@ -1,5 +1,7 @@
 // A row: 128 marks and the count of states, by value, and the operators on it. `stored`: rows in lent space; `pair`: a node's two rows. What a row means is
 // not asked here.
+#![tactic(auto)]
+
 pub mod pair;
 pub mod stored;
 
@@ -16,7 +18,7 @@ use mark_words::{WORD_MARKS, gather, last_word, one, ones, since_word, until_wor
 // Before place 0 there is no place at which since could hold.
 const NO_PAST: u64 = 0;
 
-#[derive(Drop)]
+#[derive(Clone, Copy)]
 pub struct Row {
     pub words: [u64; 2],
     pub count: usize,

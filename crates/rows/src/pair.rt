@@ -10,7 +10,7 @@ use super::stored::{load, store};
 use rules::limits::Limits;
 use rules::node::Node;
 
-#[derive(Drop)]
+#[derive(Clone, Copy)]
 pub struct Pair {
     pub weak: Row,
     pub strong: Row,

@@ -1,5 +1,7 @@
 // Makes a rule text of the controller and the rule in one line on standard input, and prints it to standard output.
 // On standard error it says what could not be read or written.
+#![tactic(auto)]
+
 use libc::STDOUT_FILENO;
 use line_programs::typed;
 use rules::limits::Limits;

@@ -11,7 +11,7 @@ use rules::limits::Refusal;
 use rules::table_check::rule_heading_refusal;
 
 // Controller and node count, or the refusal.
-#[derive(Drop)]
+#[derive(Clone, Copy)]
 pub enum HeadingRead {
     Heading(usize, usize),
     Refused(u8),

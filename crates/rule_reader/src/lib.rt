@@ -1,5 +1,7 @@
 // The reader of a rule text: its nodes into lent space, its controller and count as the answer; refused, lent space is zeros. `heading_line`, `node_line`: one
 // line each.
+#![tactic(auto)]
+
 pub mod heading_line;
 pub mod node_line;
 
@@ -15,7 +17,7 @@ use rules::choice;
 use rules::limits::{Limits, Refusal};
 
 // What a rule text gave: the refusal or 0, controller and count, and the place of the refused line.
-#[derive(Drop)]
+#[derive(Clone, Copy)]
 pub struct Scanned {
     pub number: u8,
     pub controller: usize,
@@ -24,7 +26,7 @@ pub struct Scanned {
 }
 
 // Controller and count, or the refusal.
-#[derive(Drop)]
+#[derive(Clone, Copy)]
 pub enum RuleRead {
     Rule(usize, usize),
     Refused(u8),

@@ -18,14 +18,14 @@ use rules::node::Node;
 use rules::node_check::node_refusal;
 
 // A line as a node, its operands read up to the largest number of a field.
-#[derive(Drop)]
+#[derive(Clone, Copy)]
 pub enum NodeForm {
     Formed(Node),
     Malformed,
 }
 
 // The word of the node, or the refusal.
-#[derive(Drop)]
+#[derive(Clone, Copy)]
 pub enum NodeRead {
     Word(u32),
     Refused(u8),

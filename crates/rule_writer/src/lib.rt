@@ -1,5 +1,7 @@
 // The writer of a rule text: its lines into lent space, its length as the answer.
 // What is left of lent space past the text, or after a refusal, is zeros; 13 leaves it alone.
+#![tactic(auto)]
+
 ghost use Rattle.std.specs.Prelude.{◌+◌, ◌≤◌, length};
 ghost use Rattle.definitions.specs.Nodes.{kind_of};
 ghost use Rattle.definitions.specs.Tables.{rule_of};
@@ -17,7 +19,7 @@ use rules::node::Node;
 use rules::table_check::rule_refusal;
 
 // The length of the text, or the refusal.
-#[derive(Drop)]
+#[derive(Clone, Copy)]
 pub enum RuleWritten {
     Length(usize),
     Refused(u8),

@@ -1,12 +1,12 @@
 // What stands before the nodes of a rule, or of a judge's table.
 
-#[derive(Drop)]
+#[derive(Clone, Copy)]
 pub struct RuleHeading {
     pub controller: usize,
     pub count: usize,
 }
 
-#[derive(Drop)]
+#[derive(Clone, Copy)]
 pub struct TableHeading {
     pub count: usize,
     pub weak_top: usize,

@@ -1,6 +1,6 @@
 // The limits and the refusal numbers of document 01, as code has them; definitions/specs/Limits.antt is their meaning.
 
-#[derive(Drop)]
+#[derive(Clone, Copy)]
 pub struct Limits {}
 
 impl Limits {
@@ -38,7 +38,7 @@ impl Limits {
     pub const ARCHIVE_BYTES: usize = 8192;
 }
 
-#[derive(Drop)]
+#[derive(Clone, Copy)]
 pub struct Refusal {}
 
 impl Refusal {

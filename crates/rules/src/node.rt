@@ -3,7 +3,7 @@ ghost use Rattle.std.specs.Prelude.{◌≡◌, ◌≤◌};
 ghost use Rattle.definitions.specs.Nodes.{node_word, kind_of, kind_number, True, Atom, Not, Or, Next, Until, Prev, Since, Run, End};
 ghost use Rattle.rules.specs.Meaning.{meaning, Built, OfWord, Wordable};
 
-#[derive(Drop)]
+#[derive(Clone, Copy)]
 pub struct Node {
     pub kind: u8,
     pub first: u16,

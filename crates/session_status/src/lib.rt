@@ -1,4 +1,6 @@
 // The line that is printed of a session: how many states are held, and both verdicts.
+#![tactic(auto)]
+
 ghost use Rattle.std.specs.Prelude.{◌≤◌, length};
 ghost use Rattle.definitions.specs.Sessions.{lent_space};
 ghost use Rattle.definitions.specs.Watching.{status_text, verdict_fields};
@@ -11,7 +13,7 @@ use sessions::heading::Heading;
 use sessions::query::{SessionVerdicts, session_verdicts};
 
 // How the line ends: so many bytes of these.
-#[derive(Drop)]
+#[derive(Clone, Copy)]
 struct Ending {
     bytes: [u8; 14],
     count: usize,

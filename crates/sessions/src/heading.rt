@@ -1,6 +1,6 @@
 // The heading of a session: C, controller, node count, states held.
 
-#[derive(Drop)]
+#[derive(Clone, Copy)]
 pub struct Heading {}
 
 impl Heading {

@@ -13,7 +13,7 @@ use rules::limits::{Limits, Refusal};
 use rules::table_check::rule_refusal;
 
 // What stands before the masks and the nodes that a session opens on.
-#[derive(Drop)]
+#[derive(Clone, Copy)]
 pub struct Opening {
     pub controllers: usize,
     pub controller: usize,

@@ -9,7 +9,7 @@ use judges::local::judge_local;
 use judges::verdicts::{Judgement, Verdicts};
 
 // "An empty session has no verdict, and its answer says so".
-#[derive(Drop)]
+#[derive(Clone, Copy)]
 pub enum SessionVerdicts {
     NoState,
     Judged(Verdicts),

@@ -1,5 +1,7 @@
 // The signals of an archive text: a line of digits for each controller's run marks and for each atom. `reading`: from the lines into the states; `writing`:
 // from the states. The masks are not asked for here.
+#![tactic(auto)]
+
 pub mod reading;
 pub mod writing;
 

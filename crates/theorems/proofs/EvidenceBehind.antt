@@ -30,6 +30,7 @@ each_listed (f ∷ fs) = (here refl refl, each_so (λ m i. Listed m i fs) (λ m 
 
 -- what holds of each of them holds of one that is listed
 listed_each : (P : ℕ → ℕ → Type 0) (m i : ℕ) (fs : List Found) → Each P fs → Listed m i fs → P m i
+listed_each P m i [] h x = elim x [ ]
 listed_each P m i (f ∷ fs) h (here a b) = rw (a, b) at h.0
 listed_each P m i (f ∷ fs) h (later l) = listed_each P m i fs h.1 l
 

@@ -320,8 +320,14 @@ module _ (run ends : ℕ → Bool) (mask : ℕ) (bit lbit : ℕ → ℕ → Bool
 
     since_plain : (d : Bool) (a b : ℕ) → a < length rs → b < length rs → (k : ℕ) → k ≤ e → st k ≡ true →
         den gt (since_x (image_x d is a) (image_x d is b)) F d k ≡ ev lt (nth rs) Since a b d (count run k)
-    since_plain true a b ha hb k l t = rw S.r8 (since_core (F (image true is a) true) (F (image true is b) true) (nth rs a true) (nth rs b true) (at true a ha) (at true b hb) k l t)
-    since_plain false a b ha hb k l t = rw S.r8 (since_core (F (image false is a) false) (F (image false is b) false) (nth rs a false) (nth rs b false) (at false a ha) (at false b hb) k l t)
+    since_plain true a b ha hb k l t = subst
+        (λ (r : Row). since_b (λ i. r true i || F (image true is a) true i) (λ i. not (r false i || not (F (image true is b) true i))) (suc k) ≡ ev lt (nth rs) Since a b true (count run k))
+        (sym S.r8)
+        (since_core (F (image true is a) true) (F (image true is b) true) (nth rs a true) (nth rs b true) (at true a ha) (at true b hb) k l t)
+    since_plain false a b ha hb k l t = subst
+        (λ (r : Row). since_b (λ i. r false i || F (image false is a) false i) (λ i. not (r true i || not (F (image false is b) false i))) (suc k) ≡ ev lt (nth rs) Since a b false (count run k))
+        (sym S.r8)
+        (since_core (F (image false is a) false) (F (image false is b) false) (nth rs a false) (nth rs b false) (at false a ha) (at false b hb) k l t)
 
     since_short : (d : Bool) (a b : ℕ) → a < length rs → b < length rs → (short && tolerant_at is a) ≡ true → (short && tolerant_at is b) ≡ true → (k : ℕ) → k ≤ e →
         den gt (short_since_x (image_x d is a) (image_x d is b)) F d k ≡ ev lt (nth rs) Since a b d (count run k)

@@ -1,5 +1,7 @@
 // Makes the recording text of the archive text on standard input, and prints it to standard output. On standard error it
 // says where a refused line stands, or what could not be read or written.
+#![tactic(auto)]
+
 use archive_programs::{find_line, print_recording};
 use libc::STDOUT_FILENO;
 use rules::limits::Limits;

@@ -1,5 +1,7 @@
 // The walk behind a verdict, from the rule's node to the first. `step`, `taken`: what one node's wanted places take of its operands; `wanted`: the wanted places
 // of each node, as rows. Which of them are readings is not asked here.
+#![tactic(auto)]
+
 pub mod step;
 pub mod taken;
 pub mod wanted;

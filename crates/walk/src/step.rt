@@ -11,7 +11,7 @@ use rows::Row;
 use rules::node::Node;
 
 // The places that are taken of the first operand, and of the second.
-#[derive(Drop)]
+#[derive(Clone, Copy)]
 pub struct Step {
     pub first: Row,
     pub second: Row,

@@ -10,7 +10,7 @@ use rows::pair::Pair;
 use rules::node::Node;
 
 // What is taken of the first operand, and of the second.
-#[derive(Drop)]
+#[derive(Clone, Copy)]
 pub struct Taken {
     pub first: Pair,
     pub second: Pair,

@@ -1,5 +1,7 @@
 // Follows a session on standard input, and prints a line to standard output as soon as the opening or an event has come. What could not be read or written
 // it says on standard error. Bytes are moved here; what a line means is `watch_program`'s.
+#![tactic(auto)]
+
 ghost use Rattle.std.specs.Prelude.{◌≤◌, length};
 
 use libc::{STDIN_FILENO, STDOUT_FILENO};
@@ -17,7 +19,7 @@ const SPACE_BYTES: usize = Limits::INPUT_BYTES + 1;
 const MOST_BYTES: usize = 1 << 63;
 
 // The program between two bytes: how many are kept, and where the line begins.
-#[derive(Drop)]
+#[derive(Clone, Copy)]
 struct Place {
     phase: Phase,
     from: usize,

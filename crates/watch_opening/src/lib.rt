@@ -1,5 +1,7 @@
 // The text that a session opens on, so far: it lacks only lines, a line of it is refused, or the session is opened. `phase`: the program `watch` between two
 // lines.
+#![tactic(auto)]
+
 pub mod phase;
 
 ghost use Rattle.std.specs.Prelude.{◌≡◌, ◌≤◌, length, drop};
@@ -25,14 +27,14 @@ use sessions::heading::Heading;
 use sessions::opening::{Opening, open_session};
 
 // C, or the refusal.
-#[derive(Drop)]
+#[derive(Clone, Copy)]
 pub enum ControllersRead {
     Controllers(usize),
     Refused(u8),
 }
 
 // What the lines after the line `-` gave: the refusal or 0, C, and the place of the refused line.
-#[derive(Drop)]
+#[derive(Clone, Copy)]
 pub struct SessionScanned {
     pub number: u8,
     pub controllers: usize,

@@ -2,7 +2,7 @@
 use rules::limits::Limits;
 
 // The opening's text comes; a session is held; the text of its new rule comes; nothing more is read.
-#[derive(Drop)]
+#[derive(Clone, Copy)]
 pub enum Phase {
     Opening,
     Running,
@@ -11,7 +11,7 @@ pub enum Phase {
 }
 
 // What it is after a line, and how many bytes are printed of that line.
-#[derive(Drop)]
+#[derive(Clone, Copy)]
 pub struct Stepped {
     pub phase: Phase,
     pub printed: usize,

@@ -21,7 +21,7 @@ use sessions::arrival::arrive;
 use sessions::heading::Heading;
 use sessions::withdrawal::withdraw;
 
-#[derive(Drop)]
+#[derive(Clone, Copy)]
 pub enum Event {
     Arrival(u64),
     Withdrawal,

@@ -1,5 +1,7 @@
 // The program `watch`, one line after the other. `event`: a line as a call; `ruling`: the lines of a new rule. Nothing is read or written here. What its
 // lines tell: proofs/Told.
+#![tactic(auto)]
+
 pub mod event;
 pub mod ruling;
 

@@ -1,5 +1,7 @@
 // Tells the verdict that the first line on standard input asks for, of the rule and the recording after it, and the readings
 // behind it, on standard output. On standard error it says where a refused line stands, or what could not be read or written.
+#![tactic(auto)]
+
 use libc::STDOUT_FILENO;
 use program_input::asked::{Asked, asked_by};
 use refused_line::refused_line;

@@ -1,4 +1,6 @@
 // The program: the first line asks for a reading, and both texts after it are read, judged, and printed of.
+#![tactic(auto)]
+
 ghost use Rattle.definitions.specs.Program.{rule_text_in, recording_text_in};
 ghost use Rattle.definitions.specs.Why.{why_texts, why_output};
 ghost use Rattle.printing.specs.Printing.{Printed, OutputIs};

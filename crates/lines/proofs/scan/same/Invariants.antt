@@ -1,0 +1,11 @@
+-- `same`: the bytes passed are alike (ScanLaws: alike_laws).
+use Rattle.lines.proofs.ScanLaws.{Alike}
+use Prim.Native.Nat.{◌-◌}
+use lib.ListN.{length}
+use Rattle.lines.proofs.scan.same.Given as goal
+
+abbrev pub invariant-loop-i : goal.invariant-loop-i
+invariant-loop-i l = Alike l.a l.b l.i
+
+abbrev pub decreases-loop-i : goal.decreases-loop-i
+decreases-loop-i l = length l.a - l.i
