@@ -1,0 +1,25 @@
+-- `clear_u8` meets its contract (ClearLaws, `clearing_more`, `clearing_done`). The invariant: the bytes before i are zero.
+use Prim.Native.Nat.{◌-◌}
+use Rattle.lent.proofs.ClearLaws.{clear_laws}
+use Rattle.lent.proofs.clear_u8.Goals as goal
+
+pub loop-i-init : goal.loop-i-init
+loop-i-init c = search clear_laws
+
+pub bounds-bytes-i : goal.bounds-bytes-i
+bounds-bytes-i c = search clear_laws
+
+pub overflow_step-i : goal.overflow_step-i
+overflow_step-i c = search clear_laws
+
+pub loop-i-smaller : goal.loop-i-smaller
+loop-i-smaller c = search clear_laws
+
+pub loop-i-preserved : goal.loop-i-preserved
+loop-i-preserved c = search clear_laws
+
+pub shape_of-bytes : goal.shape_of-bytes
+shape_of-bytes c = search clear_laws
+
+pub returns : goal.returns
+returns c = search clear_laws
