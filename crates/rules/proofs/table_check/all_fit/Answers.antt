@@ -28,11 +28,9 @@ pub loop-i-smaller : goal.loop-i-smaller
 loop-i-smaller c = search fit_laws
 
 pub loop-i-preserved : goal.loop-i-preserved
-loop-i-preserved c = let turn = c.before.before.before in
-    let l = turn.before.loop in
-    let start = turn.before.before.before in
-    fit_next start.args.rewritten start.args.count start.args.nodes.now l.fit l.i l.invariant c.node_fits_lem.result c.before.of_word.result
-    turn.loop-test.true start.requires.1 c.before.of_word.ensures c.node_fits_lem.ensures
+loop-i-preserved c =
+    fit_next c.args.rewritten c.args.count c.args.nodes.now c.loop-i.fit c.loop-i.i c.loop-i.invariant c.node_fits-fit.result c.of_word.result
+    c.loop-i-test.true c.requires.1 c.of_word.ensures c.node_fits-fit.ensures
 
 pub returns : goal.returns
 returns c = search fit_laws

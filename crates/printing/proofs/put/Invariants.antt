@@ -1,0 +1,11 @@
+-- `put`: the bytes passed lie in the text (PrintLaws: put_laws).
+use Rattle.printing.proofs.PrintLaws.{Copied}
+use Prim.Native.Nat.{◌-◌}
+use lib.ListN.{length}
+use Rattle.printing.proofs.put.Given as goal
+
+abbrev pub invariant-loop-i : goal.invariant-loop-i
+invariant-loop-i l = Copied l.word l.initial.text l.at l.text l.i
+
+abbrev pub decreases-loop-i : goal.decreases-loop-i
+decreases-loop-i l = length l.word - l.i

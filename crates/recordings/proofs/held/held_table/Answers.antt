@@ -1,0 +1,6 @@
+-- `held_table` meets its contract (HeldLaws, `held_laws`).
+use Rattle.recordings.proofs.HeldLaws.{held_laws}
+use Rattle.recordings.proofs.held.held_table.Goals as goal
+
+pub returns : goal.returns
+returns c = search held_laws

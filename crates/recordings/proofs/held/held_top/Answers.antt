@@ -1,0 +1,13 @@
+-- `held_top` meets its contract (HeldLaws, `group_none`).
+use borrow.Author.Rules.{rules}
+use Rattle.recordings.proofs.HeldLaws.{group_none}
+use Rattle.recordings.proofs.held.held_top.Goals as goal
+
+pub returns-then-controllers-le-TWO_TABLES : goal.returns-then-controllers-le-TWO_TABLES
+returns-then-controllers-le-TWO_TABLES c = search (rules, group_none)
+
+pub held_group-requires : goal.held_group-requires
+held_group-requires c = search rules
+
+pub returns : goal.returns
+returns c = search rules

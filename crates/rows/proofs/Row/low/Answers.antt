@@ -1,0 +1,9 @@
+-- `Row::low` meets its contract: of a whole row (PackedLaws).
+use Rattle.rows.proofs.PackedLaws.{packed_laws}
+use Rattle.rows.proofs.Row.low.Goals as goal
+
+pub bounds-words-0 : goal.bounds-words-0
+bounds-words-0 c = search packed_laws
+
+pub returns : goal.returns
+returns c = search packed_laws
