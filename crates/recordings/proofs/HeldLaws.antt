@@ -42,7 +42,7 @@ low_differ (suc zero) (suc zero) (suc (suc z)) a b c = absurd (omega arith)
 
 and_xor : (a b m : ℕ) → bit_and (bit_xor a b) m ≡ bit_xor (bit_and a m) (bit_and b m)
 and_xor = bin_ind (λ (a : ℕ). (b m : ℕ) → bit_and (bit_xor a b) m ≡ bit_xor (bit_and a m) (bit_and b m))
-    (λ b m. rw (xor_zero_l b, and_zero_l m, xor_zero_l (bit_and b m)))
+    (λ b m. rw xor_zero_l)
     (λ a ih b m. rw (
       and_step (bit_xor a b) m,
       xor_step (bit_and a m) (bit_and b m),

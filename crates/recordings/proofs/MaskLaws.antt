@@ -36,7 +36,7 @@ low_digit (suc zero) (suc zero) (suc (suc z)) a b c = absurd (omega arith)
 -- the common atoms of a union are the union of the common atoms
 pub and_or : (a b m : ℕ) → bit_and (bit_or a b) m ≡ bit_or (bit_and a m) (bit_and b m)
 and_or = bin_ind (λ (a : ℕ). (b m : ℕ) → bit_and (bit_or a b) m ≡ bit_or (bit_and a m) (bit_and b m))
-    (λ b m. rw (or_zero_l b, and_zero_l m, or_zero_l (bit_and b m)))
+    (λ b m. rw or_zero_l)
     (λ a ih b m. rw (
       and_step (bit_or a b) m,
       or_step (bit_and a m) (bit_and b m),

@@ -44,7 +44,7 @@ pub loop-i-smaller : goal.loop-i-smaller
 loop-i-smaller c = search lay_laws
 
 pub loop-i-preserved : goal.loop-i-preserved
-loop-i-preserved c = laying_next _ _ _ _ _ _ _ _ c.loop-i.invariant (search rules) _ _ c.made.ensures (search rules)
+loop-i-preserved c = laying_next _ _ _ _ _ _ _ _ c.loop-i.invariant (search rules) _ _ c.made-n.ensures (search rules)
 
 pub overflow_add-result : goal.overflow_add-result
 overflow_add-result c = search lay_laws

@@ -25,11 +25,9 @@ pub or_else-requires : goal.or_else-requires
 or_else-requires c = search rules
 
 pub returns : goal.returns
-returns c = let lines = c.before in
-    let masks = lines.before.before in
-    let heading = masks.before.before in
-    let a = heading.before.before.before.args in
-    recording_is_lem a.controllers a.count a.masks.now a.states.now heading.heading-refusal.result masks.masks-refusal.result
-    lines.before.states-refusal.result lines.lines-refusal.result c.or_else.result c.or_else2.result
-    heading.heading-refusal.ensures masks.before.if1.false masks.masks-refusal.ensures lines.before.states-refusal.ensures
-    lines.lines-refusal.ensures c.or_else.ensures c.or_else2.ensures
+returns c =
+    let a = c.args in
+    recording_is_lem a.controllers a.count a.masks.now a.states.now c.heading_refusal-heading.result c.masks_refusal-meeting.result
+    c.states_refusal-refusal.result c.lines_refusal-lines.result c.or_else-late.result c.or_else.result
+    c.heading_refusal-heading.ensures c.if-heading-ne-NONE.false c.masks_refusal-meeting.ensures c.states_refusal-refusal.ensures
+    c.lines_refusal-lines.ensures c.or_else-late.ensures c.or_else.ensures

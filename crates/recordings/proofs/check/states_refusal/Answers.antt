@@ -61,24 +61,14 @@ pub loop-k-smaller : goal.loop-k-smaller
 loop-k-smaller c = search state_laws
 
 pub loop-k-preserved : goal.loop-k-preserved
-loop-k-preserved c = let met = c.before in
-    let go = met.before.before.before.before in
-    let step = go.before in
-    let changed = step.before in
-    let turn = changed.before.before in
-    let l = turn.before.loop in
-    let least = turn.before.before in
-    let limit = least.before in
-    let top = limit.before in
-    let high = top.before in
-    let low = high.before in
-    let start = low.before.before.before in
-    let a = start.args in
-    states_next a.controllers a.count a.masks.now a.states.now l.prior l.held l.k least.least.result l.invariant least.least.ensures
-    turn.loop-test.true limit.state-limit.result step.step-refusal.result changed.held-changed.result
-    limit.state-limit.ensures changed.held-changed.ensures step.step-refusal.ensures go.if1.false start.requires
-    low.held-group.result high.held-group2.result top.held-top.result low.held-group.ensures high.held-group2.ensures top.held-top.ensures
-    met.marks_of_lem.result c.held_at.result met.marks_of_lem.ensures c.held_at.ensures
+loop-k-preserved c =
+    let a = c.args in
+    let l = c.loop-k in
+    states_next a.controllers a.count a.masks.now a.states.now l.prior l.held l.k c.least-there.result l.invariant c.least-there.ensures
+    c.loop-k-test.true c.state_limit-limit.result c.step_refusal-refusal.result c.held_changed.result
+    c.state_limit-limit.ensures c.held_changed.ensures c.step_refusal-refusal.ensures c.if-refusal-ne-NONE.false c.requires
+    c.held_group-low.result c.held_group-high.result c.held_top-top.result c.held_group-low.ensures c.held_group-high.ensures c.held_top-top.ensures
+    c.marks_of.result c.held_at-held.result c.marks_of.ensures c.held_at-held.ensures
 
 pub returns : goal.returns
 returns c = search state_laws

@@ -15,10 +15,6 @@ pub high-requires-2 : goal.high-requires-2
 high-requires-2 c = search row_laws
 
 pub returns : goal.returns
-returns c = let s = c.before in
-    let low = c.low in
-    let low2 = c.low2 in
-    let high = c.high in
-    let high2 = c.high2 in
-    and_made s.args.self s.args.q low.result low2.result high.result high2.result low.ensures low2.ensures high.ensures high2.ensures
-    s.requires.0 s.requires.1 s.requires.2
+returns c =
+    and_made c.args.self c.args.q c.low.result c.low-2.result c.high.result c.high-2.result c.low.ensures c.low-2.ensures c.high.ensures c.high-2.ensures
+    c.requires.0 c.requires.1 c.requires.2

@@ -17,6 +17,6 @@ pub gather-requires-3 : goal.gather-requires-3
 gather-requires-3 c = search packed_laws
 
 pub returns : goal.returns
-returns c = let s = c.before in
-    let a = s.args in
-    column_high a.states.now a.n a.bit c.gather2.result c.gather3.result c.gather2.ensures c.gather3.ensures (omega arith) s.requires.0
+returns c =
+    let a = c.args in
+    column_high a.states.now a.n a.bit c.gather-2.result c.gather-3.result c.gather-2.ensures c.gather-3.ensures (omega arith) c.requires.0
