@@ -1,0 +1,19 @@
+-- `judge_local` meets its contract (LocalLaws: local_laws).
+use borrow.Author.Rules.{rules}
+use Rattle.judges.proofs.LocalLaws.{local_laws}
+use Rattle.judges.proofs.local.judge_local.Goals as goal
+
+pub local_refusal-refusal-requires : goal.local_refusal-refusal-requires
+local_refusal-refusal-requires c = search rules
+
+pub returns-then-refusal-ne-NONE : goal.returns-then-refusal-ne-NONE
+returns-then-refusal-ne-NONE c = search local_laws
+
+pub local_trace-trace-requires : goal.local_trace-trace-requires
+local_trace-trace-requires c = search local_laws
+
+pub judge_accepted_locally-requires : goal.judge_accepted_locally-requires
+judge_accepted_locally-requires c = search local_laws
+
+pub returns : goal.returns
+returns c = search local_laws
