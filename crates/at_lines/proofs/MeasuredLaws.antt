@@ -333,8 +333,8 @@ module _ (C : ℕ) (masks : List ℕ) (g : Gauges) (k prior : ℕ) (t : List ℕ
   pub at_is : (s : ℕ) → r ≡ State s → AtIs C masks g k prior t s
   at_is s x =
       let a = answer_read g (at_line C masks g k prior t) r s rs x in
-      let b = next_back recording_lines recording_form (at_form C (length g.atoms)) (at_refusal C masks g k prior) t a.decreases a.rest a.is in
-      record { measured = a.decreases; is = a.is ∙ ap (read a.decreases) b.left; finishes = a.finishes }
+      let b = next_back recording_lines recording_form (at_form C (length g.atoms)) (at_refusal C masks g k prior) t a.measured a.rest a.is in
+      record { measured = a.measured; is = a.is ∙ ap (read a.measured) b.left; finishes = a.finishes }
 
   pub at_denied : (j : ℕ) → r ≡ Refused j → at_line C masks g k prior t ≡ refused j
   at_denied j x = answer_refused g (at_line C masks g k prior t) r j rs x

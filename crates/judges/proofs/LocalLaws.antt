@@ -10,14 +10,15 @@ use native.Mathlib.Omega.{arith}
 use lib.ListN.{length, take, drop, get_or, set, length-append, length-drop}
 use lib.Seq.{take_at, drop_at, drop-drop, take-suc, set_split, length-take-le}
 use borrow.Author.Rules.{rules}
-use Rattle.definitions.specs.Limits.{max_states, max_rule_nodes, pair_words}
+use Rattle.definitions.specs.Limits.{max_states, max_rule_nodes, pair_words, accepted}
 use Rattle.definitions.specs.Bounded.{or_else}
 use Rattle.definitions.specs.Nodes.{Node}
 use Rattle.definitions.specs.Tables.{Rule, rule_of, rule_refusal, nodes_refusal, nodes_in}
 use Rattle.definitions.specs.Recordings.{Recording, recording_of, mask_of, recording_refusal, controller_refusal}
 use Rattle.definitions.specs.Projection.{local_trace}
+use Rattle.definitions.specs.Readings as readings
 use Rattle.definitions.specs.Readings.{Trace, local, rows_of, pairs_words, verdicts, local_verdicts}
-use Rattle.definitions.specs.Operations.{verdict_values, judge_local_number, judge_local_answer}
+use Rattle.definitions.specs.Operations.{verdict_values, judge_local_number, judge_local_answer, answer}
 use Rattle.theorems.proofs.Choice.{or_else_none}
 use Rattle.theorems.proofs.NodeLaws.{accepted_rule}
 use Rattle.theorems.proofs.RuleNodes.{rule_some, rule_few, rule_length_lem}
@@ -249,7 +250,8 @@ module _ (c count : ℕ) (nodes : List ℕ) (C n : ℕ) (masks states : List ℕ
       -- `judge_local`, accepted: `judge_local_answer` is the two verdicts
       pub local_judged : (v : Verdicts) → meant v ≡ verdicts_on rule l → answer_of (Judged v) ≡ judge_local_answer rule recording
       unfolding answer_of judge_local_answer
-      local_judged v a = let own : meant v ≡ own_verdicts rule recording = a ∙ trace_verdicts rule recording l is in rw (← e, none, own)
+      local_judged v a = let own : meant v ≡ own_verdicts rule recording = a ∙ trace_verdicts rule recording l is in
+          rw (← e, none) (ap (λ (x : readings.Verdicts). answer accepted (verdict_values x)) own)
 
 pub ruleset widen_laws = (rules, widening_none, widening_length, widening_room, widening_more, widening_done)
 

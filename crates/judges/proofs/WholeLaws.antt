@@ -1,5 +1,5 @@
 -- One law for each need of judging the whole recording.
-use mathlib.Core.Path.{◌≡◌, refl, sym, ◌∙◌}
+use mathlib.Core.Path.{◌≡◌, refl, sym, ap, ◌∙◌}
 use mathlib.Core.Bool.{true, ◌&&◌}
 use mathlib.Core.List.{List, [], ◌++◌}
 use Prim.Native.Nat.{ℕ, ◌+◌, ◌*◌, ◌<◌, ◌≤◌}
@@ -14,6 +14,7 @@ use Rattle.definitions.specs.Limits.{accepted, lent_short, no_controller, rule_l
 use Rattle.definitions.specs.Bounded.{pick, or_else, within}
 use Rattle.definitions.specs.Tables.{Table, table_of, nodes_refusal, tops_refusal, table_refusal, nodes_in}
 use Rattle.definitions.specs.Recordings.{Recording, recording_of, recording_refusal, controller_refusal}
+use Rattle.definitions.specs.Readings as readings
 use Rattle.definitions.specs.Readings.{whole, rows_of, pairs_words, verdicts}
 use Rattle.definitions.specs.Operations.{answer, verdict_values, judge_recording_number, judge_recording_answer, judge_recording_rows}
 use Rattle.theorems.proofs.Choice.{both_true, accept_yes, or_else_none}
@@ -171,7 +172,7 @@ module _ (count : ℕ) (nodes : List ℕ) (weak_top strong_top C n : ℕ) (masks
     -- `judge_recording`, judged: `judge_recording_answer` is the verdicts, `judge_recording_rows` the rows and then zeros
     pub whole_judged : (v : Verdicts) (exit : List ℕ) → WholeVerdicts table n states c entry v exit → WholeJudged table R c entry (Judged v) exit
     unfolding answer_of judge_recording_answer judge_recording_rows
-    whole_judged v exit d = record { answered = rw (number_is, none, d.verdicts); rows = d.rows ∙ rw (number_is, none) }
+    whole_judged v exit d = record { answered = rw (number_is, none) (ap (λ (x : readings.Verdicts). answer accepted (verdict_values x)) d.verdicts); rows = d.rows ∙ rw (number_is, none) }
 
 pub ruleset accepted_laws = (rules, whole_evaluable, whole_few, whole_fits, whole_topped, whole_verdicts)
 

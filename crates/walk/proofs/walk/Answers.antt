@@ -13,7 +13,7 @@ pub overflow_sub-m : goal.overflow_sub-m
 overflow_sub-m c = search walk_laws
 
 pub turn-requires : goal.turn-requires
-turn-requires c = walk_turning _ _ _ _ _ _ _ _ c.loop-i.invariant (search rules)
+turn-requires c = walk_turning _ _ _ _ _ _ _ _ c.loop-m.invariant (search rules)
 
 pub loop-m-smaller : goal.loop-m-smaller
 loop-m-smaller c = search walk_laws

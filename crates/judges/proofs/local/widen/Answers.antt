@@ -13,9 +13,6 @@ offset_bounds-words-i c = search widen_laws
 pub bounds-words-i : goal.bounds-words-i
 bounds-words-i c = search widen_laws
 
-pub overflow_cast-places : goal.overflow_cast-places
-overflow_cast-places c = omega (arith, c.shared_slice_known.given c.loop-i.i)
-
 pub offset_bounds-places-i : goal.offset_bounds-places-i
 offset_bounds-places-i c = search widen_laws
 
