@@ -1,6 +1,6 @@
 -- `lay`: the bytes passed are in the states, and the rest of the states is as it was (LayingLaws: lay_laws).
 use Prim.Native.Nat.{◌-◌}
-use Rattle.signals.proofs.LayingLaws.{lay_laws}
+use Rattle.signals.proofs.LayingLaws.{lay_laws, laying_stop}
 use Rattle.signals.proofs.reading.lay.Goals as goal
 
 pub loop-k-init : goal.loop-k-init
@@ -43,7 +43,7 @@ pub shape_of-states-else-d-lt2 : goal.shape_of-states-else-d-lt2
 shape_of-states-else-d-lt2 c = search lay_laws
 
 pub returns-else-d-lt2 : goal.returns-else-d-lt2
-returns-else-d-lt2 c = search lay_laws
+returns-else-d-lt2 c = laying_stop _ _ _ _ _ c.loop-k.invariant c.requires c.loop-k-test.true c.binary-d.result c.binary-d.ensures c.if-d-lt2.false
 
 pub shape_of-states : goal.shape_of-states
 shape_of-states c = search lay_laws
