@@ -12,7 +12,6 @@ use Rattle.definitions.specs.Limits.{max_rule_nodes}
 use Rattle.definitions.specs.Bounded.{pick}
 use Rattle.definitions.specs.Nodes as table
 use Rattle.definitions.specs.Nodes.{node, node_word}
-use Rattle.definitions.specs.OneLineSigns.{Not}
 use Rattle.printing.specs.Printing.{Printed}
 use Rattle.printing.proofs.PrintLaws as print
 use Rattle.one_line_readers.specs.Nodes.{words, prefix_of, until_kind, prefix_first, prefix_last, prefix_node, not_words, dual_words}

@@ -44,7 +44,7 @@ fn is_until(c: u8) -> bool
 }
 
 // "`->` (to the right)": p, not, q, or.
-#[cycle(ands_arrows_ors_prefixes_primaries_untils)]
+#[cycle(levels)]
 pub fn arrows(
     codes: &[u8; Limits::LINE_BYTES],
     count: usize,
@@ -76,7 +76,7 @@ pub fn arrows(
 }
 
 // "`|` (to the left)": p, q, or.
-#[cycle(ands_arrows_ors_prefixes_primaries_untils)]
+#[cycle(levels)]
 fn ors(
     codes: &[u8; Limits::LINE_BYTES],
     count: usize,
@@ -103,7 +103,7 @@ fn ors(
 }
 
 // "`&` (to the left)": p, not, q, not, or, not.
-#[cycle(ands_arrows_ors_prefixes_primaries_untils)]
+#[cycle(levels)]
 fn ands(
     codes: &[u8; Limits::LINE_BYTES],
     count: usize,
@@ -132,7 +132,7 @@ fn ands(
 }
 
 // "`U` and `S` (to the right, alike in strength)": p, q, until or since.
-#[cycle(ands_arrows_ors_prefixes_primaries_untils)]
+#[cycle(levels)]
 fn untils(
     codes: &[u8; Limits::LINE_BYTES],
     count: usize,
@@ -164,7 +164,7 @@ fn untils(
 }
 
 // "prefixes `! X Y F G`".
-#[cycle(ands_arrows_ors_prefixes_primaries_untils)]
+#[cycle(levels)]
 fn prefixes(
     codes: &[u8; Limits::LINE_BYTES],
     count: usize,
@@ -193,7 +193,7 @@ fn prefixes(
 }
 
 // "`true`, `a` with an atom number, or a bracketed rule".
-#[cycle(ands_arrows_ors_prefixes_primaries_untils)]
+#[cycle(levels)]
 fn primaries(
     codes: &[u8; Limits::LINE_BYTES],
     count: usize,
