@@ -1,14 +1,14 @@
 -- Laws of an `at` line that ends with values: one for each return, and what a caller has of its answer.
 use mathlib.Core.Path.{◌≡◌, refl, ap, sym, ◌∙◌}
-use Prim.Native.Nat.{ℕ, zero, suc, ◌+◌, ◌-◌, ◌*◌, ◌/◌, ◌%◌, ◌^◌, ◌<◌, ◌≤◌}
+use Prim.Native.Nat.{ℕ, zero, suc, ◌+◌, ◌*◌, ◌/◌, ◌^◌, ◌<◌, ◌≤◌}
 use native.Mathlib.Nat.{div-lt_iff_lt-mul, div-eq_of_lt, one-mul}
 use native.Mathlib.Decide.{dec_lt}
-use mathlib.Core.Bool.{Bool, true, false, ◌&&◌, ◌||◌}
+use mathlib.Core.Bool.{Bool, true, false, ◌&&◌}
 use mathlib.Core.List.{List, [], ◌∷◌}
 use lib.ListN.{length, take, drop, get_or}
 use lib.Seq.{get_or-take, length-take-le}
 use lib.Pow.{pow_pos}
-use lib.Dec.{eqb, leb}
+use lib.Dec.{leb}
 use lib.IntN.{ℤ, pos}
 use native.Mathlib.Omega.{arith}
 use mir.Syntax.{w32}
@@ -19,7 +19,7 @@ use Rattle.definitions.specs.Bounded.{pick}
 use Rattle.definitions.specs.Limits.{recording_form, recording_lines}
 use Rattle.definitions.specs.Recordings.{state_of, marks_of, atoms_of, state_refusal}
 use Rattle.definitions.specs.Lines.{tab, before, has, up_to, after, is_closed, line_length, line_of, rest_of, Parsed, formed, malformed, on_parsed, hexadecimal, same, NextLine, refused, read, on_next}
-use Rattle.definitions.specs.RecordingText.{at_word, word_digits, mark_digits, Measured, word_and_values, measured_fields, at_form, finished_state, at_refusal, at_line}
+use Rattle.definitions.specs.RecordingText.{at_word, mark_digits, Measured, word_and_values, measured_fields, at_form, finished_state, at_refusal, at_line}
 use Rattle.theorems.proofs.Choice.{by_test, pick_must, pick_other}
 use Rattle.theorems.proofs.Inversions.{never_formed, formed_same, parsed_must}
 use Rattle.theorems.proofs.NextLines.{next_malformed, next_denied, next_read, next_back}

@@ -4,10 +4,9 @@ use Prim.Native.Nat.{ℕ, zero, suc}
 use Prim.Native.String.{String}
 use mathlib.Core.Bool.{Bool, true}
 use mathlib.Core.List.{List, [], ◌∷◌, ◌++◌}
-use lib.ListN.{length, drop, replicate}
+use lib.ListN.{length, replicate}
 use lib.Dec.{eqb}
 use Rattle.definitions.specs.Bounded.{pick}
-use Rattle.definitions.specs.Recordings.{state_of}
 use Rattle.definitions.specs.Lines.{bytes}
 use Rattle.definitions.specs.RecordingWriting.{hex_byte, hex_text, recording_heading_text, mask_text, state_text, masks_text, states_text, opening_text, recording_text}
 use Rattle.definitions.specs.Archive.{in_front, turned, number_of_bits, state_digits, state_of_digits, signals_of, states_of_signals, signal_word, signal_text, signal_line, signals_text, archive_text, signal_on, signal, signal_form, scan_signals, after_opening, scan_archive, archived, restored}

@@ -1,10 +1,10 @@
 -- Trials of the program `watch`: what is printed after each line of its input.
 use mathlib.Core.Path.{◌≡◌, refl}
-use mathlib.Core.Bool.{Bool, true, false}
+use mathlib.Core.Bool.{Bool, true}
 use Prim.Native.Nat.{ℕ}
 use mathlib.Core.List.{List, [], ◌∷◌, ◌++◌}
 use Prim.Native.String.{String}
-use lib.ListN.{length, replicate}
+use lib.ListN.{replicate}
 use Rattle.definitions.specs.Nodes.{Atom, Next, node}
 use Rattle.definitions.specs.Lines.{bytes}
 use Rattle.definitions.specs.Sessions.{Space, space_of, controllers_refusal, open_masks_refusal, open_refusal, open_number, arrival_refusal, arrive_number, withdrawal_refusal, withdraw_number, replacement_refusal, replace_number, arrived, withdrawn, replaced, leaves, verdicts_answer}

@@ -3,7 +3,7 @@ use Rattle.std.specs.Prelude.{ℕ, zero, suc, ◌+◌, ◌*◌, Bool, List, [], 
 use Rattle.definitions.specs.Limits.{accepted, recording_form, recording_lines, atom_count}
 use Rattle.definitions.specs.Bounded.{pick, bit, bit_of, within, or_else, tabulate}
 use Rattle.definitions.specs.Recordings.{state_of, atoms_of, marks_of, states_refusal}
-use Rattle.definitions.specs.Lines.{bytes, tab, newline, is_empty, Parsed, formed, malformed, on_parsed, worded, NextLine, on_next, next_line, Scan}
+use Rattle.definitions.specs.Lines.{bytes, tab, newline, is_empty, Parsed, formed, malformed, on_parsed, worded, NextLine, on_next, next_line}
 use Rattle.definitions.specs.RecordingText.{RecordingScan, scan_opening, scan_plain}
 use Rattle.definitions.specs.RecordingWriting.{opening_text, recording_text}
 

@@ -1,25 +1,20 @@
 -- Laws of the finished word: one for each return and each turn.
-use mathlib.Core.Path.{◌≡◌, refl, ap, sym, ◌∙◌}
-use Prim.Native.Nat.{ℕ, zero, suc, ◌+◌, ◌-◌, ◌*◌, ◌/◌, ◌%◌, ◌^◌, ◌<◌, ◌≤◌}
+use mathlib.Core.Path.{◌≡◌, refl, sym, ◌∙◌}
+use Prim.Native.Nat.{ℕ, ◌*◌, ◌/◌, ◌%◌, ◌^◌, ◌<◌}
 use native.Mathlib.Nat.{one-mul}
 use mathlib.Core.Bool.{Bool, true, false}
-use mathlib.Core.List.{List, [], ◌∷◌}
-use lib.ListN.{length, take, drop, get_or}
-use lib.Seq.{drop-cons}
 use lib.Pow.{shl_exact}
 use lib.Bits.{bit_or}
 use lib.Dec.{eqb}
-use lib.IntN.{ℤ, pos}
-use lib.Signed.{le_z, mag}
+use lib.IntN.{ℤ}
+use lib.Signed.{le_z}
 use native.Mathlib.Omega.{arith}
-use native.Mathlib.Numerals.{add-one}
 use mir.Syntax.{w32}
-use mir.Val.{SFits, hbits}
+use mir.Val.{SFits}
 use borrow.Author.Rules.{rules, sfits_of}
 use Rattle.definitions.specs.Limits.{atom_count}
 use Rattle.definitions.specs.Bounded.{pick, bit_of}
-use Rattle.definitions.specs.Gauges.{with_atom, finished_bit, finished_from, finished}
-use Rattle.gauges.specs.Held.{GaugesHeld}
+use Rattle.definitions.specs.Gauges.{with_atom, finished_bit}
 use Rattle.measures.proofs.SignLaws.{held, held_is}
 
 -- ---- bits of a word

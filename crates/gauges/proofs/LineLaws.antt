@@ -1,8 +1,8 @@
 -- Laws of gauge lines: one for each return and each turn.
 use mathlib.Core.Path.{◌≡◌, refl, ap, sym, ◌∙◌}
-use Prim.Native.Nat.{ℕ, zero, suc, ◌+◌, ◌-◌, ◌<◌, ◌≤◌, ◌^◌}
-use mathlib.Core.Bool.{Bool, true, false, ◌&&◌, ◌||◌}
-use mathlib.Core.List.{List, [], ◌∷◌}
+use Prim.Native.Nat.{ℕ, suc, ◌+◌, ◌-◌, ◌<◌, ◌≤◌, ◌^◌}
+use mathlib.Core.Bool.{Bool, true, false, ◌&&◌}
+use mathlib.Core.List.{List, ◌∷◌}
 use lib.ListN.{length, take, drop, get_or}
 use lib.Seq.{drop-cons}
 use lib.Dec.{eqb, ltb}
@@ -19,7 +19,7 @@ use Rattle.definitions.specs.Bounded.{pick, bit_of}
 use Rattle.definitions.specs.Lines.{tab, newline, before, has, up_to, after, is_empty, is_closed, line_length, line_of, rest_of, Parsed, formed, malformed, on_parsed, decimal, same, NextLine, refused, read, next_line}
 use Rattle.theorems.proofs.Choice.{by_test}
 use Rattle.theorems.proofs.NextLines.{next_back}
-use Rattle.fields.specs.Fields.{largest, cap, capped}
+use Rattle.fields.specs.Fields.{cap, capped}
 use Rattle.fields.specs.declared.number.Field.{Field}
 use Rattle.fields.specs.declared.number.Field.TheVariants as number
 use Rattle.fields.proofs.FieldLaws.{cap_below, cap_exact, capped_read, capped_malformed}

@@ -5,17 +5,17 @@ use mathlib.Core.Bool.{Bool, true, false, ◌&&◌, ◌||◌}
 use mathlib.Core.List.{List, [], ◌∷◌, ◌++◌, append_assoc, append-nil}
 use native.Mathlib.Omega.{arith}
 use native.Mathlib.Numerals.{add-one}
-use lib.ListN.{length, take, drop, set, get_or, length-set}
+use lib.ListN.{length, take, drop, set, length-set}
 use lib.Seq.{take-suc-set, get_or-take, length-take-le}
 use lib.Dec.{eqb}
 use lib.IntN.{ℤ}
 use lib.Signed.{mag}
 use mir.Syntax.{w32, w64}
 use mir.Val.{Fits, hbits}
-use borrow.Author.Rules.{rules, sfits_of}
+use borrow.Author.Rules.{sfits_of}
 use Rattle.definitions.specs.Bounded.{pick}
-use Rattle.definitions.specs.Limits.{max_gauges, atom_count, accepted, recording_form, recording_lines}
-use Rattle.definitions.specs.Lines.{tab, has, up_to, line_of, line_length, same, rest_of, refused, read, on_next, next_line}
+use Rattle.definitions.specs.Limits.{max_gauges, accepted, recording_form, recording_lines}
+use Rattle.definitions.specs.Lines.{tab, has, up_to, line_of, same, rest_of, refused, read, on_next}
 use Rattle.definitions.specs.Gauges.{gauge_word, Gauge, among, gauge_form, gauge_refusal, Gauges}
 use Rattle.definitions.specs.RecordingText.{gauge_line, GaugeScan, gauges_stop, gauges_more, is_gauge, scan_gauges}
 use Rattle.theorems.proofs.NextLines.{same_next, same_check}
@@ -26,12 +26,10 @@ use Rattle.lines.proofs.PartLaws.{part_to_end}
 use Rattle.lines.proofs.NextLaws.{line_part_laws}
 use Rattle.lines.proofs.LoopLaws.{after_line, line_inside}
 use Rattle.measures.proofs.SignLaws.{held, held_is}
-use Rattle.gauges.specs.Held.{GaugesHeld}
 use Rattle.gauges.specs.Lines.{GaugeTurn, gauge_next}
 use Rattle.gauges.specs.Scanning.{gauges_in, GaugesScanned}
 use Rattle.gauges.specs.declared.line.GaugeRead.{GaugeRead}
 use Rattle.gauges.specs.declared.line.GaugeRead.TheVariants as gauge
-use Rattle.gauges.specs.declared.scan.Gauged.{Gauged}
 use Rattle.gauges.proofs.LineLaws.{gauge_of, gauge_is, gauge_denied}
 
 -- ---- the definition, by which atoms are among the earlier ones

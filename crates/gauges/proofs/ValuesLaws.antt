@@ -1,8 +1,8 @@
 -- Laws of the values of a line: value by value, and one law for each return and each turn.
-use mathlib.Core.Path.{◌≡◌, refl, ap, sym, ◌∙◌}
+use mathlib.Core.Path.{◌≡◌, refl, sym, ◌∙◌}
 use Prim.Native.Nat.{ℕ, zero, suc, ◌+◌, ◌-◌, ◌<◌, ◌≤◌, ◌^◌}
-use mathlib.Core.Bool.{Bool, true, false, not, ◌||◌}
-use mathlib.Core.List.{List, [], ◌∷◌}
+use mathlib.Core.Bool.{Bool, true, false, ◌||◌}
+use mathlib.Core.List.{List, ◌∷◌}
 use lib.ListN.{length, take, drop, get_or}
 use lib.Dec.{eqb}
 use lib.IntN.{ℤ, pos}
@@ -21,8 +21,6 @@ use Rattle.definitions.specs.Measures.{measure, in_limits}
 use Rattle.definitions.specs.Gauges.{values_after, any_outside, finished_bit, finished_from, finished}
 use Rattle.measures.specs.Answers.{limited_to, limited}
 use Rattle.gauges.specs.Held.{GaugesHeld}
-use Rattle.measures.specs.declared.Measure.{Measure}
-use Rattle.measures.specs.declared.Measure.TheVariants as field
 use Rattle.measures.proofs.SignLaws.{held, held_is}
 use Rattle.gauges.specs.Values.{step_of, values_read}
 use Rattle.gauges.specs.declared.values.Step.{Step}

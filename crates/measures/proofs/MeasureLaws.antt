@@ -1,26 +1,26 @@
 -- Laws of the reader of signed numbers: one for each return.
-use mathlib.Core.Path.{◌≡◌, refl, ap, sym, ◌∙◌}
+use mathlib.Core.Path.{◌≡◌, refl, sym, ◌∙◌}
 use Prim.Native.Nat.{ℕ, zero, suc, ◌+◌, ◌-◌, ◌*◌, ◌<◌, ◌≤◌}
 use mir.Syntax.{w32}
 use mir.Val.{SFits}
-use mathlib.Core.Bool.{Bool, true, false, ◌&&◌}
+use mathlib.Core.Bool.{Bool, true, false}
 use mathlib.Core.List.{List, [], ◌∷◌}
 use lib.ListN.{length, take, drop, get_or}
-use lib.IntN.{ℤ, pos, negsuc, neg_ℤ}
+use lib.IntN.{ℤ, pos, neg_ℤ}
 use lib.Signed.{le_z}
-use lib.Dec.{eqb, ltb, leb}
+use lib.Dec.{ltb}
 use native.Mathlib.Omega.{arith}
 use borrow.Author.Rules.{rules}
-use borrow.Author.Tests.{eq-eqb, ne_eqb, lt-ltb, le-ltb, ltb-true, ltb-false, lt-leb, le-leb, leb-true, leb-false}
-use Rattle.definitions.specs.Bounded.{pick, within}
+use borrow.Author.Tests.{eq-eqb, ne_eqb, lt-ltb, le-ltb, ltb-true, ltb-false, lt-leb, le-leb}
+use Rattle.definitions.specs.Bounded.{pick}
 use Rattle.definitions.specs.Lines.{before, Parsed, formed, malformed, on_parsed, decimal}
-use Rattle.theorems.proofs.Choice.{by_test, both_true}
+use Rattle.theorems.proofs.Choice.{by_test}
 use Rattle.fields.specs.Fields.{largest, cap, capped, exact}
 use Rattle.fields.specs.declared.number.Field.{Field}
 use Rattle.fields.specs.declared.number.Field.TheVariants as field
 use Rattle.lines.proofs.PartLaws.{part_counts}
 use Rattle.fields.proofs.FieldLaws.{cap_over, cap_within, cap_le, cap_exact, Read, capped_read, capped_malformed, exact_number, exact_malformed}
-use Rattle.definitions.specs.Measures.{point, minus, is_digit, decimals, whole_part, decimal_part, hundredths, below_zero, measure, least, greatest, in_limits}
+use Rattle.definitions.specs.Measures.{point, is_digit, decimals, whole_part, decimal_part, hundredths, below_zero, measure, least, greatest, in_limits}
 use Rattle.measures.proofs.SignLaws.{held, held_is}
 use Rattle.measures.specs.Answers.{limited_to, limited}
 use Rattle.measures.specs.declared.Measure.{Measure}

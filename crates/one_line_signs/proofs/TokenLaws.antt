@@ -13,7 +13,7 @@ use borrow.Author.Tests.{eq-eqb, ne_eqb, eqb-true, eqb-false, le-leb, lt-leb, lt
 use Rattle.definitions.specs.Limits.{atom_count}
 use Rattle.definitions.specs.Bounded.{pick, within}
 use Rattle.definitions.specs.Lines.{Parsed, formed, malformed, on_parsed, decimal, same}
-use Rattle.definitions.specs.OneLineSigns.{Sign, true_sign, atom_sign, infix_sign, Implies, space}
+use Rattle.definitions.specs.OneLineSigns.{true_sign, atom_sign, infix_sign, Implies, space}
 use Rattle.definitions.specs.OneLineReading as reading
 use Rattle.definitions.specs.OneLineReading.{past, taken, word_signs, sign_among, digits_ahead, atom_first, sign_first, after_space}
 use Rattle.theorems.proofs.Choice.{by_test, pick_true, pick_false}

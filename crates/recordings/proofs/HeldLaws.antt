@@ -8,7 +8,7 @@ use mathlib.Core.Bool.{Bool, true, false, not, ◌&&◌, ◌||◌}
 use mathlib.Core.List.{List, [], ◌∷◌}
 use lib.Arith.{bin_ind}
 use lib.Dec.{eqb, leb}
-use lib.Bits.{bit_and, bit_or, bit_xor, differ, and_step, xor_step, and_zero_l, or_zero_r, and_comm, xor_zero_l, xor_self, and_shr, xor_shr, and_mod, xor_mod, xor_add_and, and_le_l, and_le_r}
+use lib.Bits.{bit_and, bit_or, bit_xor, differ, and_step, xor_step, or_zero_r, and_comm, xor_zero_l, xor_self, and_shr, xor_shr, and_mod, xor_mod, xor_add_and, and_le_l, and_le_r}
 use lib.ListN.{length, take, get_or, replicate, length-take, get_or-eq_default}
 use lib.Seq.{get_or-take, take_all, take-length}
 use borrow.Author.Rules.{rules}

@@ -8,7 +8,7 @@ use mathlib.Core.List.{List, [], ◌∷◌}
 use lib.Arith.{bin_ind}
 use lib.Dec.{eqb}
 use lib.ListN.{length, take, drop, get_or}
-use lib.Bits.{bit_and, bit_or, and_step, or_step, and_zero_l, or_zero_l, and_shr, or_shr, and_mod, or_mod, or_add_and, and_le_l, and_le_r}
+use lib.Bits.{bit_and, bit_or, and_step, or_step, or_zero_l, and_shr, or_shr, and_mod, or_mod, or_add_and, and_le_l, and_le_r}
 use borrow.Author.Tests.{eq-eqb, ne_eqb}
 use Rattle.definitions.specs.Limits.{masks_meet, accepted}
 use Rattle.definitions.specs.Bounded.{pick}

@@ -9,15 +9,14 @@ use lib.ListN.{length, take, drop, set, length-drop}
 use borrow.Author.Tests.{ltb-true, ltb-false}
 use mir.Syntax.{w64}
 use mir.Val.{Fits}
-use Rattle.definitions.specs.Limits.{accepted, rule_form, rule_lines, no_controller, max_rule_nodes}
+use Rattle.definitions.specs.Limits.{accepted, rule_form, rule_lines, max_rule_nodes}
 use Rattle.definitions.specs.Bounded.{pick}
-use Rattle.definitions.specs.Nodes.{Node, node_word}
+use Rattle.definitions.specs.Nodes.{node_word}
 use Rattle.definitions.specs.Tables.{node_refusal}
 use Rattle.definitions.specs.Lines.{is_empty, rest_of, stop, more}
 use Rattle.definitions.specs.RuleText.{node_form, node_line, scan_nodes}
 use Rattle.theorems.proofs.Choice.{by_test, pick_true, pick_false}
-use Rattle.theorems.proofs.RefusalBounds.{pick_low}
-use Rattle.theorems.proofs.NextLines.{on_next_lem, next_number, next_some}
+use Rattle.theorems.proofs.NextLines.{on_next_lem, next_some}
 use Rattle.theorems.proofs.RuleTextSteps.{nodes_stop, nodes_step}
 use Rattle.lines.specs.Reading.{FirstLine, LinesScanned}
 use Rattle.lines.specs.declared.Line.{Line}

@@ -14,8 +14,7 @@ use Rattle.definitions.specs.Lines.{rest_of, heading, refused}
 use Rattle.definitions.specs.RuleText.{scan_nodes, rule_heading, rule_heading_line, RuleScan, rule_stop, rule_nodes, scan_rule}
 use Rattle.definitions.specs.Operations.{read_rule_number, read_rule_answer, read_rule_nodes}
 use Rattle.theorems.proofs.Choice.{by_test, pick_true, pick_false}
-use Rattle.theorems.proofs.RefusalBounds.{pick_low}
-use Rattle.theorems.proofs.NextLines.{on_next_lem, next_number, next_some}
+use Rattle.theorems.proofs.NextLines.{next_some}
 use Rattle.theorems.proofs.RuleTextSteps.{rule_stop_lem, rule_step_lem}
 use Rattle.theorems.proofs.LentSpace.{refused_answer, accepted_answer}
 use Rattle.lent.specs.Space.{cleared}

@@ -1,6 +1,6 @@
 -- The states that are filled signal by signal, from zeros, are the states of the signals.
 use mathlib.Core.Path.{◌≡◌, refl, ap, sym, ◌∙◌}
-use Prim.Native.Nat.{ℕ, zero, suc, ◌+◌, ◌-◌, ◌*◌, ◌^◌, ◌<◌, ◌≤◌}
+use Prim.Native.Nat.{ℕ, suc, ◌+◌, ◌-◌, ◌*◌, ◌^◌, ◌<◌, ◌≤◌}
 use native.Mathlib.Nat.{pow-suc}
 use native.Mathlib.Omega.{arith}
 use mathlib.Core.List.{List, [], ◌∷◌, ◌++◌, map}
@@ -10,7 +10,7 @@ use lib.Seq.{length-take-le}
 use lib.Dec.{ltb}
 use borrow.Author.Tests.{lt-ltb, le-ltb}
 use Rattle.definitions.specs.Limits.{atom_count}
-use Rattle.definitions.specs.Bounded.{pick, bit}
+use Rattle.definitions.specs.Bounded.{bit}
 use Rattle.definitions.specs.Archive.{in_front, turned, number_of_bits, state_of_digits, states_of_signals}
 use Rattle.theorems.proofs.Choice.{pick_true, pick_false}
 use Rattle.theorems.proofs.TurnLaws.{Even, turned_length, turned_even}

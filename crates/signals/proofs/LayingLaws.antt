@@ -1,9 +1,9 @@
 -- Laws of a signal that is read byte by byte.
 use mathlib.Core.Path.{◌≡◌, refl, ap, sym, ◌∙◌}
-use Prim.Native.Nat.{ℕ, zero, suc, ◌+◌, ◌-◌, ◌*◌, ◌^◌, ◌<◌, ◌≤◌}
+use Prim.Native.Nat.{ℕ, zero, suc, ◌+◌, ◌-◌, ◌*◌, ◌<◌, ◌≤◌}
 use native.Mathlib.Omega.{arith}
 use native.Mathlib.Numerals.{add-one}
-use mathlib.Core.Bool.{Bool, true, false, ◌&&◌}
+use mathlib.Core.Bool.{Bool, true, false}
 use mathlib.Core.List.{List, [], ◌∷◌, ◌++◌}
 use lib.ListN.{length, take, drop, get_or, set, length-set, take-append-drop, drop_of_length-le}
 use lib.Seq.{drop-cons, take-suc-set, drop-set-lt, append_snoc, get_or-drop, drop-drop}
@@ -11,10 +11,10 @@ use lib.Dec.{ltb, leb, eqb}
 use mir.Syntax.{w64}
 use mir.Val.{Fits}
 use borrow.Author.Rules.{rules}
-use borrow.Author.Tests.{lt-ltb, le-ltb, le-leb, lt-leb, ltb-true, leb-true, eqb-true, eqb-false}
+use borrow.Author.Tests.{lt-ltb, le-ltb, le-leb, lt-leb, leb-true, eqb-true, eqb-false}
 use Rattle.definitions.specs.Bounded.{pick, bit, within}
-use Rattle.definitions.specs.Lines.{Parsed, formed, malformed, on_parsed}
-use Rattle.theorems.proofs.Choice.{by_test, both_true, pick_true, pick_false, pick_must}
+use Rattle.definitions.specs.Lines.{formed, malformed}
+use Rattle.theorems.proofs.Choice.{by_test, both_true, pick_true, pick_must}
 use Rattle.theorems.proofs.Inversions.{parsed_must, never_formed, formed_same}
 use Rattle.definitions.specs.Archive.{signal_on}
 use Rattle.signals.specs.Places.{add_signal}

@@ -4,7 +4,7 @@ use Prim.Native.Nat.{ℕ, zero, suc, ◌+◌, ◌-◌, ◌*◌, ◌%◌, ◌^◌
 use native.Mathlib.Nat.{one-mul, mod-eq_of_lt}
 use native.Mathlib.Omega.{arith}
 use lib.Pow.{pow_mono, pow-lt}
-use mathlib.Core.Bool.{Bool, true, false, ◌&&◌, true≢false, and-false}
+use mathlib.Core.Bool.{Bool, true, false, true≢false, and-false}
 use mathlib.Core.List.{List, [], ◌∷◌}
 use lib.ListN.{length, take, drop, get_or, replicate, length-drop, length-replicate, get_or-replicate}
 use lib.Seq.{length-take-le, ext_get_or, get_or-take}
@@ -13,22 +13,21 @@ use mir.Syntax.{w64}
 use mir.Val.{Fits}
 use borrow.Author.Rules.{rules}
 use borrow.Author.Tests.{lt-ltb, le-ltb, eq-eqb, ne_eqb, ltb-true, ltb-false, leb-true}
-use Rattle.definitions.specs.Limits.{accepted, recording_form, recording_lines, max_controllers, atom_count}
+use Rattle.definitions.specs.Limits.{accepted, recording_form, recording_lines, atom_count}
 use Rattle.definitions.specs.Bounded.{pick, within}
-use Rattle.definitions.specs.Lines.{tab, before, line_length, line_of, is_closed, rest_of, is_empty, formed, malformed, on_parsed, same, worded, refused, read}
-use Rattle.definitions.specs.Archive.{runs_word, bits_word, signal_word, signal_on, signal, signal_form, next_signal, SignalScan, signal_stop, more_signals, scan_signals, states_of_signals}
+use Rattle.definitions.specs.Lines.{tab, before, line_length, is_closed, rest_of, is_empty, formed, malformed, on_parsed, same, worded}
+use Rattle.definitions.specs.Archive.{runs_word, bits_word, signal_word, signal_on, signal, signal_form, SignalScan, signal_stop, more_signals, scan_signals, states_of_signals}
 use Rattle.theorems.proofs.Choice.{by_test, both_true, pick_true, pick_false}
 use Rattle.theorems.proofs.NextLines.{next_malformed, next_read}
 use Rattle.theorems.proofs.ArchiveTexts.{signals_stop, signals_step, signals_back}
 use Rattle.lines.specs.Reading.{FirstLine, end_refusal}
 use Rattle.lines.specs.declared.Line.{Line}
-use Rattle.lines.specs.declared.Stopped.{Stopped}
 use Rattle.lines.proofs.PartLaws.{part_to_end, empty_yes, empty_no, part_laws}
 use Rattle.lines.proofs.NextLaws.{line_part, line_part_laws, next_unread, end_fine}
 use Rattle.lines.proofs.LoopLaws.{after_line, line_inside}
-use Rattle.signals.specs.Places.{InSignals, place_of, weight, add_signal, lay_on}
+use Rattle.signals.specs.Places.{InSignals, place_of, weight, lay_on}
 use Rattle.signals.specs.Laying.{binary_digit, is_signal, laid_on, Room, Laid}
-use Rattle.signals.specs.Scanning.{LineRoom, OneLaid, LineLaid, NextRoom, NextOne, NextLaid, ScanRoom, SignalsScanned}
+use Rattle.signals.specs.Scanning.{LineRoom, OneLaid, LineLaid, NextRoom, NextLaid, ScanRoom, SignalsScanned}
 use Rattle.signals.proofs.FilledLaws.{place_run, place_bit, filled}
 use Rattle.signals.proofs.LayingLaws.{signal_laid}
 

@@ -5,9 +5,9 @@ use native.Mathlib.Nat.{div-div-eq-div-mul, pow-succ', mul_assoc, add-mul-div_ri
 use lib.Pow.{pow-add, pow_pos}
 use native.Mathlib.Omega.{arith}
 use native.Mathlib.Numerals.{add-one}
-use mathlib.Core.Bool.{Bool, true, false}
+use mathlib.Core.Bool.{Bool}
 use mathlib.Core.List.{List, [], ◌∷◌, ◌++◌, map, append_assoc}
-use lib.ListN.{length, take, drop, get_or, set, length-set, length-append}
+use lib.ListN.{length, take, get_or, set, length-set, length-append}
 use lib.Seq.{take-suc, take_all, length-take-le}
 use lib.Dec.{eqb, ltb}
 use mir.Syntax.{w64}

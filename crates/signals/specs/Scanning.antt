@@ -1,8 +1,8 @@
 -- What a line of a signal, and all of them, leave in the states.
-use Rattle.std.specs.Prelude.{◌≡◌, ℕ, ◌+◌, ◌*◌, ◌^◌, ◌<◌, ◌≤◌, Bool, true, false, List, length, take, drop, get_or}
+use Rattle.std.specs.Prelude.{◌≡◌, ℕ, ◌+◌, ◌^◌, ◌<◌, ◌≤◌, Bool, true, false, List, length, take, drop, get_or}
 use Rattle.definitions.specs.Limits.{accepted, max_controllers, atom_count}
 use Rattle.definitions.specs.Lines.{line_length, rest_of, formed, malformed, refused, read}
-use Rattle.definitions.specs.Archive.{signal_form, next_signal, SignalScan, scan_signals, states_of_signals}
+use Rattle.definitions.specs.Archive.{signal_form, next_signal, scan_signals, states_of_signals}
 use Rattle.lines.specs.declared.Stopped.{Stopped}
 use Rattle.signals.specs.Places.{InSignals, weight, add_signal}
 

@@ -1,13 +1,13 @@
 -- "The full size of the lent space is 8,192 bytes either way": both texts of a held recording fit in it.
 use mathlib.Core.Path.{◌≡◌, ◌∙◌}
-use Prim.Native.Nat.{ℕ, zero, suc, ◌+◌, ◌*◌, ◌/◌, ◌%◌, ◌<◌, ◌≤◌}
+use Prim.Native.Nat.{ℕ, ◌+◌, ◌*◌, ◌/◌, ◌%◌, ◌<◌, ◌≤◌}
 use native.Mathlib.Omega.{arith}
 use mathlib.Core.List.{List, [], ◌∷◌, ◌++◌}
 use mathlib.Core.Bool.{Bool}
 use lib.ListN.{length, length-append}
 use lib.Dec.{ltb}
 use borrow.Author.Tests.{ltb-true, ltb-false}
-use Rattle.definitions.specs.Limits.{max_controllers, max_states, atom_count, two_digit_controllers}
+use Rattle.definitions.specs.Limits.{max_controllers, max_states, two_digit_controllers}
 use Rattle.definitions.specs.Lines.{tab, newline, digits}
 use Rattle.definitions.specs.Recordings.{atoms_of, marks_of}
 use Rattle.definitions.specs.RecordingText.{recording_word, owns_word, at_word, word_digits, mark_digits}

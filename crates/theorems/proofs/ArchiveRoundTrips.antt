@@ -1,5 +1,5 @@
 -- Archiving and its inverse undo each other: as texts, and through the operations over lent space.
-use mathlib.Core.Path.{◌≡◌, refl, ap, sym, ◌∙◌, subst}
+use mathlib.Core.Path.{◌≡◌, refl, ap, sym, ◌∙◌}
 use Prim.Native.Nat.{ℕ, ◌-◌, ◌≤◌}
 use native.Mathlib.Omega.{arith}
 use mathlib.Core.List.{List, [], ◌∷◌, ◌++◌}
@@ -10,7 +10,6 @@ use Rattle.definitions.specs.Limits.{lent_short, max_archive_bytes}
 use Rattle.definitions.specs.Bounded.{pick}
 use Rattle.definitions.specs.Lines.{carriage_return, with_newlines}
 use Rattle.definitions.specs.RecordingText.{RecordingScan, scan_plain}
-use Rattle.definitions.specs.RecordingWriting.{recording_text}
 use Rattle.definitions.specs.Archive.{archive_text, scan_archive, archived, restored}
 use Rattle.definitions.specs.Operations.{Answer, answer, too_short, to_archive_number, to_archive_answer, to_archive_text, from_archive_number, from_archive_answer, from_archive_text}
 use Rattle.theorems.proofs.Choice.{pick_other, pick_false}

@@ -1,6 +1,6 @@
 -- Reading and writing an archive text undo each other.
 use mathlib.Core.Path.{◌≡◌, refl, ap, sym, ◌∙◌}
-use Prim.Native.Nat.{ℕ, zero, suc, ◌+◌, ◌<◌, ◌≤◌}
+use Prim.Native.Nat.{ℕ, zero, suc, ◌+◌, ◌<◌}
 use native.Mathlib.Omega.{arith}
 use mathlib.Core.Bool.{Bool, true, false}
 use mathlib.Core.List.{List, [], ◌∷◌, ◌++◌}
@@ -19,7 +19,7 @@ use Rattle.theorems.proofs.EndingLaws.{Unbroken, with_line}
 use Rattle.theorems.proofs.FieldLaws.{worded_back, worded_forth}
 use Rattle.theorems.proofs.NextLines.{by_next, next_back, next_forth, next_some}
 use Rattle.theorems.proofs.TurnLaws.{Even}
-use Rattle.theorems.proofs.OpeningLaws.{fields_unbroken, unbroken_field, Opened, opening_back, opening_forth}
+use Rattle.theorems.proofs.OpeningLaws.{fields_unbroken, unbroken_field, opening_back, opening_forth}
 use Rattle.theorems.proofs.RecordingTexts.{Held, Accepted, held_scan}
 use Rattle.theorems.proofs.SignalLaws.{signals_count, signals_even, states_again, signals_again, states_count_lem}
 

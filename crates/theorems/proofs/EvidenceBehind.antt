@@ -1,8 +1,8 @@
 -- The pairs of the evidence are just the atoms to which the walk comes, but for a foreign atom at the last place.
-use mathlib.Core.Path.{◌≡◌, refl, sym, ◌∙◌}
+use mathlib.Core.Path.{◌≡◌, refl, sym}
 use Prim.Native.Nat.{ℕ, suc, ◌<◌}
 use native.Mathlib.Omega.{arith}
-use mathlib.Core.Bool.{Bool, true, false, ◌&&◌, ◌||◌, true≢false}
+use mathlib.Core.Bool.{Bool, true, false, ◌||◌, true≢false}
 use mathlib.Core.List.{List, [], ◌∷◌}
 use lib.ListN.{length}
 use lib.Dec.{ltb}
@@ -11,7 +11,7 @@ use Rattle.definitions.specs.Bounded.{bit_of}
 use Rattle.definitions.specs.Nodes.{Kind, True, Atom, Not, Or, Next, Until, Prev, Since, Run, End, Unknown, Node, node_at}
 use Rattle.definitions.specs.Tables.{Rule, rule_refusal, nodes_in, is_atom}
 use Rattle.definitions.specs.Readings.{local, read_from}
-use Rattle.definitions.specs.Reached.{Reached, Behind}
+use Rattle.definitions.specs.Reached.{Behind}
 use Rattle.definitions.specs.Evidence.{wanted_rows, Found, decides, evidence}
 use Rattle.theorems.proofs.Choice.{by_test, either_yes, both_true}
 use Rattle.theorems.proofs.RuleNodes.{RuleNodes, rule_nodes_lem}

@@ -1,20 +1,20 @@
 -- "The output rule is tested after that, so local traces compare the finished bits" (document 02, gauges): a text with gauges answers what the text with
 -- the finished words and without gauges answers, and leaves the same in lent space.
-use mathlib.Core.Path.{◌≡◌, refl, ap, sym, ◌∙◌}
-use Prim.Native.Nat.{ℕ, zero, suc, ◌+◌, ◌*◌, ◌/◌, ◌%◌, ◌^◌, ◌<◌, ◌≤◌}
+use mathlib.Core.Path.{◌≡◌, refl, ap, ◌∙◌}
+use Prim.Native.Nat.{ℕ, zero, suc, ◌+◌, ◌*◌, ◌/◌, ◌^◌, ◌<◌}
 use native.Mathlib.Omega.{arith}
 use native.Mathlib.Decide.{dec_lt}
-use mathlib.Core.Bool.{Bool, true, false, ◌||◌}
+use mathlib.Core.Bool.{true, false}
 use mathlib.Core.List.{List, [], ◌∷◌}
 use lib.ListN.{length, get_or, get_or-eq_default}
 use lib.Dec.{eqb, leb}
 use borrow.Author.Tests.{eqb-true, eqb-false}
 use Rattle.definitions.specs.Bounded.{pick}
-use Rattle.definitions.specs.Limits.{max_gauges, atom_count, recording_form, recording_lines}
+use Rattle.definitions.specs.Limits.{max_gauges, recording_form, recording_lines}
 use Rattle.definitions.specs.Recordings.{marks_of, atoms_of, state_refusal}
-use Rattle.definitions.specs.Lines.{is_closed, line_of, rest_of, formed, on_parsed, heading, read, on_next, Scan, more}
+use Rattle.definitions.specs.Lines.{is_closed, line_of, rest_of, formed, on_parsed, heading, read, on_next, Scan}
 use Rattle.definitions.specs.Gauges.{Gauges, no_gauges, any_outside, any_set, finished}
-use Rattle.definitions.specs.RecordingText.{state_form, Measured, at_form, finished_state, at_refusal, recording_heading_line, is_gauge, GaugeScan, scan_masks, scan_gauges, scan_states, RecordingScan, recording_stop, recording_states, gauged_after_masks, opening_masks, scan_opening, scan_recording}
+use Rattle.definitions.specs.RecordingText.{state_form, Measured, at_form, finished_state, at_refusal, recording_heading_line, is_gauge, GaugeScan, scan_masks, scan_gauges, scan_states, RecordingScan, recording_stop, recording_states, gauged_after_masks, scan_opening, scan_recording}
 use Rattle.definitions.specs.Operations.{read_recording_number, read_recording_answer, read_recording_masks, read_recording_states}
 use Rattle.theorems.proofs.Choice.{by_test}
 use Rattle.theorems.proofs.Inversions.{passes}

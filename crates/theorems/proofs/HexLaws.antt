@@ -3,14 +3,13 @@ use mathlib.Core.Path.{◌≡◌, refl, ap, sym, ◌∙◌}
 use Prim.Native.Nat.{ℕ, zero, suc, ◌+◌, ◌-◌, ◌*◌, ◌/◌, ◌%◌, ◌^◌, ◌<◌, ◌≤◌}
 use native.Mathlib.Nat.{pow-suc}
 use native.Mathlib.Omega.{arith}
-use mathlib.Core.Bool.{Bool, true, false, ◌&&◌}
 use mathlib.Core.List.{List, [], ◌∷◌, ◌++◌, append_assoc, append-nil}
 use lib.ListN.{length, length-append}
 use lib.Dec.{eqb, ltb, leb}
 use borrow.Author.Tests.{lt-ltb, le-ltb, ltb-true, ltb-false, le-leb, leb-true, lt-leb, eq-eqb, eqb-true}
 use Rattle.definitions.specs.Bounded.{pick, within}
-use Rattle.definitions.specs.Lines.{Parsed, formed, malformed, hex_digit, hex_on, hexadecimal}
-use Rattle.theorems.proofs.Choice.{by_test, both_true, pick_true, pick_false, pick_must}
+use Rattle.definitions.specs.Lines.{formed, malformed, hex_digit, hex_on, hexadecimal}
+use Rattle.theorems.proofs.Choice.{by_test, both_true, pick_true, pick_must}
 use Rattle.theorems.proofs.Inversions.{never_formed, formed_same}
 use Rattle.theorems.proofs.SplitLaws.{Without, without_none, without_one, without_append}
 use Rattle.definitions.specs.RecordingWriting.{hex_byte, hex_text}

@@ -1,7 +1,6 @@
 -- What an operation answers and what it leaves in lent space, by its number.
 use mathlib.Core.Path.{◌≡◌, refl}
-use Prim.Native.Nat.{ℕ, ◌-◌, ◌<◌}
-use native.Mathlib.Omega.{arith}
+use Prim.Native.Nat.{ℕ, ◌-◌}
 use mathlib.Core.List.{List, [], ◌++◌}
 use lib.ListN.{length, drop, replicate}
 use borrow.Author.Tests.{ne_eqb}

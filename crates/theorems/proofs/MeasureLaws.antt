@@ -1,15 +1,15 @@
 -- "The reading of such a number is shown exact" (document 02, gauges): a field reads as a value exactly when it spells the value, at zero and at both ends too.
-use mathlib.Core.Path.{◌≡◌, refl, ap, sym, ◌∙◌}
+use mathlib.Core.Path.{◌≡◌, refl, sym, ◌∙◌}
 use Prim.Native.Nat.{ℕ, zero, suc, ◌+◌, ◌-◌, ◌*◌, ◌/◌, ◌%◌, ◌<◌, ◌≤◌}
-use mathlib.Core.List.{List, [], ◌∷◌, ◌++◌}
-use mathlib.Core.Bool.{Bool, true, false, ◌&&◌}
-use lib.ListN.{length, take, drop, get_or}
+use mathlib.Core.List.{List, [], ◌∷◌}
+use mathlib.Core.Bool.{true, false}
+use lib.ListN.{length, get_or}
 use lib.Dec.{eqb, ltb, leb}
-use lib.IntN.{ℤ, pos, negsuc, neg_ℤ}
+use lib.IntN.{ℤ, pos, negsuc}
 use native.Mathlib.Omega.{arith}
-use borrow.Author.Tests.{le-leb, leb-true, eq-eqb, ne_eqb, eqb-true, eqb-false}
+use borrow.Author.Tests.{le-leb, leb-true, ne_eqb, eqb-true}
 use Rattle.definitions.specs.Limits.{accepted, recording_form, recording_limits}
-use Rattle.definitions.specs.Bounded.{pick, within}
+use Rattle.definitions.specs.Bounded.{pick}
 use Rattle.definitions.specs.Lines.{bytes, before, Parsed, formed, malformed, on_parsed, decimal, digits, digits_by}
 use Rattle.theorems.proofs.Choice.{by_test, both_true, pick_must, accept_yes}
 use Rattle.theorems.proofs.Inversions.{never_formed, formed_same, parsed_must, first_picked, second_picked}

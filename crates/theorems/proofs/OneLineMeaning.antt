@@ -6,7 +6,7 @@ use mathlib.Core.Bool.{Bool, true, false, not, ◌&&◌, ◌||◌}
 use mathlib.Core.List.{[]}
 use lib.ListN.{length}
 use Rattle.definitions.specs.Bounded.{some_of, every_of, some, every}
-use Rattle.definitions.specs.Nodes.{True, Atom, Not, Or, Next, Until, Prev, Since}
+use Rattle.definitions.specs.Nodes.{True, Atom, Until, Prev, Since}
 use Rattle.definitions.specs.Readings.{Trace, reading, verdict}
 use Rattle.definitions.specs.OneLineSigns as sign
 use Rattle.definitions.specs.OneLineGrammar as tree

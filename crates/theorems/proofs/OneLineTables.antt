@@ -9,7 +9,7 @@ use lib.ListN.{length, length-append}
 use borrow.Author.Tests.{lt-ltb, le-leb}
 use Rattle.definitions.specs.Limits.{atom_count, max_controllers, max_rule_nodes, rule_limits}
 use Rattle.definitions.specs.Bounded.{pick, or_else}
-use Rattle.definitions.specs.Nodes.{Not, Or, Next, Until, Prev, Since, Node, node, node_word}
+use Rattle.definitions.specs.Nodes.{Node, node, node_word}
 use Rattle.definitions.specs.Tables.{is_rewritten, node_refusal, nodes_refusal, rule_heading_refusal, rule_refusal}
 use Rattle.definitions.specs.OneLineSigns as sign
 use Rattle.definitions.specs.OneLineGrammar as tree

@@ -7,7 +7,7 @@ use mathlib.Core.List.{List, [], ◌∷◌, ◌++◌}
 use lib.ListN.{length}
 use Rattle.definitions.specs.Limits.{recording_form, recording_lines, atom_count}
 use Rattle.definitions.specs.Recordings.{mask_refusal, masks_refusal, recording_heading_refusal}
-use Rattle.definitions.specs.Lines.{tab, newline, carriage_return, before, has, up_to, after, is_closed, line_of, rest_of, with_newlines, Parsed, formed, malformed, on_parsed, hexadecimal, Heading, heading, heading_form, two_fields, digits, refused, read, on_next, Scan, stop, more}
+use Rattle.definitions.specs.Lines.{tab, newline, carriage_return, before, has, up_to, after, is_closed, line_of, rest_of, with_newlines, formed, malformed, on_parsed, hexadecimal, Heading, heading, heading_form, two_fields, digits, refused, read, on_next, Scan, stop, more}
 use Rattle.definitions.specs.RecordingText.{recording_word, owns_word, word_digits, recording_heading, mask_form, recording_heading_line, mask_line, scan_masks, RecordingScan, recording_stop, opening_masks, scan_opening}
 use Rattle.definitions.specs.RecordingWriting.{hex_text, recording_heading_text, mask_text, masks_text, opening_text}
 use Rattle.definitions.specs.Bounded.{pick}

@@ -1,15 +1,14 @@
 -- The heading and `owns` lines by themselves: what follows them is read of what they left, and which numbers a text with such an opening may be refused with.
-use mathlib.Core.Path.{◌≡◌, refl, ap, sym, ◌∙◌}
+use mathlib.Core.Path.{◌≡◌}
 use Prim.Native.Nat.{ℕ, zero, suc, ◌+◌, ◌<◌}
 use native.Mathlib.Omega.{arith}
-use mathlib.Core.Bool.{true, false}
-use mathlib.Core.List.{List, [], ◌∷◌}
+use mathlib.Core.List.{List, []}
 use lib.Dec.{eqb}
 use borrow.Author.Tests.{ne_eqb}
 use Rattle.definitions.specs.Limits.{accepted, recording_form, recording_limits, masks_meet, recording_lines, output_rule, lent_short, atom_count}
-use Rattle.definitions.specs.Bounded.{pick, or_else}
-use Rattle.definitions.specs.Recordings.{state_refusal, recording_heading_refusal, states_refusal}
-use Rattle.definitions.specs.Lines.{NextLine, refused, read, on_next, next_line, Heading, Scan}
+use Rattle.definitions.specs.Bounded.{pick}
+use Rattle.definitions.specs.Recordings.{state_refusal, recording_heading_refusal}
+use Rattle.definitions.specs.Lines.{on_next, next_line, Scan}
 use Rattle.definitions.specs.RecordingText.{recording_heading, state_form, recording_heading_line, scan_masks, RecordingScan, recording_stop, opening_masks, scan_opening, scan_plain}
 use Rattle.definitions.specs.Archive.{signal_form, next_signal, SignalScan, scan_signals, states_of_signals, after_opening, scan_archive}
 use Rattle.theorems.proofs.Choice.{by_test}

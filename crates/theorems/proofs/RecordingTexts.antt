@@ -3,7 +3,7 @@ use mathlib.Core.Path.{◌≡◌, refl, ap, sym, ◌∙◌}
 use Prim.Native.Nat.{ℕ, zero, suc, ◌+◌, ◌*◌, ◌/◌, ◌%◌, ◌^◌, ◌<◌, ◌≤◌}
 use native.Mathlib.Omega.{arith}
 use lib.Pow.{pow_mono}
-use mathlib.Core.Bool.{true, false, ◌&&◌}
+use mathlib.Core.Bool.{true, ◌&&◌}
 use mathlib.Core.List.{List, [], ◌∷◌, ◌++◌}
 use lib.ListN.{length}
 use lib.Dec.{ltb, leb}
@@ -13,14 +13,14 @@ use Rattle.definitions.specs.Bounded.{pick, within}
 use Rattle.definitions.specs.Lines.{tab, newline, before, after, is_closed, line_of, rest_of, with_newlines, formed, hexadecimal, two_fields, NextLine, refused, read, on_next, next_line, Scan, stop, more}
 use Rattle.definitions.specs.Recordings.{state_of, atoms_of, marks_of, state_refusal, masks_refusal, states_refusal, recording_heading_refusal}
 use Rattle.definitions.specs.RecordingText.{at_word, word_digits, mark_digits, state_form, RecordingScan, recording_states, scan_opening, scan_plain}
-use Rattle.definitions.specs.RecordingWriting.{hex_text, state_text, states_text, opening_text, recording_text}
+use Rattle.definitions.specs.RecordingWriting.{hex_text, state_text, states_text, recording_text}
 use Rattle.theorems.proofs.Choice.{by_test, pick_true, pick_false, both_true, or_else_none, none_or_else, refuse_no, accept_yes}
 use Rattle.theorems.proofs.SplitLaws.{Without}
 use Rattle.theorems.proofs.EndingLaws.{Unbroken, with_line}
 use Rattle.theorems.proofs.FieldLaws.{worded_back, worded_forth}
 use Rattle.theorems.proofs.NextLines.{by_next, next_back, next_forth, next_some}
 use Rattle.theorems.proofs.HexLaws.{hex_without}
-use Rattle.theorems.proofs.OpeningLaws.{fields_unbroken, unbroken_field, two_hex_back, two_hex_forth, Words, Opened, opening_back, opening_forth}
+use Rattle.theorems.proofs.OpeningLaws.{fields_unbroken, unbroken_field, two_hex_back, two_hex_forth, Words, opening_back, opening_forth}
 use Rattle.theorems.proofs.WithoutGauges.{states_before, after_before, plain_text_before}
 
 -- a recording that meets no refusal, with as many masks and states as C and N say

@@ -4,13 +4,12 @@ use mathlib.Core.Path.{◌≡◌, refl, sym, ap, ◌∙◌}
 use Prim.Native.Nat.{ℕ, ◌-◌, ◌≤◌, ◌<◌}
 use native.Mathlib.Omega.{arith}
 use mathlib.Core.Bool.{Bool, true, false, not}
-use mathlib.Core.List.{List, [], ◌∷◌, ◌++◌}
-use lib.ListN.{length, take, length-append}
+use mathlib.Core.List.{List, [], ◌∷◌}
+use lib.ListN.{length, take}
 use lib.Seq.{take-length, take-append-le, take-take, length-take-le}
 use Rattle.definitions.specs.Limits.{accepted}
 use Rattle.definitions.specs.Bounded.{pick, bit}
 use Rattle.definitions.specs.Tables.{Rule}
-use Rattle.definitions.specs.Recordings.{Recording}
 use Rattle.definitions.specs.Operations.{answer, judge_local_answer}
 use Rattle.definitions.specs.Sessions.{Space, Held, recording_held, Call, Open, Arrive, Withdraw, Replace, leaves_all, verdicts_answer, one_more, one_less, admits, held_after, held_after_all, Sound, Made}
 use Rattle.theorems.proofs.Beginnings.{Beginning}

@@ -18,7 +18,7 @@ use Rattle.definitions.specs.Projection.{run_states, places_of}
 use Rattle.definitions.specs.Readings.{local_verdicts}
 use Rattle.definitions.specs.Operations.{Answer, answer, left, verdict_values, judge_local_number, judge_local_answer}
 use Rattle.definitions.specs.Sessions.{Space, Held, recording_held, space_of, held_in, session_rule, session_recording, open_number, rule_read, opened, replacement_refusal, Call, Open, Arrive, Withdraw, Replace, leaves, leaves_all, verdicts_answer, with_rule, one_more, one_less, admits, held_after, held_after_all, Sound, Made}
-use Rattle.theorems.proofs.Choice.{by_test, pick_true, pick_false}
+use Rattle.theorems.proofs.Choice.{pick_false}
 use Rattle.theorems.proofs.RecordingLaws.{checked}
 use Rattle.theorems.proofs.Beginnings.{Beginning, beginnings_accepted}
 use Rattle.theorems.proofs.ScheduleIndependence.{Accepted, local_accepted, local_judging}

@@ -1,14 +1,14 @@
 -- States and signals: the digits of the states, turned, and turned back.
-use mathlib.Core.Path.{◌≡◌, refl, ap, sym, ◌∙◌}
-use Prim.Native.Nat.{ℕ, zero, suc, ◌+◌, ◌*◌, ◌/◌, ◌%◌, ◌^◌, ◌<◌, ◌≤◌}
+use mathlib.Core.Path.{◌≡◌, refl, ap, ◌∙◌}
+use Prim.Native.Nat.{ℕ, suc, ◌+◌, ◌*◌, ◌/◌, ◌%◌, ◌^◌, ◌<◌}
 use native.Mathlib.Omega.{arith}
-use mathlib.Core.List.{List, [], ◌∷◌, ◌++◌, map}
-use mathlib.Core.Bool.{Bool, true, false}
-use lib.ListN.{length, take, drop, get_or, length-append, length-drop, take-append-drop}
+use mathlib.Core.List.{List, [], ◌∷◌, map}
+use mathlib.Core.Bool.{Bool}
+use lib.ListN.{length, take, drop, length-append, length-drop, take-append-drop}
 use lib.Seq.{length-take-le, take_at, drop_at}
 use Rattle.definitions.specs.Limits.{atom_count}
 use Rattle.definitions.specs.Bounded.{bit_of, tabulate}
-use Rattle.definitions.specs.Recordings.{state_of, atoms_of, marks_of, state_refusal, states_refusal}
+use Rattle.definitions.specs.Recordings.{atoms_of, marks_of, state_refusal, states_refusal}
 use Rattle.theorems.proofs.Choice.{or_else_none}
 use Rattle.theorems.proofs.Tabulations.{tabulate_length}
 use Rattle.definitions.specs.Archive.{turned, number_of_bits}

@@ -1,18 +1,18 @@
 -- "texts without gauges": where no gauge line follows the `owns` lines, a recording text is read as it was before gauges.
-use mathlib.Core.Path.{◌≡◌, refl, ap, sym, ◌∙◌}
+use mathlib.Core.Path.{◌≡◌, refl, ap, ◌∙◌}
 use Prim.Native.Nat.{ℕ, zero, suc, ◌+◌, ◌*◌, ◌^◌, ◌<◌}
 use mathlib.Core.List.{List, [], ◌∷◌}
-use mathlib.Core.Bool.{Bool, true, false, ◌&&◌, ◌||◌}
+use mathlib.Core.Bool.{Bool, true, false, ◌&&◌}
 use lib.ListN.{length}
 use lib.Dec.{eqb, ltb, leb}
 use native.Mathlib.Omega.{arith}
 use borrow.Author.Tests.{eqb-true, ltb-true, lt-ltb}
 use Rattle.definitions.specs.Bounded.{pick}
-use Rattle.definitions.specs.Limits.{max_gauges, accepted, recording_form, recording_lines}
+use Rattle.definitions.specs.Limits.{accepted, recording_form, recording_lines}
 use Rattle.definitions.specs.Recordings.{state_of, marks_of, state_refusal}
 use Rattle.definitions.specs.Lines.{tab, before, has, up_to, after, is_empty, is_closed, line_of, rest_of, Parsed, formed, malformed, on_parsed, hex_digit, hex_on, hexadecimal, Heading, two_fields, worded, same, NextLine, refused, read, on_next, next_line, Scan, stop, more}
 use Rattle.definitions.specs.Gauges.{no_gauges, values_after, any_outside, any_set, finished, finished_from}
-use Rattle.definitions.specs.RecordingText.{at_word, word_digits, mark_digits, state_form, Measured, word_and_values, measured_fields, at_form, finished_state, at_refusal, at_line, is_gauge, scan_gauges, scan_masks, scan_states, RecordingScan, recording_stop, recording_states, recording_heading_line, after_masks, gauged_after_masks, opening_masks, scan_opening, scan_recording, scan_plain}
+use Rattle.definitions.specs.RecordingText.{at_word, word_digits, mark_digits, state_form, Measured, word_and_values, measured_fields, at_form, finished_state, at_refusal, at_line, is_gauge, scan_gauges, scan_masks, scan_states, RecordingScan, recording_states, recording_heading_line, after_masks, gauged_after_masks, scan_opening, scan_recording, scan_plain}
 use Rattle.theorems.proofs.Choice.{by_test}
 use Rattle.theorems.proofs.SplitLaws.{all_front, before_later}
 use Rattle.theorems.proofs.NextLines.{by_next}

@@ -1,5 +1,4 @@
 -- `evaluate` meets its contract (EvaluateLaws, `evaluated_none`, `evaluated_more`, `evaluated_done`).
-use Prim.Native.Nat.{◌-◌}
 use Rattle.evaluation.proofs.EvaluateLaws.{table_laws}
 use Rattle.evaluation.proofs.evaluate.Goals as goal
 

@@ -1,5 +1,4 @@
 -- `clear_u32` meets its contract (ClearLaws, `clearing_more`, `clearing_done`). The invariant: the entries before i are zero.
-use Prim.Native.Nat.{◌-◌}
 use Rattle.lent.proofs.ClearLaws.{clear_laws}
 use Rattle.lent.proofs.clear_u32.Goals as goal
 

@@ -1,5 +1,4 @@
 -- `clear_u8` meets its contract (ClearLaws, `clearing_more`, `clearing_done`). The invariant: the bytes before i are zero.
-use Prim.Native.Nat.{◌-◌}
 use Rattle.lent.proofs.ClearLaws.{clear_laws}
 use Rattle.lent.proofs.clear_u8.Goals as goal
 

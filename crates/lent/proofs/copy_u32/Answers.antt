@@ -1,5 +1,4 @@
 -- `copy_u32` meets its contract (LayLaws, `copying_more`, `copying_done`). The invariant: the words before i are there.
-use Prim.Native.Nat.{◌-◌}
 use Rattle.lent.proofs.LayLaws.{copy_laws}
 use Rattle.lent.proofs.copy_u32.Goals as goal
 

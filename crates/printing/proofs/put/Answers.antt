@@ -1,6 +1,5 @@
 -- `put`: the bytes passed lie in the text (PrintLaws: put_laws).
 use Rattle.printing.proofs.PrintLaws.{put_laws}
-use Prim.Native.Nat.{◌-◌}
 use Rattle.printing.proofs.put.Goals as goal
 
 pub loop-i-init : goal.loop-i-init

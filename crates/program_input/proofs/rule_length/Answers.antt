@@ -1,5 +1,4 @@
 -- `rule_length` meets its contract (SplitLaws: search_laws, searched_none, searched_open, searched_found, searched_less, searched_next, searched_end).
-use Prim.Native.Nat.{◌-◌}
 use Rattle.program_input.proofs.SplitLaws.{search_laws, searched_none, searched_open, searched_found, searched_less, searched_next, searched_end}
 use Rattle.program_input.proofs.rule_length.Goals as goal
 

@@ -1,6 +1,5 @@
 -- `scan_nodes` meets its contract (LoopLaws: node_next_fits, nodes_start, nodes_next, nodes_refused_lem, nodes_done).
 use borrow.Author.Rules.{rules}
-use Prim.Native.Nat.{◌-◌}
 use Rattle.rule_reader.proofs.LoopLaws.{node_next_fits, nodes_start, nodes_next, nodes_refused_lem, nodes_done}
 use Rattle.rule_reader.proofs.scan_nodes.Goals as goal
 

@@ -1,6 +1,5 @@
 -- `put_nodes` meets its contract: one law for each return and for a turn of its loop (PenLaws).
 use Rattle.rule_writer.proofs.PenLaws.{lined_laws}
-use Prim.Native.Nat.{◌-◌}
 use Rattle.rule_writer.proofs.put_nodes.Goals as goal
 
 pub loop-i-init : goal.loop-i-init

@@ -1,6 +1,5 @@
 -- `decimal`: the bytes passed are the digits of the value, or of more than the largest (FieldLaws: decimal_laws).
 use Rattle.fields.proofs.FieldLaws.{decimal_laws}
-use Prim.Native.Nat.{◌-◌}
 use Rattle.fields.proofs.number.decimal.Goals as goal
 
 pub returns-then-s-eq0 : goal.returns-then-s-eq0

@@ -1,6 +1,5 @@
 -- `hexadecimal`: the bytes passed are the digits of the value, which is below 16 to their number (HexLaws: hex_laws).
 use Rattle.fields.proofs.HexLaws.{hex_laws}
-use Prim.Native.Nat.{◌-◌}
 use Rattle.fields.proofs.number.hexadecimal.Goals as goal
 
 pub returns-then-s-width : goal.returns-then-s-width

@@ -1,6 +1,5 @@
 -- `among` meets its contract (LineLaws: seek_start, seek_next, seek-found, seek_done).
 use Rattle.gauges.proofs.LineLaws.{among_laws}
-use Prim.Native.Nat.{◌-◌}
 use Rattle.gauges.proofs.line.among.Goals as goal
 
 pub loop-i-init : goal.loop-i-init

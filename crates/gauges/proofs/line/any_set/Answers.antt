@@ -1,6 +1,5 @@
 -- `any_set` meets its contract (LineLaws: clash_start, clash_next, clash_found, clash_done).
 use Rattle.gauges.proofs.LineLaws.{any_set_laws}
-use Prim.Native.Nat.{◌-◌}
 use Rattle.gauges.proofs.line.any_set.Goals as goal
 
 pub loop-i-init : goal.loop-i-init

@@ -1,5 +1,4 @@
 -- `scan_gauges` meets its contract (ScanLaws: gauges_start, gauges_next, gauges_refused, gauges_other, gauges_full).
-use Prim.Native.Nat.{◌-◌}
 use Rattle.gauges.proofs.ScanLaws.{scan_gauges_laws, gauges_start, gauges_next, gauges_refused, gauges_other, gauges_full}
 use borrow.Author.Rules.{rules}
 use Rattle.gauges.proofs.scan.scan_gauges.Goals as goal

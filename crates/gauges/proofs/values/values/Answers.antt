@@ -1,6 +1,5 @@
 -- `values` meets its contract (ValuesLaws: values_start, values_next, values_form, values_none, values_more, values_word, values_refused).
 use Rattle.gauges.proofs.ValuesLaws.{values_laws}
-use Prim.Native.Nat.{◌-◌}
 use Rattle.gauges.proofs.values.values.Goals as goal
 
 pub until_byte-tab-requires : goal.until_byte-tab-requires

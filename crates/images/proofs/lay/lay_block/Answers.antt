@@ -1,6 +1,5 @@
 -- `lay_block` meets its contract (BlockLaws, `laying_next`).
 use borrow.Author.Rules.{rules}
-use Prim.Native.Nat.{◌-◌}
 use Rattle.images.proofs.BlockLaws.{laying_next, lay_laws}
 use Rattle.images.proofs.lay.lay_block.Goals as goal
 

@@ -1,6 +1,4 @@
 -- `widen` meets its contract (LocalLaws: widen_laws).
-use Prim.Native.Nat.{◌-◌}
-use native.Mathlib.Omega.{arith}
 use Rattle.judges.proofs.LocalLaws.{widen_laws}
 use Rattle.judges.proofs.local.widen.Goals as goal
 

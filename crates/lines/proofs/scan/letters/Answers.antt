@@ -1,6 +1,5 @@
 -- `letters`: the bytes passed are letters (ScanLaws: spelt_laws).
 use Rattle.lines.proofs.ScanLaws.{spelt_laws}
-use Prim.Native.Nat.{◌-◌}
 use Rattle.lines.proofs.scan.letters.Goals as goal
 
 pub loop-i-init : goal.loop-i-init

@@ -1,6 +1,5 @@
 -- `same`: the bytes passed are alike (ScanLaws: alike_laws).
 use Rattle.lines.proofs.ScanLaws.{alike_laws}
-use Prim.Native.Nat.{◌-◌}
 use Rattle.lines.proofs.scan.same.Goals as goal
 
 pub returns-then-a-b : goal.returns-then-a-b

@@ -1,6 +1,5 @@
 -- `until_byte`: none of the bytes passed is the one looked for (ScanLaws: passed_laws).
 use Rattle.lines.proofs.ScanLaws.{passed_laws}
-use Prim.Native.Nat.{◌-◌}
 use Rattle.lines.proofs.scan.until_byte.Goals as goal
 
 pub loop-i-init : goal.loop-i-init

@@ -1,6 +1,5 @@
 -- Carried by TallyLaws: count_start and count_again (the turns), count-done.
 use Rattle.one_line_signs.proofs.TallyLaws.{count_laws}
-use Prim.Native.Nat.{◌-◌}
 use Rattle.one_line_signs.proofs.tally.count.Goals as goal
 
 pub loop-i-init : goal.loop-i-init

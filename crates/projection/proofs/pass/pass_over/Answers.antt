@@ -1,5 +1,4 @@
 -- `pass_over` meets its contract: the invariant says what is held of each beginning (PassLaws, `passing_next`, `passing_end`).
-use Prim.Native.Nat.{◌-◌}
 use Rattle.projection.proofs.PassLaws.{pass_bounds, passing_start, passing_next, passing_end}
 use Rattle.projection.proofs.pass.pass_over.Goals as goal
 

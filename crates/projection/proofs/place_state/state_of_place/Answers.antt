@@ -1,5 +1,4 @@
 -- `state_of_place` meets its contract (StateLaws: state_laws).
-use Prim.Native.Nat.{◌-◌}
 use Rattle.projection.proofs.StateLaws.{state_laws}
 use Rattle.projection.proofs.place_state.state_of_place.Goals as goal
 

@@ -1,5 +1,4 @@
 -- `states_refusal` meets its contract (CheckLaws, `states_next`).
-use Prim.Native.Nat.{◌-◌}
 use Rattle.recordings.proofs.CheckLaws.{states_next, state_laws}
 use Rattle.recordings.proofs.check.states_refusal.Goals as goal
 

@@ -1,5 +1,4 @@
 -- `masks_refusal` meets its contract: the union of the earlier masks stands for them (MaskLaws, `masks_union`; the turns: `masks_missing`, `masks_refused_lem`, `masks_next`, `masks_end`).
-use Prim.Native.Nat.{◌-◌}
 use borrow.Author.Rules.{rules}
 use Rattle.recordings.proofs.MaskLaws.{masks_start, masks_missing, masks_refused_lem, masks_next, masks_end}
 use Rattle.recordings.proofs.masks.masks_refusal.Goals as goal

@@ -1,6 +1,5 @@
 -- `draw_images` meets its contract (DraftLaws, `draft_laws`).
 use borrow.Author.Rules.{rules}
-use Prim.Native.Nat.{◌-◌}
 use Rattle.rewriting.proofs.DraftLaws.{image_small, draft_laws}
 use Rattle.rewriting.proofs.drafts.draw_images.Goals as goal
 

@@ -1,5 +1,4 @@
 -- `all_fit` meets its contract (TableLaws, `fit_next`). The invariant: where all so far fit, what is left to test is the answer.
-use Prim.Native.Nat.{◌-◌}
 use Rattle.rules.proofs.TableLaws.{fit_laws, fit_next}
 use Rattle.rules.proofs.table_check.all_fit.Goals as goal
 

@@ -1,5 +1,4 @@
 -- `first_refusal` meets its contract (TableLaws, `node_laws`). The invariant: what is left to test at node i is the answer.
-use Prim.Native.Nat.{◌-◌}
 use Rattle.rules.proofs.TableLaws.{node_laws}
 use Rattle.rules.proofs.table_check.first_refusal.Goals as goal
 

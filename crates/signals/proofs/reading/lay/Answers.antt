@@ -1,5 +1,4 @@
 -- `lay`: the bytes passed are in the states, and the rest of the states is as it was (LayingLaws: lay_laws).
-use Prim.Native.Nat.{◌-◌}
 use Rattle.signals.proofs.LayingLaws.{lay_laws, laying_stop}
 use Rattle.signals.proofs.reading.lay.Goals as goal
 

@@ -1,5 +1,4 @@
 -- `scan_signals`: what is left to read and to lay (ScanningLaws: scan_laws).
-use Prim.Native.Nat.{◌-◌}
 use Rattle.signals.proofs.ScanningLaws.{scan_laws}
 use Rattle.signals.proofs.reading.scan_signals.Goals as goal
 

@@ -1,5 +1,4 @@
 -- `put_signal`: the digits of the states passed lie in the text (WritingLaws: writing_laws).
-use Prim.Native.Nat.{◌-◌}
 use Rattle.signals.proofs.WritingLaws.{writing_laws}
 use Rattle.signals.proofs.writing.put_signal.Goals as goal
 

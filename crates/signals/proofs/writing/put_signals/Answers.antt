@@ -1,5 +1,4 @@
 -- `put_signals`: the lines of the signals passed lie in the text (WritingLaws: put_signals_laws).
-use Prim.Native.Nat.{◌-◌}
 use Rattle.signals.proofs.WritingLaws.{put_signals_laws}
 use Rattle.signals.proofs.writing.put_signals.Goals as goal
 

@@ -1,5 +1,4 @@
 -- `blank` meets its contract (WantedLaws, `blank_none`, `blank_more`, `blank_done`).
-use Prim.Native.Nat.{◌-◌}
 use Rattle.walk.proofs.WantedLaws.{wanted_laws}
 use Rattle.walk.proofs.wanted.blank.Goals as goal
 
