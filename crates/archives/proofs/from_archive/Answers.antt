@@ -3,9 +3,6 @@ use borrow.Author.Rules.{rules}
 use Rattle.archives.proofs.ConvertLaws.{from_archive_lem}
 use Rattle.archives.proofs.from_archive.Goals as goal
 
-pub convert-requires : goal.convert-requires
-convert-requires c = search rules
-
 pub shape_of-text : goal.shape_of-text
 shape_of-text c = search (rules, from_archive_lem)
 

@@ -3,9 +3,6 @@ use borrow.Author.Rules.{rules}
 use Rattle.archives.proofs.ConvertLaws.{to_archive_lem}
 use Rattle.archives.proofs.to_archive.Goals as goal
 
-pub convert-requires : goal.convert-requires
-convert-requires c = search rules
-
 pub shape_of-archive : goal.shape_of-archive
 shape_of-archive c = search (rules, to_archive_lem)
 

@@ -1,10 +1,6 @@
 -- `next_state` meets its contract: one law for each return (StateLaws, `state_unread`, `state_malformed`, `state_refused`, `state_read`).
 use Rattle.at_lines.proofs.StateLaws.{state_laws, digits_few, state_unread, state_malformed, state_refused, state_read}
-use borrow.Author.Rules.{rules}
 use Rattle.at_lines.proofs.next_state.Goals as goal
-
-pub end_refusal-unread-requires : goal.end_refusal-unread-requires
-end_refusal-unread-requires c = search rules
 
 pub returns-then-unread-ne-NONE : goal.returns-then-unread-ne-NONE
 returns-then-unread-ne-NONE c = search state_unread
@@ -12,26 +8,11 @@ returns-then-unread-ne-NONE c = search state_unread
 pub slice_bounds-worded_hexadecimals-end : goal.slice_bounds-worded_hexadecimals-end
 slice_bounds-worded_hexadecimals-end c = search state_laws
 
-pub mark_digits-requires : goal.mark_digits-requires
-mark_digits-requires c = search rules
-
 pub worded_hexadecimals-requires : goal.worded_hexadecimals-requires
 worded_hexadecimals-requires c = search digits_few
 
-pub enum_known-marks : goal.enum_known-marks
-enum_known-marks c = search rules
-
-pub enum_told-1 : goal.enum_told-1
-enum_told-1 c = search rules
-
 pub returns-in_default : goal.returns-in_default
 returns-in_default c = search state_malformed
-
-pub state_of-state-requires : goal.state_of-state-requires
-state_of-state-requires c = search rules
-
-pub state_refusal-refusal-requires : goal.state_refusal-refusal-requires
-state_refusal-refusal-requires c = search rules
 
 pub returns-then-refusal-ne-NONE : goal.returns-then-refusal-ne-NONE
 returns-then-refusal-ne-NONE c = search state_refused

@@ -1,13 +1,6 @@
 -- `of_rewriting` meets its contract: one law for each case of the answer (CaseLaws).
-use borrow.Author.Rules.{rules}
 use Rattle.c_answers.proofs.CaseLaws.{case_laws}
 use Rattle.c_answers.proofs.of_rewriting.Goals as goal
-
-pub enum_known-answer : goal.enum_known-answer
-enum_known-answer c = search rules
-
-pub enum_known-answer-in-Refused-1 : goal.enum_known-answer-in-Refused-1
-enum_known-answer-in-Refused-1 c = search rules
 
 pub returns-in-Rewritten : goal.returns-in-Rewritten
 returns-in-Rewritten c = search case_laws

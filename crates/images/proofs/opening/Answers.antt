@@ -1,13 +1,9 @@
 -- `opening` meets its contract (ImageLaws, `opening_laws`).
-use borrow.Author.Rules.{rules}
 use Rattle.images.proofs.ImageLaws.{opening_laws}
 use Rattle.images.proofs.opening.Goals as goal
 
 pub lay_block-requires : goal.lay_block-requires
 lay_block-requires c = search opening_laws
-
-pub shape_of-table : goal.shape_of-table
-shape_of-table c = search rules
 
 pub returns : goal.returns
 returns c = search opening_laws

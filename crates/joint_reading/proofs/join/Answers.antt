@@ -1,17 +1,7 @@
 -- `join` meets its contract: one law for each return, and the room that `join_whole` asks (JoinLaws).
 use native.Mathlib.Omega.{arith}
 use Rattle.joint_reading.proofs.JoinLaws.{join_short, join_room}
-use borrow.Author.Rules.{rules}
 use Rattle.joint_reading.proofs.join.Goals as goal
-
-pub is_short-requires : goal.is_short-requires
-is_short-requires c = search rules
-
-pub slice_bounds-refused_at-end : goal.slice_bounds-refused_at-end
-slice_bounds-refused_at-end c = search rules
-
-pub refused_at-requires : goal.refused_at-requires
-refused_at-requires c = search rules
 
 pub shape_of-nodes-then-is_short : goal.shape_of-nodes-then-is_short
 shape_of-nodes-then-is_short c = omega arith
@@ -36,6 +26,3 @@ shape_of-masks c = omega arith
 
 pub shape_of-states : goal.shape_of-states
 shape_of-states c = omega arith
-
-pub returns : goal.returns
-returns c = search rules

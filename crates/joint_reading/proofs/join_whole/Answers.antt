@@ -1,20 +1,7 @@
 -- `join_whole` meets its contract: what was scanned, then zeroed (JoinLaws).
 use native.Mathlib.Omega.{arith}
 use Rattle.joint_reading.proofs.JoinLaws.{join_clears, join_done}
-use borrow.Author.Rules.{rules}
 use Rattle.joint_reading.proofs.join_whole.Goals as goal
-
-pub scan_joint-found-requires : goal.scan_joint-found-requires
-scan_joint-found-requires c = search rules
-
-pub overflow_cast-found : goal.overflow_cast-found
-overflow_cast-found c = search rules
-
-pub overflow_cast-found-2 : goal.overflow_cast-found-2
-overflow_cast-found-2 c = search rules
-
-pub overflow_cast-found-3 : goal.overflow_cast-found-3
-overflow_cast-found-3 c = search rules
 
 pub clear_past-requires : goal.clear_past-requires
 clear_past-requires c = search join_clears

@@ -1,14 +1,7 @@
 -- `read_joint` meets its contract: one law for each return (JoinLaws).
 use native.Mathlib.Omega.{arith}
 use Rattle.joint_reading.proofs.JoinLaws.{rule_inside_lem, rule_handed, recording_inside_lem, recording_handed}
-use borrow.Author.Rules.{rules}
 use Rattle.joint_reading.proofs.read_joint.Goals as goal
-
-pub join-found-requires : goal.join-found-requires
-join-found-requires c = search rules
-
-pub overflow_cast-heading : goal.overflow_cast-heading
-overflow_cast-heading c = search rules
 
 pub part-requires : goal.part-requires
 part-requires c = search rule_inside_lem

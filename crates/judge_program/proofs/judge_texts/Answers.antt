@@ -1,16 +1,6 @@
 -- `judge_texts` meets its contract (OutputLaws: texts_laws).
-use borrow.Author.Rules.{rules}
 use Rattle.judge_program.proofs.OutputLaws.{texts_laws}
 use Rattle.judge_program.proofs.judge_texts.Goals as goal
-
-pub read_tables-requires : goal.read_tables-requires
-read_tables-requires c = search rules
-
-pub enum_known-end : goal.enum_known-end
-enum_known-end c = search rules
-
-pub enum_known-of_rule : goal.enum_known-of_rule
-enum_known-of_rule c = search rules
 
 pub slice_bounds-nodes-end : goal.slice_bounds-nodes-end
 slice_bounds-nodes-end c = search texts_laws
@@ -33,14 +23,8 @@ slice_bounds-put_judged-end-in-Tables-2 c = search texts_laws
 pub put_judged-requires : goal.put_judged-requires
 put_judged-requires c = search texts_laws
 
-pub shape_of-text-in-Refused : goal.shape_of-text-in-Refused
-shape_of-text-in-Refused c = search rules
-
 pub returns-in-Refused : goal.returns-in-Refused
 returns-in-Refused c = search texts_laws
-
-pub shape_of-text-in-Tables : goal.shape_of-text-in-Tables
-shape_of-text-in-Tables c = search rules
 
 pub returns-in-Tables : goal.returns-in-Tables
 returns-in-Tables c = search texts_laws

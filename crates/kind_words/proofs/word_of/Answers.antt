@@ -1,16 +1,9 @@
 -- `word_of` meets its contract (WordLaws: table_laws).
 use Rattle.kind_words.proofs.WordLaws.{table_laws}
-use borrow.Author.Rules.{rules}
 use Rattle.kind_words.proofs.word_of.Goals as goal
 
 pub returns-then-kind-gt-END : goal.returns-then-kind-gt-END
 returns-then-kind-gt-END c = search table_laws
-
-pub offset_bounds-kind : goal.offset_bounds-kind
-offset_bounds-kind c = search rules
-
-pub bounds-kind-kind : goal.bounds-kind-kind
-bounds-kind-kind c = search rules
 
 pub returns : goal.returns
 returns c = search table_laws

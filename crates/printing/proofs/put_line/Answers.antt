@@ -1,5 +1,4 @@
 -- `put_line` meets its contract (LineLaws: line_laws).
-use borrow.Author.Rules.{rules}
 use Rattle.printing.proofs.LineLaws.{line_laws}
 use Rattle.printing.proofs.put_line.Goals as goal
 
@@ -11,9 +10,6 @@ put_field-after_number-requires c = search line_laws
 
 pub put-requires : goal.put-requires
 put-requires c = search line_laws
-
-pub shape_of-text : goal.shape_of-text
-shape_of-text c = search rules
 
 pub returns : goal.returns
 returns c = search line_laws

@@ -10,15 +10,6 @@ returns-then-masks-lt-CONTROLLERS c = search masks_short_lem
 pub returns-then-states-lt-STATES : goal.returns-then-states-lt-STATES
 returns-then-states-lt-STATES c = search states_short_lem
 
-pub scan_recording-scanned-requires : goal.scan_recording-scanned-requires
-scan_recording-scanned-requires c = search rules
-
-pub pick_index-masks_kept-requires : goal.pick_index-masks_kept-requires
-pick_index-masks_kept-requires c = search rules
-
-pub pick_index-states_kept-requires : goal.pick_index-states_kept-requires
-pick_index-states_kept-requires c = search rules
-
 pub clear_u32-requires : goal.clear_u32-requires
 clear_u32-requires c = search (rules, masks_kept_lem)
 

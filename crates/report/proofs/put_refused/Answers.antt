@@ -1,5 +1,4 @@
 -- `put_refused` meets its contract (ReportLaws: refused_laws, refused_written).
-use borrow.Author.Rules.{rules}
 use Rattle.report.proofs.ReportLaws.{refused_laws, refused_written}
 use Rattle.report.proofs.put_refused.Goals as goal
 
@@ -11,9 +10,6 @@ put-after_line-requires c = search refused_laws
 
 pub put_byte-requires : goal.put_byte-requires
 put_byte-requires c = search refused_laws
-
-pub shape_of-text : goal.shape_of-text
-shape_of-text c = search rules
 
 pub returns : goal.returns
 returns c = search refused_written

@@ -1,10 +1,6 @@
 -- `put_report` meets its contract (ReportLaws: report_laws).
-use borrow.Author.Rules.{rules}
 use Rattle.report.proofs.ReportLaws.{report_laws}
 use Rattle.report.proofs.put_report.Goals as goal
-
-pub overflow_cast-report : goal.overflow_cast-report
-overflow_cast-report c = search rules
 
 pub put_line-after_local-requires : goal.put_line-after_local-requires
 put_line-after_local-requires c = search report_laws
@@ -17,9 +13,6 @@ put_rewritten-after_plain-requires c = search report_laws
 
 pub put_rewritten-requires : goal.put_rewritten-requires
 put_rewritten-requires c = search report_laws
-
-pub shape_of-text : goal.shape_of-text
-shape_of-text c = search rules
 
 pub returns : goal.returns
 returns c = search report_laws

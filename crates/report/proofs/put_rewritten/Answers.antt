@@ -1,13 +1,6 @@
 -- `put_rewritten` meets its contract (ReportLaws: rewritten_laws).
-use borrow.Author.Rules.{rules}
 use Rattle.report.proofs.ReportLaws.{rewritten_laws}
 use Rattle.report.proofs.put_rewritten.Goals as goal
-
-pub end_of-end-requires : goal.end_of-end-requires
-end_of-end-requires c = search rules
-
-pub overflow_cast-rewritten : goal.overflow_cast-rewritten
-overflow_cast-rewritten c = search rules
 
 pub slice_bounds-bytes-end : goal.slice_bounds-bytes-end
 slice_bounds-bytes-end c = search rewritten_laws
@@ -17,9 +10,6 @@ slice_bounds-put_line-end c = search rewritten_laws
 
 pub put_line-requires : goal.put_line-requires
 put_line-requires c = search rewritten_laws
-
-pub shape_of-text : goal.shape_of-text
-shape_of-text c = search rules
 
 pub returns : goal.returns
 returns c = search rewritten_laws

@@ -7,12 +7,6 @@ use Rattle.rule_reader.proofs.read_rule.Goals as goal
 pub returns-then-nodes-lt-RULE_NODES : goal.returns-then-nodes-lt-RULE_NODES
 returns-then-nodes-lt-RULE_NODES c = search read_short
 
-pub scan_rule-scanned-requires : goal.scan_rule-scanned-requires
-scan_rule-scanned-requires c = search rules
-
-pub pick_index-kept-requires : goal.pick_index-kept-requires
-pick_index-kept-requires c = search rules
-
 pub clear_u32-requires : goal.clear_u32-requires
 clear_u32-requires c = search (rules, read_fits)
 

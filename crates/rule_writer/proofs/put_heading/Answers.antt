@@ -1,6 +1,5 @@
 -- `put_heading` meets its contract: one law for each return (PenLaws).
 use Rattle.rule_writer.proofs.PenLaws.{heading_laws, heading_written}
-use borrow.Author.Rules.{rules}
 use Rattle.rule_writer.proofs.put_heading.Goals as goal
 
 pub put-after_word-requires : goal.put-after_word-requires
@@ -14,9 +13,6 @@ put_field-after_count-requires c = search heading_laws
 
 pub put_byte-requires : goal.put_byte-requires
 put_byte-requires c = search heading_laws
-
-pub shape_of-text : goal.shape_of-text
-shape_of-text c = search rules
 
 pub returns : goal.returns
 returns c = search heading_written

@@ -1,19 +1,9 @@
 -- `write_rule` meets its contract: one law for each return (WriteLaws).
 use Rattle.rule_writer.proofs.WriteLaws.{write_laws, write_short, write_refused, write_accepted}
-use borrow.Author.Rules.{rules}
 use Rattle.rule_writer.proofs.write_rule.Goals as goal
 
 pub returns-then-text-lt-RULE_BYTES : goal.returns-then-text-lt-RULE_BYTES
 returns-then-text-lt-RULE_BYTES c = search write_short
-
-pub rule_refusal-refusal-requires : goal.rule_refusal-refusal-requires
-rule_refusal-refusal-requires c = search rules
-
-pub clear_u8-requires : goal.clear_u8-requires
-clear_u8-requires c = search rules
-
-pub shape_of-text-then-refusal-ne-NONE : goal.shape_of-text-then-refusal-ne-NONE
-shape_of-text-then-refusal-ne-NONE c = search rules
 
 pub returns-then-refusal-ne-NONE : goal.returns-then-refusal-ne-NONE
 returns-then-refusal-ne-NONE c = search write_refused
@@ -35,9 +25,6 @@ put_nodes-end-requires c = search write_laws
 
 pub clear_u8-requires-2 : goal.clear_u8-requires-2
 clear_u8-requires-2 c = search write_laws
-
-pub shape_of-text : goal.shape_of-text
-shape_of-text c = search rules
 
 pub returns : goal.returns
 returns c = search write_accepted

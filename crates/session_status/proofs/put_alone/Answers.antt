@@ -1,13 +1,9 @@
 -- `put_alone` meets its contract (StatusLaws: judged_laws).
 use Rattle.session_status.proofs.StatusLaws.{judged_laws}
-use borrow.Author.Rules.{rules}
 use Rattle.session_status.proofs.put_alone.Goals as goal
 
 pub put_line-requires : goal.put_line-requires
 put_line-requires c = search judged_laws
-
-pub shape_of-text : goal.shape_of-text
-shape_of-text c = search rules
 
 pub returns : goal.returns
 returns c = search judged_laws

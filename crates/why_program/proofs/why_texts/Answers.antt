@@ -1,16 +1,6 @@
 -- `why_texts` meets its contract (WhyLaws: texts_laws).
-use borrow.Author.Rules.{rules}
 use Rattle.why_program.proofs.WhyLaws.{texts_laws}
 use Rattle.why_program.proofs.why_texts.Goals as goal
-
-pub read_tables-requires : goal.read_tables-requires
-read_tables-requires c = search rules
-
-pub enum_known-end : goal.enum_known-end
-enum_known-end c = search rules
-
-pub enum_known-of_rule : goal.enum_known-of_rule
-enum_known-of_rule c = search rules
 
 pub slice_bounds-nodes-end : goal.slice_bounds-nodes-end
 slice_bounds-nodes-end c = search texts_laws
@@ -33,14 +23,8 @@ slice_bounds-put_behind-end-in-Tables-2 c = search texts_laws
 pub put_behind-requires : goal.put_behind-requires
 put_behind-requires c = search texts_laws
 
-pub shape_of-text-in-Refused : goal.shape_of-text-in-Refused
-shape_of-text-in-Refused c = search rules
-
 pub returns-in-Refused : goal.returns-in-Refused
 returns-in-Refused c = search texts_laws
-
-pub shape_of-text-in-Tables : goal.shape_of-text-in-Tables
-shape_of-text-in-Tables c = search rules
 
 pub returns-in-Tables : goal.returns-in-Tables
 returns-in-Tables c = search texts_laws

@@ -1,16 +1,6 @@
 -- `at_line` meets its contract (MeasuredLaws: at_ends, at-other, at-fields).
 use Rattle.at_lines.proofs.MeasuredLaws.{at_line_laws}
-use borrow.Author.Rules.{rules}
 use Rattle.at_lines.proofs.measured.at_line.Goals as goal
-
-pub until_byte-i-requires : goal.until_byte-i-requires
-until_byte-i-requires c = search rules
-
-pub opens-requires : goal.opens-requires
-opens-requires c = search rules
-
-pub mark_digits-requires : goal.mark_digits-requires
-mark_digits-requires c = search rules
 
 pub after-requires : goal.after-requires
 after-requires c = search at_line_laws

@@ -1,5 +1,4 @@
 -- `put_pair` meets its contract (LineLaws: pair_laws).
-use borrow.Author.Rules.{rules}
 use Rattle.evidence_text.proofs.LineLaws.{pair_laws}
 use Rattle.evidence_text.proofs.line.put_pair.Goals as goal
 
@@ -8,9 +7,6 @@ put_place-after_place-requires c = search pair_laws
 
 pub put_reading-requires : goal.put_reading-requires
 put_reading-requires c = search pair_laws
-
-pub shape_of-text : goal.shape_of-text
-shape_of-text c = search rules
 
 pub returns : goal.returns
 returns c = search pair_laws

@@ -1,10 +1,6 @@
 -- `checked` meets its contract (LineLaws: checked_high, checked_second, checked_gauge).
 use Rattle.gauges.proofs.LineLaws.{checked_laws}
-use borrow.Author.Rules.{rules}
 use Rattle.gauges.proofs.line.checked.Goals as goal
-
-pub among-requires : goal.among-requires
-among-requires c = search rules
 
 pub returns-then-among : goal.returns-then-among
 returns-then-among c = search checked_laws

@@ -1,10 +1,6 @@
 -- `next_gauge` meets its contract (LineLaws: gauge_unread, gauge_closed).
 use Rattle.gauges.proofs.LineLaws.{next_gauge_laws}
-use borrow.Author.Rules.{rules}
 use Rattle.gauges.proofs.line.next_gauge.Goals as goal
-
-pub end_refusal-unread-requires : goal.end_refusal-unread-requires
-end_refusal-unread-requires c = search rules
 
 pub returns-then-unread-ne-NONE : goal.returns-then-unread-ne-NONE
 returns-then-unread-ne-NONE c = search next_gauge_laws

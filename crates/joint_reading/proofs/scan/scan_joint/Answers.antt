@@ -1,26 +1,13 @@
 -- `scan_joint` meets its contract: one law for each return (ScanLaws).
 use native.Mathlib.Omega.{arith}
 use Rattle.joint_reading.proofs.ScanLaws.{count_fits_lem, rule_refused, recording_refused, joint_accepted, joining_refused}
-use borrow.Author.Rules.{rules}
 use Rattle.joint_reading.proofs.scan.scan_joint.Goals as goal
-
-pub scan_rule-ruled-requires : goal.scan_rule-ruled-requires
-scan_rule-ruled-requires c = search rules
-
-pub refused_at-requires : goal.refused_at-requires
-refused_at-requires c = search rules
 
 pub shape_of-nodes-then-ruled-ne-NONE : goal.shape_of-nodes-then-ruled-ne-NONE
 shape_of-nodes-then-ruled-ne-NONE c = omega arith
 
 pub returns-then-ruled-ne-NONE : goal.returns-then-ruled-ne-NONE
 returns-then-ruled-ne-NONE c = search rule_refused
-
-pub scan_recording-recorded-requires : goal.scan_recording-recorded-requires
-scan_recording-recorded-requires c = search rules
-
-pub refused_at-requires-then-recorded-ne-NONE : goal.refused_at-requires-then-recorded-ne-NONE
-refused_at-requires-then-recorded-ne-NONE c = search rules
 
 pub shape_of-nodes-then-recorded-ne-NONE : goal.shape_of-nodes-then-recorded-ne-NONE
 shape_of-nodes-then-recorded-ne-NONE c = omega arith
@@ -57,9 +44,6 @@ shape_of-states-then-ruled-recorded c = omega arith
 
 pub returns-then-ruled-recorded : goal.returns-then-ruled-recorded
 returns-then-ruled-recorded c = search joint_accepted
-
-pub refused_at-requires-2 : goal.refused_at-requires-2
-refused_at-requires-2 c = search rules
 
 pub shape_of-nodes : goal.shape_of-nodes
 shape_of-nodes c = omega arith

@@ -1,10 +1,6 @@
 -- `judge_local` meets its contract (LocalLaws: local_laws).
-use borrow.Author.Rules.{rules}
 use Rattle.judges.proofs.LocalLaws.{local_laws}
 use Rattle.judges.proofs.local.judge_local.Goals as goal
-
-pub local_refusal-refusal-requires : goal.local_refusal-refusal-requires
-local_refusal-refusal-requires c = search rules
 
 pub returns-then-refusal-ne-NONE : goal.returns-then-refusal-ne-NONE
 returns-then-refusal-ne-NONE c = search local_laws

@@ -1,5 +1,4 @@
 -- `judge_accepted_table` meets its contract (WholeLaws: accepted_laws, whole_verdicts).
-use borrow.Author.Rules.{rules}
 use Rattle.judges.proofs.WholeLaws.{accepted_laws, whole_verdicts}
 use Rattle.judges.proofs.whole.judge_accepted_table.Goals as goal
 
@@ -14,9 +13,6 @@ overflow_mul-count c = search accepted_laws
 
 pub clear_u64-requires : goal.clear_u64-requires
 clear_u64-requires c = search accepted_laws
-
-pub shape_of-rows : goal.shape_of-rows
-shape_of-rows c = search rules
 
 pub returns : goal.returns
 returns c = search whole_verdicts

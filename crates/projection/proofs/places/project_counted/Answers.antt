@@ -1,16 +1,9 @@
 -- `project_counted` meets its contract (PlaceLaws, `into_counted`, `into_laid`).
-use borrow.Author.Rules.{rules}
 use Rattle.projection.proofs.PlaceLaws.{counted_laws}
 use Rattle.projection.proofs.places.project_counted.Goals as goal
 
 pub pass_over-held-requires : goal.pass_over-held-requires
 pass_over-held-requires c = search counted_laws
-
-pub close-requires : goal.close-requires
-close-requires c = search rules
-
-pub length-requires : goal.length-requires
-length-requires c = search rules
 
 pub shape_of-places : goal.shape_of-places
 shape_of-places c = search counted_laws

@@ -1,23 +1,10 @@
 -- `scan_recording` meets its contract: one law for each return, and the room that masks and the rest ask (RecordingLaws: heading_refused, mask_room, masks_refused_lem, rest_room, recording_scanned).
 use native.Mathlib.Omega.{arith}
 use Rattle.recording_reader.proofs.RecordingLaws.{heading_refused, mask_room, masks_refused_lem, rest_room, recording_scanned}
-use borrow.Author.Rules.{rules}
 use Rattle.recording_reader.proofs.scan.scan_recording.Goals as goal
-
-pub first_line-line-requires : goal.first_line-line-requires
-first_line-line-requires c = search rules
-
-pub next_heading-requires : goal.next_heading-requires
-next_heading-requires c = search rules
-
-pub enum_known-controllers : goal.enum_known-controllers
-enum_known-controllers c = search rules
 
 pub scan_masks-owned-requires : goal.scan_masks-owned-requires
 scan_masks-owned-requires c = search mask_room
-
-pub unread-requires : goal.unread-requires
-unread-requires c = search rules
 
 pub shape_of-masks-then-owned-ne-NONE : goal.shape_of-masks-then-owned-ne-NONE
 shape_of-masks-then-owned-ne-NONE c = omega arith
@@ -27,12 +14,6 @@ returns-then-owned-ne-NONE c = search masks_refused_lem
 
 pub scan_rest-requires : goal.scan_rest-requires
 scan_rest-requires c = search rest_room
-
-pub enum_known-number : goal.enum_known-number
-enum_known-number c = search rules
-
-pub unread-requires-in-Refused : goal.unread-requires-in-Refused
-unread-requires-in-Refused c = search rules
 
 pub shape_of-masks : goal.shape_of-masks
 shape_of-masks c = omega arith

@@ -1,14 +1,7 @@
 -- `scan_rest` meets its contract: one law for each return, and the room that the states ask (RecordingLaws: gauges_refused, state_room, rest_scanned).
 use native.Mathlib.Omega.{arith}
 use Rattle.recording_reader.proofs.RecordingLaws.{gauges_refused, state_room, rest_scanned}
-use borrow.Author.Rules.{rules}
 use Rattle.recording_reader.proofs.scan.scan_rest.Goals as goal
-
-pub scan_gauges-gauges-requires : goal.scan_gauges-gauges-requires
-scan_gauges-gauges-requires c = search rules
-
-pub unread-requires : goal.unread-requires
-unread-requires c = search rules
 
 pub returns-then-gauges-ne-NONE : goal.returns-then-gauges-ne-NONE
 returns-then-gauges-ne-NONE c = search gauges_refused

@@ -1,28 +1,12 @@
 -- `recording_refusal` meets its contract (CheckLaws, `recording_heading_lem`, `recording_is_lem`).
-use borrow.Author.Rules.{rules}
 use Rattle.recordings.proofs.CheckLaws.{heading_bounds, recording_is_lem, recording_heading_lem}
 use Rattle.recordings.proofs.check.recording_refusal.Goals as goal
-
-pub heading_refusal-heading-requires : goal.heading_refusal-heading-requires
-heading_refusal-heading-requires c = search rules
 
 pub returns-then-heading-ne-NONE : goal.returns-then-heading-ne-NONE
 returns-then-heading-ne-NONE c = search recording_heading_lem
 
-pub masks_refusal-meeting-requires : goal.masks_refusal-meeting-requires
-masks_refusal-meeting-requires c = search rules
-
 pub states_refusal-refusal-requires : goal.states_refusal-refusal-requires
 states_refusal-refusal-requires c = search heading_bounds
-
-pub lines_refusal-lines-requires : goal.lines_refusal-lines-requires
-lines_refusal-lines-requires c = search rules
-
-pub or_else-late-requires : goal.or_else-late-requires
-or_else-late-requires c = search rules
-
-pub or_else-requires : goal.or_else-requires
-or_else-requires c = search rules
 
 pub returns : goal.returns
 returns c =

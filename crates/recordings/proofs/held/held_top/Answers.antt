@@ -5,9 +5,3 @@ use Rattle.recordings.proofs.held.held_top.Goals as goal
 
 pub returns-then-controllers-le-TWO_TABLES : goal.returns-then-controllers-le-TWO_TABLES
 returns-then-controllers-le-TWO_TABLES c = search (rules, group_none)
-
-pub held_group-requires : goal.held_group-requires
-held_group-requires c = search rules
-
-pub returns : goal.returns
-returns c = search rules

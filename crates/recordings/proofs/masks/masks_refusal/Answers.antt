@@ -1,5 +1,4 @@
 -- `masks_refusal` meets its contract: the union of the earlier masks stands for them (MaskLaws, `masks_union`; the turns: `masks_missing`, `masks_refused_lem`, `masks_next`, `masks_end`).
-use borrow.Author.Rules.{rules}
 use Rattle.recordings.proofs.MaskLaws.{masks_start, masks_missing, masks_refused_lem, masks_next, masks_end}
 use Rattle.recordings.proofs.masks.masks_refusal.Goals as goal
 
@@ -9,23 +8,8 @@ loop-c-init c = search masks_start
 pub returns-then-masks-c : goal.returns-then-masks-c
 returns-then-masks-c c = search masks_missing
 
-pub offset_bounds-masks-c : goal.offset_bounds-masks-c
-offset_bounds-masks-c c = search rules
-
-pub bounds-masks-c : goal.bounds-masks-c
-bounds-masks-c c = search rules
-
-pub mask_refusal-refusal-requires : goal.mask_refusal-refusal-requires
-mask_refusal-refusal-requires c = search rules
-
 pub returns-then-refusal-ne-NONE : goal.returns-then-refusal-ne-NONE
 returns-then-refusal-ne-NONE c = search masks_refused_lem
-
-pub overflow_step-c : goal.overflow_step-c
-overflow_step-c c = search rules
-
-pub loop-c-smaller : goal.loop-c-smaller
-loop-c-smaller c = search rules
 
 pub loop-c-preserved : goal.loop-c-preserved
 loop-c-preserved c = search masks_next

@@ -1,6 +1,5 @@
 -- `operand_fields` meets its contract (FormLaws: operand_laws).
 use Rattle.rule_reader.proofs.FormLaws.{operand_laws}
-use borrow.Author.Rules.{rules}
 use Rattle.rule_reader.proofs.node_line.operand_fields.Goals as goal
 
 pub returns-then-i-s : goal.returns-then-i-s
@@ -9,29 +8,11 @@ returns-then-i-s c = search operand_laws
 pub returns-then-uses-eq0 : goal.returns-then-uses-eq0
 returns-then-uses-eq0 c = search operand_laws
 
-pub after-requires : goal.after-requires
-after-requires c = search rules
-
-pub decimal-requires : goal.decimal-requires
-decimal-requires c = search rules
-
-pub enum_known-a : goal.enum_known-a
-enum_known-a c = search rules
-
-pub enum_told-1 : goal.enum_told-1
-enum_told-1 c = search rules
-
 pub returns-in_default : goal.returns-in_default
 returns-in_default c = search operand_laws
 
 pub returns-then-uses-eq1 : goal.returns-then-uses-eq1
 returns-then-uses-eq1 c = search operand_laws
-
-pub after-requires-then-i-s-2 : goal.after-requires-then-i-s-2
-after-requires-then-i-s-2 c = search rules
-
-pub decimals-requires : goal.decimals-requires
-decimals-requires c = search rules
 
 pub returns-then-i-s-2 : goal.returns-then-i-s-2
 returns-then-i-s-2 c = search operand_laws

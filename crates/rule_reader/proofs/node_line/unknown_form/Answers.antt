@@ -1,6 +1,5 @@
 -- `unknown_form` meets its contract (FormLaws: unknown_laws).
 use Rattle.rule_reader.proofs.FormLaws.{unknown_laws}
-use borrow.Author.Rules.{rules}
 use Rattle.rule_reader.proofs.node_line.unknown_form.Goals as goal
 
 pub returns-then-i-eq0 : goal.returns-then-i-eq0
@@ -9,20 +8,8 @@ returns-then-i-eq0 c = search unknown_laws
 pub slice_bounds-letters-end : goal.slice_bounds-letters-end
 slice_bounds-letters-end c = search unknown_laws
 
-pub letters-requires : goal.letters-requires
-letters-requires c = search rules
-
-pub until_byte-requires : goal.until_byte-requires
-until_byte-requires c = search rules
-
 pub returns-then-until_byte-s : goal.returns-then-until_byte-s
 returns-then-until_byte-s c = search unknown_laws
-
-pub overflow_cast-of_word : goal.overflow_cast-of_word
-overflow_cast-of_word c = search rules
-
-pub of_word-requires : goal.of_word-requires
-of_word-requires c = search rules
 
 pub returns-then-letters : goal.returns-then-letters
 returns-then-letters c = search unknown_laws

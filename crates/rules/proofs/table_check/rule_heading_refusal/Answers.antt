@@ -1,10 +1,6 @@
 -- `rule_heading_refusal` meets its contract: the definition, test by test.
-use borrow.Author.Rules.{rules}
 use Rattle.definitions.specs.Tables.{rule_heading_refusal}
 use Rattle.rules.proofs.table_check.rule_heading_refusal.Goals as goal
-
-pub pick-requires : goal.pick-requires
-pick-requires c = search rules
 
 pub returns : goal.returns
 unfolding rule_heading_refusal

@@ -1,10 +1,6 @@
 -- `rule_refusal` meets its contract: one law for each return (TableLaws).
-use borrow.Author.Rules.{rules}
 use Rattle.rules.proofs.TableLaws.{rule_laws}
 use Rattle.rules.proofs.table_check.rule_refusal.Goals as goal
-
-pub rule_heading_refusal-heading-requires : goal.rule_heading_refusal-heading-requires
-rule_heading_refusal-heading-requires c = search rules
 
 pub returns-then-heading-ne-NONE : goal.returns-then-heading-ne-NONE
 returns-then-heading-ne-NONE c = search rule_laws

@@ -1,10 +1,6 @@
 -- `table_refusal` meets its contract: one law for each return (TableLaws).
-use borrow.Author.Rules.{rules}
 use Rattle.rules.proofs.TableLaws.{table_laws}
 use Rattle.rules.proofs.table_check.table_refusal.Goals as goal
-
-pub pick-heading-requires : goal.pick-heading-requires
-pick-heading-requires c = search rules
 
 pub returns-then-heading-ne-NONE : goal.returns-then-heading-ne-NONE
 returns-then-heading-ne-NONE c = search table_laws
@@ -14,9 +10,6 @@ nodes_refusal-refusal-requires c = search table_laws
 
 pub returns-then-refusal-ne-NONE : goal.returns-then-refusal-ne-NONE
 returns-then-refusal-ne-NONE c = search table_laws
-
-pub pick-requires : goal.pick-requires
-pick-requires c = search rules
 
 pub returns : goal.returns
 returns c = search table_laws

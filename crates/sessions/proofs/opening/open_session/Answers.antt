@@ -1,5 +1,4 @@
 -- `open_session` meets its contract (OpeningLaws, `open_refused`, `open_taken`).
-use borrow.Author.Rules.{rules}
 use Rattle.sessions.proofs.OpeningLaws.{open_laws}
 use Rattle.sessions.proofs.opening.open_session.Goals as goal
 
@@ -12,9 +11,6 @@ returns-then-nodes-lt-RULE_NODES c = search open_laws
 pub returns-then-states-lt-STATES : goal.returns-then-states-lt-STATES
 returns-then-states-lt-STATES c = search open_laws
 
-pub open_refusal-number-requires : goal.open_refusal-number-requires
-open_refusal-number-requires c = search rules
-
 pub returns-then-number-ne-NONE : goal.returns-then-number-ne-NONE
 returns-then-number-ne-NONE c = search open_laws
 
@@ -23,18 +19,6 @@ lay_u32-requires c = search open_laws
 
 pub lay_u32-requires-2 : goal.lay_u32-requires-2
 lay_u32-requires-2 c = search open_laws
-
-pub clear_u64-requires : goal.clear_u64-requires
-clear_u64-requires c = search rules
-
-pub shape_of-masks : goal.shape_of-masks
-shape_of-masks c = search rules
-
-pub shape_of-nodes : goal.shape_of-nodes
-shape_of-nodes c = search rules
-
-pub shape_of-states : goal.shape_of-states
-shape_of-states c = search rules
 
 pub returns : goal.returns
 returns c = search open_laws
