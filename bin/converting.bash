@@ -77,7 +77,7 @@ explain() {
 
 # Makes the other text of what is in a file, with the program of that name: printed, or in another file.
 convert() {
-    local kind=$1 program=$here/../target/bin/$2 target
+    local kind=$1 program=$here/../crates/$2/out/$2 target
     shift 2
     case ${1-} in
         --help | -h) print '%s\n' "$help" && exit "$made" ;;
@@ -87,7 +87,7 @@ convert() {
         exit "$failed"
     fi
     guard_descriptors
-    [ -x "$program" ] || fail "the program is not built; \`rt check ${program##*/}\` builds it"
+    [ -x "$program" ] || fail "the program is not built; \`bin/build ${program##*/}\` builds it"
     name=$1
     target=${2-}
     [ "$name" != - ] || [ "$input_closed" = no ] || fail "standard input is closed"

@@ -1,6 +1,6 @@
 /*
  * Ragyvosin: judges the rule of one controller over the recording of a whole
- * rack. Link the archive that `rt staticlib ragyvosin_c` writes; it is for
+ * rack. Link the archive that `bin/build ragyvosin_c` makes; it is for
  * Linux on x86-64 (64-bit size_t, the usual calling convention of C there),
  * C99 or C++. docs/FORMATS.md describes both texts and every refusal with what
  * to mend; docs/MEANING.md says what a verdict means; examples/c is a program.

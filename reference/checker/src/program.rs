@@ -127,7 +127,8 @@ const LIMIT: Duration = Duration::from_secs(60);
 impl Program {
     /// Where the program's binary is to be.
     fn binary(self) -> PathBuf {
-        let built = Path::new(env!("CARGO_MANIFEST_DIR")).join("../../target/bin").join(self.name);
+        let crates = Path::new(env!("CARGO_MANIFEST_DIR")).join("../../crates");
+        let built = crates.join(self.name).join("out").join(self.name);
         env::var_os(self.variable).map_or(built, PathBuf::from)
     }
 
