@@ -10,7 +10,7 @@ text_of rule recording part = pick part.of_rule rule recording
 
 -- where it lies: in that text, so many bytes on
 abbrev pub place_in : Bor (List ℕ) → Bor (List ℕ) → Part → ℕ × ℕ
-place_in rule recording part = ((text_of rule recording part).ptr.0, part.from + (text_of rule recording part).ptr.1)
+place_in rule recording part = ((text_of rule recording part).ref_ptr.0, part.from + (text_of rule recording part).ref_ptr.1)
 
 -- the bytes of that text there
 abbrev pub bytes_in : Bor (List ℕ) → Bor (List ℕ) → Part → List ℕ
