@@ -1,14 +1,14 @@
-// What could not be read or written, on standard error: the program's name, and the stream.
-use libc::STDERR_FILENO;
+// What could not be read or written, on standard error: the program's name, and the stream. Where that cannot be written either, nothing more is said.
+use std::io::Stderr;
 
 // Says that standard input cannot be read.
-pub fn say_unread(program: &[u8]) {
-    io::write_all(STDERR_FILENO, program);
-    io::write_all(STDERR_FILENO, b": standard input cannot be read\n");
+pub fn say_unread(errors: Stderr, program: &[u8]) {
+    let _ = errors.write_all(program);
+    let _ = errors.write_all(b": standard input cannot be read\n");
 }
 
 // Says that standard output cannot be written.
-pub fn say_unwritten(program: &[u8]) {
-    io::write_all(STDERR_FILENO, program);
-    io::write_all(STDERR_FILENO, b": standard output cannot be written\n");
+pub fn say_unwritten(errors: Stderr, program: &[u8]) {
+    let _ = errors.write_all(program);
+    let _ = errors.write_all(b": standard output cannot be written\n");
 }

@@ -1,7 +1,7 @@
 // Standard input, read to its end.
 ghost use Rattle.std.specs.Prelude.{◌≤◌, length};
 
-use libc::STDIN_FILENO;
+use std::io::{Read, Stdin};
 
 // How many bytes were read, and whether a read failed.
 #[derive(Clone, Copy)]
@@ -11,23 +11,21 @@ pub struct Input {
 }
 
 // Reads until `space` is full or the input ends; a read that fails ends it too.
-pub fn read_input(space: &mut [u8]) -> Input
+pub fn read_input(mut input: Stdin, space: &mut [u8]) -> Input
     ensures { result.count ≤ length space.new }
 {
     let mut count = 0;
     while count < space.len() {
-        let got = libc::read(STDIN_FILENO, &mut space[count..]);
-        if got < 0 {
-            return Input {
-                count: count,
-                failed: true,
-            };
+        match input.read(&mut space[count..]) {
+            Ok(0) => break,
+            Ok(more) => count += more,
+            Err(_) => {
+                return Input {
+                    count: count,
+                    failed: true,
+                };
+            }
         }
-        let more = io::count(got, &space[count..]);
-        if more == 0 {
-            break;
-        }
-        count += more;
     }
     Input {
         count: count,

@@ -4,16 +4,19 @@
 
 ghost use Rattle.std.specs.Prelude.{◌≤◌, length};
 
-use libc::{STDIN_FILENO, STDOUT_FILENO};
 use lines::scan;
 use rules::choice::least;
 use rules::limits::Limits;
 use sessions::heading::Heading;
 use standard_streams::failures;
+use std::io::Read;
 use watch_opening::phase::{OUTPUT_BYTES, Phase};
 
 // One byte more than the limit tells an opening or a new rule that is too long.
 const SPACE_BYTES: usize = Limits::INPUT_BYTES + 1;
+
+// A read takes at most so many bytes.
+const CHUNK_BYTES: usize = 4096;
 
 // The program ends after so many bytes of input, since every loop must.
 const MOST_BYTES: usize = 1 << 63;
@@ -79,6 +82,7 @@ fn next_place(phase: Phase, count: usize) -> Place {
 
 // Takes the line that is kept, and writes what is printed of it at once.
 fn end_line(
+    rt: HostRuntime,
     place: Place,
     space: &[u8],
     heading: &mut [usize; Heading::NUMBERS],
@@ -100,16 +104,17 @@ fn end_line(
         &mut output,
     );
     let printed = stepped.printed;
-    if io::write_all(STDOUT_FILENO, &output[..printed]) {
+    if rt.stdout().write_all(&output[..printed]).is_ok() {
         let next = stepped.phase;
         return next_place(next, count);
     }
-    failures::say_unwritten(b"watch");
+    failures::say_unwritten(rt.stderr(), b"watch");
     next_place(Phase::Ended, 0)
 }
 
 // Takes bytes of the input, line by line. An opening that is too long is told at once, however its line goes on.
 fn take_bytes(
+    rt: HostRuntime,
     place: Place,
     chunk: &[u8],
     space: &mut [u8],
@@ -128,7 +133,7 @@ fn take_bytes(
         now = kept;
         let phase = kept.phase;
         if (byte == scan::NEWLINE) | ((kept.count == SPACE_BYTES) & is_opening(phase)) {
-            let next = end_line(kept, space, heading, masks, nodes, states);
+            let next = end_line(rt, kept, space, heading, masks, nodes, states);
             now = next;
         }
         i += 1;
@@ -136,8 +141,8 @@ fn take_bytes(
     now
 }
 
-fn main() {
-    let mut chunk = io::buffer();
+fn main(rt: HostRuntime) {
+    let mut chunk = [0u8; CHUNK_BYTES];
     let mut space = [0u8; SPACE_BYTES];
     let mut heading = [0usize; Heading::NUMBERS];
     let mut masks = [0u32; Limits::CONTROLLERS];
@@ -146,16 +151,15 @@ fn main() {
     let mut place = next_place(Phase::Opening, 0);
     let mut left = MOST_BYTES;
     while 0 < left {
-        let got = libc::read(STDIN_FILENO, &mut chunk);
-        if got < 0 {
-            failures::say_unread(b"watch");
+        let Ok(count) = rt.stdin().read(&mut chunk) else {
+            failures::say_unread(rt.stderr(), b"watch");
             return;
-        }
-        let count = io::count(got, &chunk);
+        };
         if count == 0 {
             break;
         }
         let next = take_bytes(
+            rt,
             place,
             &chunk[..count],
             &mut space,
@@ -172,6 +176,7 @@ fn main() {
         left = left - least(count, left);
     }
     let last = end_line(
+        rt,
         place,
         &space,
         &mut heading,
@@ -180,6 +185,7 @@ fn main() {
         &mut states,
     );
     end_line(
+        rt,
         last,
         &space,
         &mut heading,
