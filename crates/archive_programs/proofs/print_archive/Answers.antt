@@ -3,8 +3,5 @@ use borrow.Author.Rules.{rules}
 use Rattle.archive_programs.proofs.OutputLaws.{archive_printed}
 use Rattle.archive_programs.proofs.print_archive.Goals as goal
 
-pub convert-requires : goal.convert-requires
-convert-requires c = search rules
-
 pub returns : goal.returns
 returns c = search (rules, archive_printed)
