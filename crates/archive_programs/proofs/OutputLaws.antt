@@ -1,21 +1,18 @@
 -- Laws of both programs: one for each return, and for what each call asks.
-use mathlib.Core.Path.{◌≡◌, refl, ap, sym, ◌∙◌}
+use mathlib.Core.Path.{◌≡◌, ap, sym, ◌∙◌}
 use mathlib.Core.Bool.{Bool, true, false}
 use mathlib.Core.List.{List, []}
-use Prim.Native.Nat.{ℕ, ◌+◌, ◌-◌, ◌<◌, ◌≤◌}
+use Prim.Native.Nat.{ℕ, ◌-◌, ◌<◌, ◌≤◌}
 use native.Mathlib.Omega.{arith}
 use lib.ListN.{length, take, drop, length-drop}
 use lib.Seq.{length-take-le}
 use lib.Dec.{eqb, ltb}
-use mir.Syntax.{w32}
-use mir.Val.{Fits}
 use borrow.Author.Rules.{rules}
 use borrow.Author.Tests.{lt-ltb, le-ltb, eq-eqb, ne_eqb}
-use Rattle.definitions.specs.Limits.{accepted, lent_short, input_long, max_input_bytes, max_controllers, max_states}
+use Rattle.definitions.specs.Limits.{accepted, input_long, max_input_bytes}
 use Rattle.definitions.specs.Bounded.{pick}
-use Rattle.definitions.specs.Lines.{line_length, line_of}
+use Rattle.definitions.specs.Lines.{line_of}
 use Rattle.definitions.specs.Program.{refused_text}
-use Rattle.definitions.specs.Archive.{archive_of, recording_from}
 use Rattle.definitions.specs.ArchivePrograms.{read_output, text_output, archive_output, unarchive_output}
 use Rattle.theorems.proofs.Choice.{pick_true, pick_false}
 use Rattle.lines.specs.Reading.{FirstLine}
@@ -24,12 +21,11 @@ use Rattle.lines.proofs.PartLaws.{part_to_end}
 use Rattle.printing.specs.Printing.{Printed, OutputIs}
 use Rattle.printing.proofs.LineLaws.{printed_all}
 use Rattle.refused_line.specs.Numbering.{line_number, LineStart}
-use Rattle.refused_line.specs.declared.Line.{Line as Where}
 use Rattle.refused_line.specs.declared.Line.TheVariants.{OfRecording, Nowhere}
 use Rattle.report.specs.Reporting.{max_output_bytes}
 use Rattle.report.proofs.ReportLaws.{refused_length}
 use Rattle.recording_reader.specs.declared.scan.Scanned.{Scanned}
-use Rattle.archives.specs.Reading.{scan_text, TextRoom, TextScanned}
+use Rattle.archives.specs.Reading.{scan_text, TextScanned}
 use Rattle.archives.specs.Writing.{text_of, text_from, WriteRoom}
 use Rattle.archives.proofs.ConvertLaws.{local_room, text_fits, read_write_room, read_written, read_masks_counts, read_states_counts}
 use Rattle.archive_programs.specs.Converting.{convert_output, RefusedRoom, text_line}

@@ -10,9 +10,8 @@ use borrow.Author.Rules.{rules}
 use borrow.Author.Tests.{lt-ltb, le-ltb}
 use Rattle.definitions.specs.Limits.{lent_short, max_controllers, max_states, max_archive_bytes}
 use Rattle.definitions.specs.Bounded.{pick}
-use Rattle.definitions.specs.RecordingText.{RecordingScan, scan_plain}
-use Rattle.definitions.specs.Archive.{scan_archive, archived, restored}
-use Rattle.definitions.specs.Operations.{too_short, left, to_archive_number, to_archive_answer, to_archive_text, from_archive_number, from_archive_answer, from_archive_text}
+use Rattle.definitions.specs.Archive.{archived, restored}
+use Rattle.definitions.specs.Operations.{to_archive_number, to_archive_answer, to_archive_text, from_archive_number, from_archive_answer, from_archive_text}
 use Rattle.theorems.proofs.LentSpace.{refused_answer, accepted_answer}
 use Rattle.theorems.proofs.RecordingTexts.{recording_back}
 use Rattle.theorems.proofs.ArchiveTexts.{archive_back}
@@ -21,7 +20,7 @@ use Rattle.lent.specs.Space.{laid, cleared}
 use Rattle.lent.proofs.LeftLaws.{laid_past, laid_begins, left_untouched, left_zeroed, left_filled}
 use Rattle.printing.specs.Printing.{laid_at, Printed}
 use Rattle.recording_reader.specs.declared.scan.Scanned.{Scanned}
-use Rattle.archives.specs.Reading.{scan_text, TextRoom, HeldIn, TextScanned}
+use Rattle.archives.specs.Reading.{scan_text, TextRoom, TextScanned}
 use Rattle.archives.specs.Writing.{text_of, text_from, WriteRoom}
 use Rattle.archives.specs.Converting.{convert_number, Converted, ToArchive, FromArchive}
 use Rattle.archives.specs.declared.TextWritten.{TextWritten}

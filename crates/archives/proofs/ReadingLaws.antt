@@ -8,14 +8,14 @@ use lib.ListN.{length, take, drop}
 use lib.Seq.{take_at, length-take-le}
 use lib.Dec.{eqb}
 use borrow.Author.Rules.{rules}
-use borrow.Author.Tests.{eq-eqb, ne_eqb, eqb-true, eqb-false}
-use Rattle.definitions.specs.Limits.{accepted, lent_short, max_controllers, max_states, atom_count}
+use borrow.Author.Tests.{eq-eqb, ne_eqb, eqb-true}
+use Rattle.definitions.specs.Limits.{accepted, lent_short, max_controllers, atom_count}
 use Rattle.definitions.specs.Bounded.{pick, or_else}
 use Rattle.definitions.specs.Lines.{rest_of, Heading, heading, refused, read, on_next, Scan}
 use Rattle.definitions.specs.Recordings.{states_refusal}
 use Rattle.definitions.specs.Gauges.{no_gauges}
 use Rattle.definitions.specs.RecordingText.{recording_heading_line, scan_masks, scan_states, RecordingScan, recording_stop, opening_masks, scan_opening, after_masks, scan_plain}
-use Rattle.definitions.specs.Archive.{SignalScan, scan_signals, states_of_signals, after_opening, scan_archive}
+use Rattle.definitions.specs.Archive.{SignalScan, scan_signals, after_opening, scan_archive}
 use Rattle.theorems.proofs.Choice.{by_test}
 use Rattle.theorems.proofs.Inversions.{first_accepted}
 use Rattle.theorems.proofs.OpeningReads.{opened, then_read, opening_then, plain_low, archive_low}
@@ -30,7 +30,7 @@ use Rattle.recording_reader.specs.declared.scan.Scanned.{Scanned}
 use Rattle.recording_reader.proofs.HeadingLaws.{Headed, headed, unheaded}
 use Rattle.recording_reader.proofs.ScanLaws.{masks_counted, states_counted}
 use Rattle.signals.specs.Scanning.{ScanRoom, SignalsScanned}
-use Rattle.archives.specs.Reading.{after_text, scan_text, OpeningScanned, AfterRoom, AfterScanned, TextRoom, HeldIn, TextScanned}
+use Rattle.archives.specs.Reading.{after_text, scan_text, OpeningScanned, AfterRoom, AfterScanned, TextRoom, TextScanned}
 
 -- ---- `scan_opening`
 module _ (t : List ℕ) where

@@ -1,5 +1,5 @@
 -- What is found when both texts are read up to the first refusal.
-use Rattle.std.specs.Prelude.{◌≡◌, ℕ, ◌+◌, ◌<◌, ◌≤◌, Bool, List, [], ◌∷◌, length, take, drop, eqb}
+use Rattle.std.specs.Prelude.{◌≡◌, ℕ, ◌+◌, ◌≤◌, Bool, List, [], ◌∷◌, length, take, drop, eqb}
 use Rattle.definitions.specs.Limits.{accepted, lent_short, max_rule_nodes, max_controllers, max_states}
 use Rattle.definitions.specs.Bounded.{pick}
 use Rattle.definitions.specs.RuleText.{scan_rule}

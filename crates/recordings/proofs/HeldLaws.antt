@@ -288,7 +288,7 @@ pub at_many : (C : ℕ) (low high top : List ℕ) (marks : ℕ) → 8 < C →
 unfolding held_at pick
 at_many C low high top marks h = rw (lt-leb C 8 h)
 
--- ---- `held_by_lem`
+-- ---- the function `held_by`
 -- `held_with`, the controller ran: `held_with` is what was held
 pub with_ran : (held mask : ℕ) (ran : Bool) → ran ≡ true → held ≡ held_with held mask ran
 unfolding held_with pick
@@ -304,7 +304,7 @@ pub record HeldLeft (C : ℕ) (masks : List ℕ) (marks held c : ℕ) : Type 0 w
   pub within : c ≤ C
   pub left : held_by C masks marks ≡ held_from (C - c) c held masks marks
 
--- `held_by_lem`, before controller 0: all of `held_by` is left
+-- the function, before controller 0: all of the definition `held_by` is left
 pub by_start : (C : ℕ) (masks : List ℕ) (marks : ℕ) → HeldLeft C masks marks 0 0
 unfolding held_by
 by_start C masks marks = let z : C - 0 ≡ C = omega arith in record { within = omega arith; left = rw z }
@@ -326,14 +326,14 @@ none_held (suc n) c held masks marks h =
     rw (get_or-eq_default masks 0 h, or_zero_r held, pick_same (bit_of marks c) held) (none_held n (c + 1) held masks marks (omega arith))
 
 module _ (C : ℕ) (masks : List ℕ) (marks held c n : ℕ) (inv : HeldLeft C masks marks held c) (there : n ≡ min C (length masks)) where
-  -- `held_by_lem`, a turn: with controller c, `held_by` is left from the next one on
+  -- the function, a turn: with controller c, the definition `held_by` is left from the next one on
   pub by_next : c < n → (held' : ℕ) → held' ≡ held_with held (get_or masks c 0) (eqb (marks / 2 ^ c % 2) 1) → HeldLeft C masks marks held' (c + 1)
   unfolding held_from bit_of
   by_next h held' e =
       let one : C - c ≡ suc (C - (c + 1)) = omega arith in
       record { within = omega arith; left = inv.left ∙ rw (one, e) }
 
-  -- `held_by_lem`, no mask is left: what is held is `held_by`
+  -- the function, no mask is left: what is held is the definition `held_by`
   pub by_end : n ≤ c → held ≡ held_by C masks marks
   by_end h = go (dec_lt c C)
     where

@@ -12,7 +12,7 @@ use borrow.Author.Tests.{lt-ltb, le-ltb, ltb-false, ne_eqb}
 use Rattle.definitions.specs.Limits.{max_controllers, max_rule_nodes, max_states, lent_short, no_controller, recording_lines, accepted}
 use Rattle.definitions.specs.Bounded.{pick, or_else}
 use Rattle.definitions.specs.Nodes.{node_of}
-use Rattle.definitions.specs.Tables.{Rule, rule_of, rule_refusal}
+use Rattle.definitions.specs.Tables.{rule_of, rule_refusal}
 use Rattle.definitions.specs.Recordings.{masks_refusal, controller_refusal}
 use Rattle.definitions.specs.Operations.{left}
 use Rattle.definitions.specs.Sessions.{lent_space, space_of, controllers_refusal, open_masks_refusal, open_refusal, open_number, leaves}

@@ -1,7 +1,6 @@
 -- A new rule (`replacement_refusal`, `replace_rule`): a law for each return.
 use mathlib.Core.Path.{◌≡◌, sym, ◌∙◌}
 use Prim.Native.Nat.{ℕ, ◌≤◌, ◌<◌}
-use mathlib.Core.Bool.{false}
 use mathlib.Core.List.{List, []}
 use lib.ListN.{length, take, get_or, set}
 use lib.Dec.{ltb}

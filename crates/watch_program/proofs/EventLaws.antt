@@ -13,7 +13,7 @@ use borrow.Author.Tests.{ne_eqb}
 use Rattle.definitions.specs.Limits.{max_line_bytes, accepted, recording_form}
 use Rattle.definitions.specs.Bounded.{pick}
 use Rattle.definitions.specs.Recordings.{state_of}
-use Rattle.definitions.specs.Lines.{tab, newline, digits, line_length, line_of, is_closed, same, malformed, on_parsed, heading, hexadecimal, two_fields, worded}
+use Rattle.definitions.specs.Lines.{tab, newline, digits, line_length, line_of, is_closed, same, on_parsed, heading, hexadecimal, two_fields, worded}
 use Rattle.definitions.specs.RecordingText.{at_word, word_digits, mark_digits}
 use Rattle.definitions.specs.Program.{refused_word, refused_text}
 use Rattle.definitions.specs.Sessions.{Space, lent_space, arrive_number, withdraw_number, arrived, withdrawn, leaves}

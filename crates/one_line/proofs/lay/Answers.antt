@@ -1,5 +1,4 @@
--- Carried by LineLaws: lay_none and lay_more (the turns), lay-all.
-use Prim.Native.Nat.{◌-◌}
+-- Carried by LineLaws: lay_none and lay_more (the turns), lay_all.
 use Rattle.one_line.proofs.LineLaws.{lay_laws}
 use Rattle.one_line.proofs.lay.Goals as goal
 

@@ -1,4 +1,4 @@
--- Carried by LineLaws: lay_none and lay_more (the turns), lay-all.
+-- Carried by LineLaws: lay_none and lay_more (the turns), lay_all.
 use Prim.Native.Nat.{◌-◌}
 use Rattle.definitions.specs.Limits.{max_rule_nodes}
 use Rattle.one_line.proofs.LineLaws.{Copied}

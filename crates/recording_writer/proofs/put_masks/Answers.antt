@@ -1,5 +1,4 @@
 -- `put_masks`: the lines of the masks passed lie in the text (LineLaws: masks_laws).
-use Prim.Native.Nat.{◌-◌}
 use Rattle.recording_writer.proofs.LineLaws.{masks_laws}
 use Rattle.recording_writer.proofs.put_masks.Goals as goal
 

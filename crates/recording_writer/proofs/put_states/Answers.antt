@@ -1,5 +1,4 @@
 -- `put_states`: the lines of the states passed lie in the text (LineLaws: states_laws).
-use Prim.Native.Nat.{◌-◌}
 use Rattle.recording_writer.proofs.LineLaws.{states_laws}
 use Rattle.recording_writer.proofs.put_states.Goals as goal
 

@@ -1,4 +1,4 @@
--- `walk` meets its contract (WalkLaws, `walk_start`, `Walk-more`, `walk_done`).
+-- `walk` meets its contract (WalkLaws, `walk_start`, `walk_more`, `walk_done`).
 use borrow.Author.Rules.{rules}
 use Rattle.walk.proofs.WalkLaws.{walk_turning, walk_laws}
 use Rattle.walk.proofs.walk.Goals as goal

@@ -1,4 +1,4 @@
--- `walk` meets its contract (WalkLaws, `walk_start`, `Walk-more`, `walk_done`).
+-- `walk` meets its contract (WalkLaws, `walk_start`, `walk_more`, `walk_done`).
 use Rattle.walk.proofs.WalkLaws.{Walking}
 use Rattle.walk.proofs.walk.Given as goal
 

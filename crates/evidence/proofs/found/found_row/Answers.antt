@@ -1,4 +1,4 @@
--- `found_row` meets its contract: one law for each return (FindLaws, `Found-None`, `found_own`, `found_foreign`).
+-- `found_row` meets its contract: one law for each return (FindLaws, `found_none`, `found_own`, `found_foreign`).
 use Rattle.evidence.proofs.FindLaws.{find_laws}
 use Rattle.evidence.proofs.found.found_row.Goals as goal
 

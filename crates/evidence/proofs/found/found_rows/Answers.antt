@@ -1,5 +1,4 @@
 -- `found_rows` meets its contract (FindLaws, `finding_none`, `finding_more`, `finding_done`).
-use Prim.Native.Nat.{◌-◌}
 use Rattle.evidence.proofs.FindLaws.{find_laws}
 use Rattle.evidence.proofs.found.found_rows.Goals as goal
 

@@ -1,5 +1,4 @@
--- `lay_place` meets its contract (LayLaws, `place_None`, `place_more`, `place_done`).
-use Prim.Native.Nat.{◌-◌}
+-- `lay_place` meets its contract (LayLaws, `place_none`, `place_more`, `place_done`).
 use Rattle.evidence.proofs.LayLaws.{lay_laws}
 use Rattle.evidence.proofs.pairs.lay_place.Goals as goal
 

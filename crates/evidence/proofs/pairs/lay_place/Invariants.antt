@@ -1,4 +1,4 @@
--- `lay_place` meets its contract (LayLaws, `place_None`, `place_more`, `place_done`).
+-- `lay_place` meets its contract (LayLaws, `place_none`, `place_more`, `place_done`).
 use Prim.Native.Nat.{◌-◌}
 use Rattle.evidence.proofs.LayLaws.{PlaceLaying}
 use Rattle.evidence.proofs.pairs.lay_place.Given as goal

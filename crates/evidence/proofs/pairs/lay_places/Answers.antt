@@ -1,5 +1,4 @@
 -- `lay_places` meets its contract (LayLaws, `places_none`, `places_more`, `places_done`).
-use Prim.Native.Nat.{◌-◌}
 use Rattle.evidence.proofs.LayLaws.{lay_laws}
 use Rattle.evidence.proofs.pairs.lay_places.Goals as goal
 

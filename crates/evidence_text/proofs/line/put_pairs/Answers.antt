@@ -1,5 +1,4 @@
 -- `put_pairs` meets its contract (LineLaws: pairs_laws).
-use Prim.Native.Nat.{◌-◌}
 use Rattle.evidence_text.proofs.LineLaws.{pairs_laws}
 use Rattle.evidence_text.proofs.line.put_pairs.Goals as goal
 

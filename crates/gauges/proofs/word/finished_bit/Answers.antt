@@ -1,4 +1,4 @@
--- `finished_bit` meets its contract (FinishLaws: bit_reached, bit-below).
+-- `finished_bit` meets its contract (FinishLaws: bit_reached, bit_below).
 use Rattle.gauges.proofs.FinishLaws.{finished_bit_laws}
 use Rattle.gauges.proofs.word.finished_bit.Goals as goal
 

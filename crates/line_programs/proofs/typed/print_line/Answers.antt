@@ -1,4 +1,4 @@
--- Carried by TypedLaws: line-refused, line_printed.
+-- Carried by TypedLaws: line_refused, line_printed.
 use Rattle.line_programs.proofs.TypedLaws.{line_laws}
 use Rattle.line_programs.proofs.typed.print_line.Goals as goal
 

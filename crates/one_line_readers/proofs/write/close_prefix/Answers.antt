@@ -1,4 +1,4 @@
--- Carried by Laying: close-always, close-other.
+-- Carried by Laying: close_always, close_other.
 use Rattle.one_line_readers.proofs.Laying.{close_laws}
 use Rattle.one_line_readers.proofs.write.close_prefix.Goals as goal
 

@@ -1,4 +1,4 @@
--- Carried by Laying: dual-laid.
+-- Carried by Laying: dual_laid.
 use Rattle.one_line_readers.proofs.Laying.{dual_room, dual_laid}
 use Rattle.one_line_readers.proofs.write.dual.Goals as goal
 

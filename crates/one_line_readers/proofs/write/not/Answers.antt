@@ -1,4 +1,4 @@
--- Carried by Laying: not-laid.
+-- Carried by Laying: not_laid.
 use Rattle.one_line_readers.proofs.Laying.{not_laid}
 use Rattle.one_line_readers.proofs.write.not.Goals as goal
 

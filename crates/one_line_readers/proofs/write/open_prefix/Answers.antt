@@ -1,4 +1,4 @@
--- Carried by Laying: open-future, open-always, open-other.
+-- Carried by Laying: open_future, open_always, open_other.
 use Rattle.one_line_readers.proofs.Laying.{open_laws}
 use Rattle.one_line_readers.proofs.write.open_prefix.Goals as goal
 

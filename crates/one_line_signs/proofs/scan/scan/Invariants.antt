@@ -1,4 +1,4 @@
--- Carried by ScanLaws: scan_start and scan_again (the turns), scan-last, scan-none, scan-end.
+-- Carried by ScanLaws: scan_start and scan_again (the turns), scan_last, scan_none, scan_end.
 use Rattle.one_line_signs.proofs.ScanLaws.{Scanning}
 use Prim.Native.Nat.{◌-◌}
 use lib.ListN.{length}

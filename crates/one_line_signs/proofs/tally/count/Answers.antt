@@ -1,4 +1,4 @@
--- Carried by TallyLaws: count_start and count_again (the turns), count-done.
+-- Carried by TallyLaws: count_start and count_again (the turns), count_done.
 use Rattle.one_line_signs.proofs.TallyLaws.{count_laws}
 use Rattle.one_line_signs.proofs.tally.count.Goals as goal
 

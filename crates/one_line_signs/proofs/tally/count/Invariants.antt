@@ -1,4 +1,4 @@
--- Carried by TallyLaws: count_start and count_again (the turns), count-done.
+-- Carried by TallyLaws: count_start and count_again (the turns), count_done.
 use Rattle.one_line_signs.proofs.TallyLaws.{Counting}
 use Prim.Native.Nat.{◌-◌}
 use lib.ListN.{length}

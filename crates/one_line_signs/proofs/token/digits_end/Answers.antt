@@ -1,4 +1,4 @@
--- Carried by TokenLaws: digits_start and digits_next (the turns), digits-low, digits-high, digits-stop.
+-- Carried by TokenLaws: digits_start and digits_next (the turns), digits-low, digits_high, digits_stop.
 use Rattle.one_line_signs.proofs.TokenLaws.{digits_laws}
 use Rattle.one_line_signs.proofs.token.digits_end.Goals as goal
 

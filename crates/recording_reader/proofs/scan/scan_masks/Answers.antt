@@ -1,5 +1,4 @@
 -- `scan_masks` meets its contract (LoopLaws: mask_next_fits, masks_start, masks_next, masks_refused_lem, masks_done).
-use Prim.Native.Nat.{◌-◌}
 use Rattle.recording_reader.proofs.LoopLaws.{mask_next_fits, masks_start, masks_next, masks_refused_lem, masks_done}
 use Rattle.recording_reader.proofs.scan.scan_masks.Goals as goal
 

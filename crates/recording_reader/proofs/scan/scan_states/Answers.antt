@@ -1,7 +1,5 @@
 -- `scan_states` meets its contract (LoopLaws: state_next_fits, states_start, states_next, measured_next, states_refused_lem, measured_refused, states_done).
-use Prim.Native.Nat.{◌-◌}
 use Rattle.recording_reader.proofs.LoopLaws.{state_next_fits, states_start, states_next, measured_next, states_refused_lem, measured_refused, states_done}
-use Prim.Native.Nat.{◌-◌}
 use Rattle.recording_reader.proofs.scan.scan_states.Goals as goal
 use Rattle.recording_reader.proofs.scan.scan_states.Goals.{then-gauges-eq0, else-gauges-eq0}
 

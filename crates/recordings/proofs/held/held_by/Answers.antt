@@ -1,4 +1,4 @@
--- `held_by_lem` meets its contract (HeldLaws, `by_next`, `by_end`).
+-- `held_by` meets its contract (HeldLaws, `by_next`, `by_end`).
 use Rattle.recordings.proofs.HeldLaws.{by_start, by_next, by_end}
 use Rattle.recordings.proofs.held.held_by.Goals as goal
 

@@ -1,4 +1,4 @@
--- `held_by_lem` meets its contract (HeldLaws, `by_next`, `by_end`).
+-- `held_by` meets its contract (HeldLaws, `by_next`, `by_end`).
 use Prim.Native.Nat.{◌-◌}
 use Rattle.recordings.proofs.HeldLaws.{HeldLeft}
 use Rattle.recordings.proofs.held.held_by.Given as goal

@@ -1,5 +1,4 @@
 -- `line_count` meets its contract (NumberLaws: count_laws, counted_none, counted_less, counted_next, counted_end).
-use Prim.Native.Nat.{◌-◌}
 use Rattle.refused_line.proofs.NumberLaws.{count_laws, counted_none, counted_less, counted_next, counted_end}
 use Rattle.refused_line.proofs.number.line_count.Goals as goal
 

@@ -1,4 +1,4 @@
--- `take` meets its contract (TakenLaws, `taken_Made`).
+-- `take` meets its contract (TakenLaws, `taken_made`).
 use Rattle.walk.proofs.TakenLaws.{taken_laws}
 use Rattle.walk.proofs.taken.take.Goals as goal
 
