@@ -1,16 +1,14 @@
 -- What the code answers of an `at` line without gauges.
-use Rattle.std.specs.Prelude.{◌≡◌, ℕ, ◌≤◌, List}
+use Rattle.std.specs.Prelude.{◌≡◌, ℕ, ◌≤◌, List, Result}
 use Rattle.definitions.specs.Limits.{max_controllers, recording_form, recording_lines}
 use Rattle.definitions.specs.Recordings.{state_refusal}
-use Rattle.definitions.specs.Lines.{line_length, NextLine, refused, read, next_line}
+use Rattle.definitions.specs.Lines.{line_length, NextLine, next_line}
 use Rattle.definitions.specs.RecordingText.{state_form}
-use Rattle.at_lines.specs.declared.StateRead.{StateRead}
-use Rattle.at_lines.specs.declared.StateRead.TheVariants as state
+use Rattle.lines.specs.Told.{next_told}
 
 -- the state of an `at` line, or its refusal
-unfoldable pub state_answer : NextLine ℕ → StateRead
-state_answer (refused number) = state.Refused number
-state_answer (read s rest) = state.State s
+abbrev pub state_told : NextLine ℕ → Result ℕ ℕ
+state_told = next_told (λ s. s)
 
 -- the next line, as the `at` line of state k in a recording without gauges; `prior` is the state before it
 abbrev pub state_line : (C : ℕ) (masks : List ℕ) (k prior : ℕ) → List ℕ → NextLine ℕ

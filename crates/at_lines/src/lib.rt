@@ -6,33 +6,29 @@ pub mod measured;
 
 ghost use Rattle.std.specs.Prelude.{◌≡◌};
 ghost use Rattle.definitions.specs.RecordingText.{mark_digits};
-ghost use Rattle.at_lines.specs.Lines.{state_answer, state_line, StateTurn};
+ghost use Rattle.lines.specs.Told.{told};
+ghost use Rattle.at_lines.specs.Lines.{state_told, state_line, StateTurn};
 
 use fields::form;
-use fields::form::Pair;
-use lines::end_refusal;
+use lines::check_end;
 use recordings::{check, state};
-use rules::choice::pick_index;
-use rules::limits::{Limits, Refusal};
-
-// A state as one word, or the refusal.
-#[derive(Clone, Copy)]
-pub enum StateRead {
-    State(u64),
-    Refused(u8),
-}
+use rules::choice::pick;
+use rules::limits::Limits;
+use rules::refusal::Refusal;
 
 // The digits of a mask, and of a word of atoms.
 pub const WORD_DIGITS: usize = 8;
 
 // The digits of run marks.
+#[tactic(auto, using(crate::proofs::StateLaws::digits_is))]
 pub fn mark_digits(controllers: usize) -> usize
     ensures { result ≡ mark_digits controllers }
 {
-    pick_index(Limits::TWO_DIGIT_CONTROLLERS < controllers, 3, 2)
+    pick(Limits::TWO_DIGIT_CONTROLLERS < controllers, 3, 2)
 }
 
 // State k against `prior`, the state before it, in a recording without gauges.
+#[tactic(auto, using(crate::proofs::StateLaws::state_laws))]
 pub fn next_state(
     controllers: usize,
     masks: &[u32],
@@ -40,26 +36,15 @@ pub fn next_state(
     prior: u64,
     t: &[u8],
     len: usize,
-) -> StateRead
+) -> Result<u64, Refusal>
     requires { StateTurn controllers len t.now }
-    ensures { result ≡ state_answer (state_line controllers masks.now k prior t.now) }
+    ensures { told result ≡ state_told (state_line controllers masks.now k prior t.now) }
 {
-    let unread = end_refusal(t, len, Refusal::RECORDING_LINES, Refusal::RECORDING_FORM);
-    if unread != Refusal::NONE {
-        return StateRead::Refused(unread);
-    }
-    let Pair::Numbers(marks, word) = form::worded_hexadecimals(
-        &t[..len],
-        b"at",
-        mark_digits(controllers),
-        WORD_DIGITS,
-    ) else {
-        return StateRead::Refused(Refusal::RECORDING_FORM);
-    };
+    check_end(t, len, Refusal::RecordingLines, Refusal::RecordingForm)?;
+    let digits = mark_digits(controllers);
+    let fields = form::worded_hexadecimals(&t[..len], b"at", digits, WORD_DIGITS);
+    let (marks, word) = fields.ok_or(Refusal::RecordingForm)?;
     let state = state::state_of(marks, word);
-    let refusal = check::state_refusal(controllers, masks, k, prior, state);
-    if refusal != Refusal::NONE {
-        return StateRead::Refused(refusal);
-    }
-    StateRead::State(state)
+    check::check_state(controllers, masks, k, prior, state)?;
+    Ok(state)
 }

@@ -1,112 +1,84 @@
 // An `at` line that ends with values: the next line, refused with a number or read as a state with its finished word.
-ghost use Rattle.std.specs.Prelude.{◌≡◌, ◌≤◌, take};
+ghost use Rattle.std.specs.Prelude.{◌≡◌, ◌≤◌, length};
+ghost use Rattle.definitions.specs.Limits.{max_controllers};
 ghost use Rattle.definitions.specs.Recordings.{state_of};
-ghost use Rattle.definitions.specs.RecordingText.{word_and_values, measured_fields, at_form, at_line};
-ghost use Rattle.fields.specs.Fields.{widest};
-ghost use Rattle.gauges.specs.Scanning.{gauges_in};
-ghost use Rattle.at_lines.specs.Measured.{Rack, tested_of, measured_answer, MeasuredTurn, at_answer};
+ghost use Rattle.definitions.specs.RecordingText.{word_and_values, at_form, at_line};
+ghost use Rattle.lines.specs.Told.{told};
+ghost use Rattle.gauges.specs.Held.{atoms_of, gauges_of};
+ghost use Rattle.at_lines.specs.Lines.{StateTurn};
+ghost use Rattle.at_lines.specs.Measured.{tested_of, measured_told, at_told};
 
-use super::{StateRead, WORD_DIGITS, mark_digits};
-use fields::number::Field;
+use super::{WORD_DIGITS, mark_digits};
 use fields::{form, number};
-use gauges::scan::Gauged;
-use gauges::values::Finish;
+use gauges::gauge::Gauge;
 use gauges::{line, values};
-use lines::{end_refusal, scan};
+use lines::{check_end, scan};
 use recordings::{check, state};
-use rules::limits::Refusal;
+use rules::refusal::{Refusal, unless};
 
 // A line of its form with values in their limits: its marks, its word, and the finished word.
-fn tested(controllers: usize, marks: u32, word: u32, finished: u32, gauges: Gauged) -> StateRead
-    requires { Rack controllers gauges }
-    ensures { result ≡ tested_of controllers (take gauges.count gauges.atoms) (state_of marks word) finished }
+#[tactic(auto, using(crate::proofs::MeasuredLaws::tested_laws))]
+fn tested(
+    controllers: usize,
+    marks: u32,
+    word: u32,
+    finished: u32,
+    gauges: &[Gauge],
+) -> Result<u64, Refusal>
+    requires { controllers ≤ max_controllers }
+    ensures { told result ≡ tested_of controllers (atoms_of gauges.now) (state_of marks word) finished }
 {
-    if marks >> controllers == 0 {
-        let atoms = gauges.atoms;
-        if line::any_set(gauges.count, atoms, word) {
-            return StateRead::Refused(Refusal::GAUGE_BIT_SET);
-        }
-        return StateRead::State(state::state_of(marks, finished));
-    }
-    StateRead::Refused(Refusal::RECORDING_LIMITS)
+    unless(Refusal::RecordingLimits, marks >> controllers == 0)?;
+    unless(Refusal::GaugeBitSet, !line::any_set(gauges, word))?;
+    Ok(state::state_of(marks, finished))
 }
 
 // Word and values.
-fn word_and_values(controllers: usize, marks: u32, gauges: Gauged, s: &[u8]) -> StateRead
-    requires { Rack controllers gauges }
-    ensures { result ≡ measured_answer controllers (gauges_in gauges.count gauges.atoms gauges.thresholds) (word_and_values gauges.count marks s.now) }
+#[tactic(auto, using(crate::proofs::MeasuredLaws::word_laws))]
+fn word_and_values(
+    controllers: usize,
+    marks: u32,
+    gauges: &[Gauge],
+    s: &[u8],
+) -> Result<u64, Refusal>
+    requires { controllers ≤ max_controllers }
+    ensures { told result ≡ measured_told controllers (gauges_of gauges.now) (word_and_values (length gauges.now) marks s.now) }
 {
     let i = scan::until_byte(s, scan::TAB);
-    let Field::Number(word) = number::hexadecimal(&s[..i], WORD_DIGITS) else {
-        return StateRead::Refused(Refusal::RECORDING_FORM);
-    };
-    let atoms = gauges.atoms;
-    let thresholds = gauges.thresholds;
-    let read = values::values(gauges.count, atoms, thresholds, word, s);
-    match read {
-        Finish::Word(finished) => tested(controllers, marks, word, finished, gauges),
-        Finish::Refused(number) => StateRead::Refused(number),
-    }
+    let word = number::hexadecimal(&s[..i], WORD_DIGITS).ok_or(Refusal::RecordingForm)?;
+    let finished = values::values(gauges, word, s)?;
+    tested(controllers, marks, word, finished, gauges)
 }
 
-// Run marks of so many digits, word and values.
-fn measured_fields(controllers: usize, digits: usize, gauges: Gauged, s: &[u8]) -> StateRead
-    requires rack { Rack controllers gauges }
-    requires digits_le_widest { digits ≤ widest }
-    ensures { result ≡ measured_answer controllers (gauges_in gauges.count gauges.atoms gauges.thresholds) (measured_fields digits gauges.count s.now) }
+// An `at` line: run marks, word and values.
+#[tactic(auto, using(crate::proofs::MeasuredLaws::at_line_laws))]
+fn at_line(controllers: usize, gauges: &[Gauge], s: &[u8]) -> Result<u64, Refusal>
+    requires { controllers ≤ max_controllers }
+    ensures { told result ≡ measured_told controllers (gauges_of gauges.now) (at_form controllers (length gauges.now) s.now) }
 {
-    let i = scan::until_byte(s, scan::TAB);
-    if i < s.len() {
-        let Field::Number(marks) = number::hexadecimal(&s[..i], digits) else {
-            return StateRead::Refused(Refusal::RECORDING_FORM);
-        };
-        return word_and_values(controllers, marks, gauges, scan::after(s, i));
-    }
-    StateRead::Refused(Refusal::RECORDING_FORM)
-}
-
-// An `at` line.
-fn at_line(controllers: usize, gauges: Gauged, s: &[u8]) -> StateRead
-    requires { Rack controllers gauges }
-    ensures { result ≡ measured_answer controllers (gauges_in gauges.count gauges.atoms gauges.thresholds) (at_form controllers gauges.count s.now) }
-{
-    let i = scan::until_byte(s, scan::TAB);
-    if form::opens(s, i, b"at") {
-        return measured_fields(
-            controllers,
-            mark_digits(controllers),
-            gauges,
-            scan::after(s, i),
-        );
-    }
-    StateRead::Refused(Refusal::RECORDING_FORM)
+    let fields = form::after_word(s, b"at").ok_or(Refusal::RecordingForm)?;
+    let (first, rest) = scan::split(fields, scan::TAB).ok_or(Refusal::RecordingForm)?;
+    let digits = mark_digits(controllers);
+    let marks = number::hexadecimal(first, digits).ok_or(Refusal::RecordingForm)?;
+    word_and_values(controllers, marks, gauges, rest)
 }
 
 // State k against `prior`, the state before it, by the gauges of the recording.
+#[tactic(auto, using(crate::proofs::MeasuredLaws::measured_laws))]
 pub fn next_measured(
     controllers: usize,
     masks: &[u32],
-    gauges: Gauged,
+    gauges: &[Gauge],
     k: usize,
     prior: u64,
     t: &[u8],
     len: usize,
-) -> StateRead
-    requires { MeasuredTurn controllers gauges len t.now }
-    ensures { result ≡ at_answer (gauges_in gauges.count gauges.atoms gauges.thresholds) (at_line controllers masks.now (gauges_in gauges.count gauges.atoms gauges.thresholds) k prior t.now) }
+) -> Result<u64, Refusal>
+    requires { StateTurn controllers len t.now }
+    ensures { told result ≡ at_told (gauges_of gauges.now) (at_line controllers masks.now (gauges_of gauges.now) k prior t.now) }
 {
-    let unread = end_refusal(t, len, Refusal::RECORDING_LINES, Refusal::RECORDING_FORM);
-    if unread != Refusal::NONE {
-        return StateRead::Refused(unread);
-    }
-    match at_line(controllers, gauges, &t[..len]) {
-        StateRead::State(state) => {
-            let refusal = check::state_refusal(controllers, masks, k, prior, state);
-            if refusal != Refusal::NONE {
-                return StateRead::Refused(refusal);
-            }
-            StateRead::State(state)
-        }
-        StateRead::Refused(number) => StateRead::Refused(number),
-    }
+    check_end(t, len, Refusal::RecordingLines, Refusal::RecordingForm)?;
+    let state = at_line(controllers, gauges, &t[..len])?;
+    check::check_state(controllers, masks, k, prior, state)?;
+    Ok(state)
 }

@@ -1,224 +1,154 @@
 // Each answer as C has it: its number, and its values in an array of fixed length, zeros on a refusal.
 #![tactic(auto)]
 
-ghost use Rattle.std.specs.Prelude.{◌≡◌, ◌∷◌, ◌++◌};
+ghost use Rattle.std.specs.Prelude.{◌≡◌, ◌∷◌, ◌++◌, replicate};
+ghost use Rattle.definitions.specs.Limits.{accepted};
+ghost use Rattle.rules.specs.Refusals.{number_of, refusal_in};
 ghost use Rattle.rule_reader.specs.Reading.{read_answer as rule_read};
-ghost use Rattle.rule_writer.specs.Writing.{write_answer as rule_written};
 ghost use Rattle.recording_reader.specs.Reading.{read_answer as recording_read};
-ghost use Rattle.projection.specs.Answers.{answer_of as projected};
 ghost use Rattle.judges.specs.Verdicts.{answer_of as judged};
-ghost use Rattle.sessions.specs.Answers.{answer_of as session_judged};
-ghost use Rattle.evidence.specs.Answers.{answer_of as explained};
-ghost use Rattle.rewriting.specs.Answers.{answer_of as rewritten};
-ghost use Rattle.archives.specs.Converting.{text_answer as text_written};
+ghost use Rattle.sessions.specs.Answers.{session_answer as session_judged};
 ghost use Rattle.joint_reading.specs.Scanning.{part_of};
 ghost use Rattle.joint_reading.specs.Joining.{heading_of};
-ghost use Rattle.c_answers.specs.Values.{heading, part_values, session_values};
+ghost use Rattle.c_answers.specs.Values.{counted, rewritten, heading, part_values, session_values};
 
-use archives::TextWritten;
-use evidence::Explanation;
-use joint_reading::scan::Found;
-use judges::verdicts::Judgement;
-use projection::Projection;
-use recording_reader::RecordingRead;
-use rewriting::Rewriting;
-use rule_reader::RuleRead;
-use rule_writer::RuleWritten;
-use rules::choice::pick_index;
-use rules::limits::Refusal;
-use sessions::query::SessionVerdicts;
+use images::Tops;
+use joint_reading::scan::{Found, Text};
+use judges::verdicts::Verdicts;
+use recordings::heading::RecordingHeading;
+use rules::refusal::Refusal;
+use rules::rule::RuleHeading;
 
-// A number and one value.
+// A number and N values.
 #[derive(Clone, Copy)]
-pub struct OneValue {
+pub struct Values<const N: usize> {
     pub number: u8,
-    pub values: [usize; 1],
+    pub values: [usize; N],
 }
 
-// A number and two values.
-#[derive(Clone, Copy)]
-pub struct TwoValues {
-    pub number: u8,
-    pub values: [usize; 2],
+impl<const N: usize> Values<N> {
+    fn accepted(values: [usize; N]) -> Values<N>
+        ensures number { result.number ≡ accepted }
+        ensures values { result.values ≡ values.entry }
+    {
+        Values { number: 0, values }
+    }
+
+    // "a refusal carries its number alone": zeros beside it.
+    fn refused(refusal: Refusal) -> Values<N>
+        ensures number { result.number ≡ number_of refusal }
+        ensures values { result.values ≡ replicate N 0 }
+    {
+        Values {
+            number: refusal.number(),
+            values: [0; N],
+        }
+    }
+
+    // The values over lent space; the number is answered.
+    pub fn lay(self, values: &mut [usize; N]) -> u8
+        ensures number { result ≡ self.entry.number }
+        ensures values { values.new ≡ self.entry.values }
+    {
+        let laid = self.values;
+        *values = laid;
+        self.number
+    }
 }
 
-// A number and three values.
-#[derive(Clone, Copy)]
-pub struct ThreeValues {
-    pub number: u8,
-    pub values: [usize; 3],
+// Of what has no values.
+pub fn number(answer: Result<(), Refusal>) -> u8
+    ensures { result ≡ refusal_in answer }
+{
+    match answer {
+        Ok(()) => 0,
+        Err(refusal) => refusal.number(),
+    }
 }
 
-// A number and seven values.
-#[derive(Clone, Copy)]
-pub struct SevenValues {
-    pub number: u8,
-    pub values: [usize; 7],
+// A length, or how many places or pairs there are.
+pub fn of_count(answer: Result<usize, Refusal>) -> Values<1>
+    ensures { result.number ∷ result.values ≡ heading 1 (counted answer) }
+{
+    match answer {
+        Ok(count) => Values::accepted([count]),
+        Err(refusal) => Values::refused(refusal),
+    }
 }
 
-// Which text a part lies in.
-const RULE_TEXT: usize = 0;
-
-const RECORDING_TEXT: usize = 1;
-
-// The values of a session without a verdict.
-const NO_VERDICT: [usize; 3] = [0, 0, 0];
-
-pub fn of_rule_read(answer: RuleRead) -> TwoValues
+pub fn of_rule_read(answer: Result<RuleHeading, Refusal>) -> Values<2>
     ensures { result.number ∷ result.values ≡ heading 2 (rule_read answer) }
 {
     match answer {
-        RuleRead::Rule(controller, count) => TwoValues {
-            number: Refusal::NONE,
-            values: [controller, count],
-        },
-        RuleRead::Refused(number) => TwoValues {
-            number,
-            values: [0, 0],
-        },
+        Ok(rule) => Values::accepted([rule.controller, rule.count]),
+        Err(refusal) => Values::refused(refusal),
     }
 }
 
-pub fn of_rule_written(answer: RuleWritten) -> OneValue
-    ensures { result.number ∷ result.values ≡ heading 1 (rule_written answer) }
-{
-    match answer {
-        RuleWritten::Length(length) => OneValue {
-            number: Refusal::NONE,
-            values: [length],
-        },
-        RuleWritten::Refused(number) => OneValue {
-            number,
-            values: [0],
-        },
-    }
-}
-
-pub fn of_text_written(answer: TextWritten) -> OneValue
-    ensures { result.number ∷ result.values ≡ heading 1 (text_written answer) }
-{
-    match answer {
-        TextWritten::Length(bytes) => OneValue {
-            number: Refusal::NONE,
-            values: [bytes],
-        },
-        TextWritten::Refused(number) => OneValue {
-            number,
-            values: [0],
-        },
-    }
-}
-
-pub fn of_recording_read(answer: RecordingRead) -> TwoValues
+pub fn of_recording_read(answer: Result<RecordingHeading, Refusal>) -> Values<2>
     ensures { result.number ∷ result.values ≡ heading 2 (recording_read answer) }
 {
     match answer {
-        RecordingRead::Recording(controllers, count) => TwoValues {
-            number: Refusal::NONE,
-            values: [controllers, count],
-        },
-        RecordingRead::Refused(number) => TwoValues {
-            number,
-            values: [0, 0],
-        },
+        Ok(recording) => Values::accepted([recording.controllers, recording.count]),
+        Err(refusal) => Values::refused(refusal),
     }
 }
 
-pub fn of_projection(answer: Projection) -> OneValue
-    ensures { result.number ∷ result.values ≡ heading 1 (projected answer) }
-{
-    match answer {
-        Projection::Places(length) => OneValue {
-            number: Refusal::NONE,
-            values: [length],
-        },
-        Projection::Refused(number) => OneValue {
-            number,
-            values: [0],
-        },
-    }
-}
-
-pub fn of_judgement(answer: Judgement) -> TwoValues
+pub fn of_judgement(answer: Result<Verdicts, Refusal>) -> Values<2>
     ensures { result.number ∷ result.values ≡ heading 2 (judged answer) }
 {
     match answer {
-        Judgement::Judged(verdicts) => TwoValues {
-            number: Refusal::NONE,
-            values: [verdicts.weak as usize, verdicts.strong as usize],
-        },
-        Judgement::Refused(number) => TwoValues {
-            number,
-            values: [0, 0],
-        },
+        Ok(verdicts) => Values::accepted([verdicts.weak as usize, verdicts.strong as usize]),
+        Err(refusal) => Values::refused(refusal),
     }
 }
 
-// 1, then the verdicts.
-pub fn of_session_verdicts(answer: SessionVerdicts) -> ThreeValues
+// 1, then the verdicts; zeros where no state is held.
+pub fn of_session_verdicts(answer: Result<Option<Verdicts>, Refusal>) -> Values<3>
     ensures { result.number ∷ result.values ≡ session_values (session_judged answer) }
 {
     match answer {
-        SessionVerdicts::NoState => ThreeValues {
-            number: Refusal::NONE,
-            values: NO_VERDICT,
-        },
-        SessionVerdicts::Judged(verdicts) => ThreeValues {
-            number: Refusal::NONE,
-            values: [1, verdicts.weak as usize, verdicts.strong as usize],
-        },
-        SessionVerdicts::Refused(number) => ThreeValues {
-            number,
-            values: NO_VERDICT,
-        },
+        Ok(Some(verdicts)) => {
+            Values::accepted([1, verdicts.weak as usize, verdicts.strong as usize])
+        }
+        Ok(None) => Values::accepted([0, 0, 0]),
+        Err(refusal) => Values::refused(refusal),
     }
 }
 
-pub fn of_explanation(answer: Explanation) -> OneValue
-    ensures { result.number ∷ result.values ≡ heading 1 (explained answer) }
-{
-    match answer {
-        Explanation::Pairs(count) => OneValue {
-            number: Refusal::NONE,
-            values: [count],
-        },
-        Explanation::Refused(number) => OneValue {
-            number,
-            values: [0],
-        },
-    }
-}
-
-pub fn of_rewriting(answer: Rewriting) -> ThreeValues
+pub fn of_rewriting(answer: Result<Tops, Refusal>) -> Values<3>
     ensures { result.number ∷ result.values ≡ heading 3 (rewritten answer) }
 {
     match answer {
-        Rewriting::Rewritten(count, weak_top, strong_top) => ThreeValues {
-            number: Refusal::NONE,
-            values: [count, weak_top, strong_top],
-        },
-        Rewriting::Refused(number) => ThreeValues {
-            number,
-            values: [0, 0, 0],
-        },
+        Ok(tops) => Values::accepted([tops.count, tops.weak, tops.strong]),
+        Err(refusal) => Values::refused(refusal),
     }
 }
 
 // The heading of the joint reading, and of the part handed back: which text it lies in, start, length.
-pub fn of_found(found: Found) -> SevenValues
+pub fn of_found(found: Found) -> Values<7>
     ensures { result.number ∷ result.values ≡ heading_of found ++ part_values (part_of found) }
 {
-    let text = pick_index(found.of_rule, RULE_TEXT, RECORDING_TEXT);
-    SevenValues {
-        number: found.number,
-        values: [
-            found.controller as usize,
-            found.count as usize,
-            found.controllers as usize,
-            found.states as usize,
-            text,
-            found.from,
-            found.len,
-        ],
+    let text = match found.text {
+        Text::Rule => 0,
+        Text::Recording => 1,
+    };
+    match found.read {
+        Ok(joined) => Values {
+            number: 0,
+            values: [
+                joined.rule.controller,
+                joined.rule.count,
+                joined.recording.controllers,
+                joined.recording.count,
+                text,
+                found.from,
+                found.len,
+            ],
+        },
+        Err(refusal) => Values {
+            number: refusal.number(),
+            values: [0, 0, 0, 0, text, found.from, found.len],
+        },
     }
 }

@@ -5,25 +5,24 @@ use mathlib.Core.List.{List, [], ◌∷◌, ◌++◌, append_assoc}
 use Prim.Native.Nat.{ℕ, ◌+◌, ◌*◌, ◌<◌, ◌≤◌}
 use native.Mathlib.Omega.{arith}
 use lib.Dec.{ltb, eqb}
-use lib.ListN.{length, take, drop, get_or, length-append, length-drop, take-append-drop}
-use lib.Seq.{take_at, drop_at, drop-drop}
-use borrow.Author.Rules.{rules}
+use lib.ListN.{length, take, drop, get_or, take-append-drop}
+use lib.Seq.{drop_at, drop-drop}
 use borrow.Author.Tests.{lt-ltb, le-ltb, ltb-true, eqb-true}
 use Rattle.definitions.specs.Limits.{max_states, pair_words}
-use Rattle.definitions.specs.Nodes.{Node, node, node_of, kind_of}
+use Rattle.definitions.specs.Nodes.{Node, node_of}
 use Rattle.definitions.specs.Tables.{nodes_in}
 use Rattle.definitions.specs.Readings.{Trace, Rows, no_rows, node_rows, rows_of, pairs_words}
 use Rattle.theorems.proofs.Choice.{both_true}
-use Rattle.rules.specs.Kinds.{is_leaf, Fit}
+use Rattle.rules.specs.Kinds.{kind_in, is_leaf, Fit}
 use Rattle.rules.specs.Meaning.{meaning, OfWord}
 use Rattle.rules.specs.declared.node.Node as code
 use Rattle.rules.proofs.NodeLists.{nodes_more, nodes_length}
 use Rattle.rows.proofs.StoredLaws.{loaded, pairs_length, pairs_more, weak_words, strong_words}
 use Rattle.rows.specs.declared.pair.Pair.{Pair}
-use Rattle.evaluation.specs.Nodes.{slots, again, Evaluable, Ready, rows_to, rows_at}
-use Rattle.rows.specs.Pairs.{rows_in, PairMade, PairStored, Counted, Operable, operated, pair_at, pair_of_node, Operands, operator_rows}
-use Rattle.evaluation.specs.Traced.{LeafReady, trace_of}
-use Rattle.rows.proofs.PairLaws.{rows_in_lem, pair_same, both_made, made_whole}
+use Rattle.evaluation.specs.Nodes.{again, Evaluable, Ready, rows_to, rows_at}
+use Rattle.rows.specs.Pairs.{rows_in, PairMade, PairStored, operated, pair_at, pair_of_node, Operands, operator_rows}
+use Rattle.evaluation.specs.Traced.{trace_of}
+use Rattle.rows.proofs.PairLaws.{rows_in_lem, pair_same, both_made}
 use Rattle.evaluation.proofs.TableLaws.{rows_more, rows_length, rows_sized, operated_is, leaf_rows, rows_at_lem}
 
 -- the pair of node k, where rows are laid
@@ -53,33 +52,13 @@ pub again_tested : (nodes : List ℕ) (i j : ℕ) (b : Bool) → j < i → b ≡
 unfolding again
 again_tested nodes i j b h e = rw (lt-ltb j i h) e
 
-pub again_late : (nodes : List ℕ) (i j : ℕ) → i ≤ j → false ≡ again nodes i j
+pub again_late : (nodes : List ℕ) (i j : ℕ) → i ≤ j → ltb j i ≡ again nodes i j
 unfolding again
 again_late nodes i j h = rw (le-ltb j i h)
-
--- the operands of an operator, as they were loaded
-module _ (kind first second n : ℕ) (rows : List ℕ) (p q : Pair) (e : p ≡ pair_of_node rows first) (g : q ≡ pair_of_node rows second) where
-  pub first_counted : Operands kind first second n rows → Counted n p
-  first_counted o = record { weak = rw e o.places; strong = rw e (o.laid.first_even ∙ o.places) }
-
-  pub second_counted : Operands kind first second n rows → Counted n q
-  second_counted o = record { weak = rw g (o.laid.second_first ∙ o.places); strong = rw g (o.laid.second_even ∙ o.places) }
-
-  module _ (p' q' : Pair) (f : p' ≡ p) (h : q' ≡ q) where
-    pub operands_even : Operands kind first second n rows → Operable p' q'
-    operands_even o = rw (f, h, e, g) o.laid
-
-    -- `operator`
-    pub operator_rows_lem : Operands kind first second n rows → (r : Pair) → PairMade r p'.weak.count (operated (kind_of kind) p'.weak.count (rows_in p') (rows_in q'))
-        → PairMade r n (operator_rows kind first second n rows)
-    operator_rows_lem o r m = rw (f, h, e, g, o.places) at m
 
 module _ (nodes : List ℕ) (i : ℕ) (states : List ℕ) (n c own : ℕ) (rows : List ℕ) (ready : Ready nodes i states n c own rows) where
   abbrev before : List Rows
   before = rows_to nodes i states n c own
-
-  before_length : length before ≡ i
-  before_length = rows_length (trace_of states n c own) (nodes_in i nodes) ∙ nodes_length nodes i (omega (arith, ready.counted))
 
   laid_whole : rows ≡ pairs_words before ++ drop (i * pair_words) rows
   laid_whole = sym (take-append-drop (i * pair_words) rows) ∙ ap (λ (l : List ℕ). l ++ drop (i * pair_words) rows) ready.laid
@@ -93,30 +72,14 @@ module _ (nodes : List ℕ) (i : ℕ) (states : List ℕ) (n c own : ℕ) (rows 
     fit_of : Fit i (meaning x)
     fit_of = rw word.meant ready.fit
 
-    module _ (leaf : Bool) (tested : leaf ≡ is_leaf (kind_of x.kind)) where
-      pub leaf_ready : leaf ≡ true → LeafReady x.kind x.first states n c
-      leaf_ready t = record {
-        leaf = sym tested ∙ t;
-        known = fit_of.known;
-        atom = fit_of.atom;
-        few = ready.few;
-        there = ready.there;
-        controller = ready.controller;
-      }
-
-      -- `node_rows`: a leaf gathered, a leaf that stood there before, an operator; each to `rows_at`
-      pub leaf_turn : leaf ≡ true → (r : Pair) → PairMade r n (node_rows (trace_of states n c own) [] (node (kind_of x.kind) x.first 0)) → PairMade r n (rows_at nodes i states n c own)
-      leaf_turn t r m =
-          pair_same r n (node_rows (trace_of states n c own) [] (node (kind_of x.kind) x.first 0)) (rows_at nodes i states n c own) m
-          (leaf_rows states n c own before (kind_of x.kind) x.first x.second (sym tested ∙ t) ∙ ap (node_rows (trace_of states n c own) before) word.meant)
-
+    module _ (leaf : Bool) (tested : leaf ≡ is_leaf (kind_in x.kind)) where
       pub again_turn : leaf ≡ true → (j : ℕ) (b : Bool) → b ≡ again nodes i j → b ≡ true → (r : Pair) → r ≡ pair_of_node rows j → PairMade r n (rows_at nodes i states n c own)
       again_turn t j b v y r e =
           let s = again_both nodes i j (sym v ∙ y) in
           let T = trace_of states n c own in
           let w : meaning x ≡ node_of (get_or nodes j 0) = word.meant ∙ ap node_of (sym s.1) in
-          let here = leaf_rows states n c own before (kind_of x.kind) x.first x.second (sym tested ∙ t) ∙ ap (node_rows T before) word.meant in
-          let there = leaf_rows states n c own (rows_to nodes j states n c own) (kind_of x.kind) x.first x.second (sym tested ∙ t) ∙ ap (node_rows T (rows_to nodes j states n c own)) w in
+          let here = leaf_rows states n c own before (kind_in x.kind) x.first x.second (sym tested ∙ t) ∙ ap (node_rows T before) word.meant in
+          let there = leaf_rows states n c own (rows_to nodes j states n c own) (kind_in x.kind) x.first x.second (sym tested ∙ t) ∙ ap (node_rows T (rows_to nodes j states n c own)) w in
           pair_same r n (get_or before j no_rows) (rows_at nodes i states n c own) (pair_loaded j r e s.0)
           (rows_at_lem nodes states n c own i j s.0 (omega (arith, ready.counted)) ∙ (sym there ∙ here))
 
@@ -143,9 +106,9 @@ module _ (nodes : List ℕ) (i : ℕ) (states : List ℕ) (n c own : ℕ) (rows 
         operator_turn r m =
             let ps = rows_in_lem (pair_of_node rows x.first) n (get_or before x.first no_rows) first_made in
             let qs = rows_in_lem (pair_of_node rows x.second) n (get_or before x.second no_rows) second_made in
-            pair_same r n (operated (kind_of x.kind) n (get_or before x.first no_rows) (get_or before x.second no_rows)) (rows_at nodes i states n c own)
+            pair_same r n (operated (kind_in x.kind) n (get_or before x.first no_rows) (get_or before x.second no_rows)) (rows_at nodes i states n c own)
             (rw (ps, qs) at m)
-            (operated_is states n c own before (kind_of x.kind) x.first x.second (sym tested ∙ f) ∙ ap (node_rows (trace_of states n c own) before) word.meant)
+            (operated_is states n c own before (kind_in x.kind) x.first x.second (sym tested ∙ f) ∙ ap (node_rows (trace_of states n c own) before) word.meant)
 
   -- `evaluate_node`: its pair stored, the rows of one node more are laid
   pub turn_laid : (p : Pair) (l' : List ℕ) → PairMade p n (rows_at nodes i states n c own) → PairStored rows i p l'
@@ -163,56 +126,29 @@ module _ (nodes : List ℕ) (i : ℕ) (states : List ℕ) (n c own : ℕ) (rows 
 
 -- ---- the loop
 
--- before node i: the rows of the nodes before it are laid, and what is lent past them is as it was; whatever the slots hold, they are there
-pub record Evaluated (nodes : List ℕ) (count : ℕ) (states : List ℕ) (n c own : ℕ) (entry : List ℕ) (i : ℕ) (l seen : List ℕ) : Type 0 where
+-- before node i: the rows of the nodes before it are laid, and what is lent past them is as it was
+pub record Evaluated (nodes : List ℕ) (count : ℕ) (states : List ℕ) (n c own : ℕ) (entry : List ℕ) (i : ℕ) (l : List ℕ) : Type 0 where
   pub within : i ≤ count
   pub laid : l ≡ pairs_words (rows_to nodes i states n c own) ++ drop (i * pair_words) entry
-  pub slotted : slots ≡ length seen
 
-pub evaluated_none : (nodes : List ℕ) (count : ℕ) (states : List ℕ) (n c own : ℕ) (entry seen : List ℕ) → slots ≡ length seen → Evaluated nodes count states n c own entry 0 entry seen
+pub evaluated_none : (nodes : List ℕ) (count : ℕ) (states : List ℕ) (n c own : ℕ) (entry : List ℕ) → Evaluated nodes count states n c own entry 0 entry
 unfolding rows_of
-evaluated_none nodes count states n c own entry seen s = record { within = omega arith; laid = refl; slotted = s }
+evaluated_none nodes count states n c own entry = record { within = omega arith; laid = refl }
 
-module _ (nodes : List ℕ) (count : ℕ) (states : List ℕ) (n c own : ℕ) (entry : List ℕ) (i : ℕ) (l seen : List ℕ)
-    (given : Evaluable nodes count states n c entry) (so : Evaluated nodes count states n c own entry i l seen) where
+module _ (nodes : List ℕ) (count : ℕ) (states : List ℕ) (n c own : ℕ) (entry : List ℕ) (i : ℕ) (l : List ℕ)
+    (given : Evaluable nodes count states n c entry) (so : Evaluated nodes count states n c own entry i l) where
   front_length : length (pairs_words (rows_to nodes i states n c own)) ≡ i * pair_words
   front_length =
       let a = nodes_length nodes i (omega (arith, given.counted, so.within)) in
       let b = rows_length (trace_of states n c own) (nodes_in i nodes) in
       omega (arith, pairs_length (rows_to nodes i states n c own))
 
-  pub evaluated_length : length l ≡ length entry
-  evaluated_length =
-      let room : i * pair_words ≤ length entry = omega (arith, given.room, so.within) in
-      ap length so.laid ∙ rw (length-append, length-drop, front_length) (omega arith)
-
-  pub evaluated_slots : slots ≤ length seen
-  evaluated_slots = omega (arith, so.slotted)
-
-  pub evaluated_ready : i < count → Ready nodes i states n c own l
-  evaluated_ready h = record {
-    counted = omega (arith, given.counted);
-    fit = given.fit i h;
-    few = given.few;
-    there = given.there;
-    controller = given.controller;
-    room = omega (arith, given.room, evaluated_length);
-    laid = ap (take (i * pair_words)) so.laid ∙ take_at (pairs_words (rows_to nodes i states n c own)) (drop (i * pair_words) entry) (i * pair_words) front_length;
-  }
-
-  pub evaluated_more : i < count → (l' seen' : List ℕ) → l' ≡ pairs_words (rows_to nodes (i + 1) states n c own) ++ drop ((i + 1) * pair_words) l → length seen' ≡ length seen
-      → Evaluated nodes count states n c own entry (i + 1) l' seen'
-  evaluated_more h l' seen' e s =
+  pub evaluated_more : i < count → (l' : List ℕ) → l' ≡ pairs_words (rows_to nodes (i + 1) states n c own) ++ drop ((i + 1) * pair_words) l
+      → Evaluated nodes count states n c own entry (i + 1) l'
+  evaluated_more h l' e =
       let sum : i * pair_words + 6 ≡ (i + 1) * pair_words = omega arith in
       let rest : drop (i * pair_words) l ≡ drop (i * pair_words) entry =
       ap (drop (i * pair_words)) so.laid ∙ drop_at (pairs_words (rows_to nodes i states n c own)) (drop (i * pair_words) entry) (i * pair_words) front_length in
       let same : drop ((i + 1) * pair_words) l ≡ drop ((i + 1) * pair_words) entry =
       rw sum at (sym (drop-drop 6 (i * pair_words) l) ∙ ap (drop 6) rest ∙ drop-drop 6 (i * pair_words) entry) in
-      record { within = omega arith; laid = e ∙ rw same; slotted = so.slotted ∙ sym s }
-
-  -- `evaluate`: after the last node the rows are `rows_to` of all
-  pub evaluated_done : count ≤ i → l ≡ pairs_words (rows_to nodes count states n c own) ++ drop (count * pair_words) entry
-  evaluated_done h = let e : i ≡ count = omega (arith, so.within) in rw e at so.laid
-
-pub ruleset table_laws =
-    (rules, first_counted, second_counted, operands_even, operator_rows_lem, leaf_ready, leaf_turn, again_tested, again_late, again_turn, again_room, operands_laid, operator_turn, made_whole, turn_laid, evaluated_none, evaluated_length, evaluated_slots, evaluated_ready, evaluated_more, evaluated_done)
+      record { within = omega arith; laid = e ∙ rw same }

@@ -1,28 +1,24 @@
 -- One law for each return of a leaf's rows.
 use mathlib.Core.Path.{◌≡◌, refl, sym, ap, ap₂, ◌∙◌}
 use mathlib.Core.Bool.{Bool, true, false, not, ◌&&◌}
-use mathlib.Core.List.{List, []}
+use mathlib.Core.List.{List}
 use Prim.Native.Nat.{ℕ, zero, suc, ◌+◌, ◌-◌, ◌<◌, ◌≤◌}
 use native.Mathlib.Omega.{arith}
 use lib.Dec.{ltb}
 use lib.ListN.{take, get_or}
 use lib.Seq.{get_or-take}
-use borrow.Author.Rules.{rules}
 use Rattle.definitions.specs.Limits.{atom_count}
 use Rattle.definitions.specs.Bounded.{pick, bit_of, some_of, every_of, every, tabulate}
-use Rattle.definitions.specs.Nodes.{node, kind_of}
 use Rattle.definitions.specs.Projection.{end_at}
-use Rattle.definitions.specs.Readings.{node_rows, until_at}
+use Rattle.definitions.specs.Readings.{until_at}
 use Rattle.mark_words.specs.Marks.{mark_at, last_at}
 use Rattle.mark_words.proofs.WordLaws.{bit_shr}
 use Rattle.rows.specs.Marks.{marks, Made}
 use Rattle.rows.specs.declared.Row.{Row}
 use Rattle.theorems.proofs.Tabulations.{tabulate_at, tabulate_same}
 use Rattle.rows.proofs.RowLaws.{not_on, until_on, last_on}
-use Rattle.rows.specs.declared.pair.Pair.{Pair}
-use Rattle.evaluation.specs.Traced.{LeafReady, state_atom, state_run, trace_of, atom_rows}
+use Rattle.evaluation.specs.Traced.{state_atom, state_run, atom_rows}
 use Rattle.rows.specs.Pairs.{PairMade}
-use Rattle.rules.proofs.KindLaws.{kind_atom, kind_run, kind_end, kind_left}
 use Rattle.rows.proofs.PairLaws.{pair_of}
 
 made_same : (r : Row) (n : ℕ) (k l : List Bool) → Made r n k → k ≡ l → Made r n l
@@ -123,28 +119,3 @@ end_row states n c row idle none r m i z u =
     (end_is n (mark_at nots) (mark_at blank) (state_run states n c)
     (λ j h. marks_of_lem n (λ k. not (mark_at run k)) j h ∙ ap not (marks_of_lem n (state_run states n c) j h))
     (λ j h. marks_of_lem n (λ k. false) j h)))
-
--- ---- all leaves
-
-abbrev pub LeafMade : ℕ → ℕ → List ℕ → ℕ → ℕ → ℕ → Pair → Type 0
-LeafMade kind a states n c own p = PairMade p n (node_rows (trace_of states n c own) [] (node (kind_of kind) a 0))
-
-module _ (kind a : ℕ) (states : List ℕ) (n c own : ℕ) where
-  pub atom_low : LeafReady kind a states n c → kind ≡ 1 → a < atom_count
-  atom_low ready e = ready.atom (rw e kind_atom)
-
-  -- `leaf`: a law for each return, to `node_rows` of the leaf
-  pub leaf_atom : kind ≡ 1 → (p : Pair) → PairMade p n (atom_rows states n own a) → LeafMade kind a states n c own p
-  leaf_atom e p m = rw (e, kind_atom) m
-
-  pub leaf_run : kind ≡ 8 → (r : Row) → Made r n (tabulate n (state_run states n c)) → LeafMade kind a states n c own (pair_of r r)
-  leaf_run e r m = rw (e, kind_run) (record { weak = m; strong = m })
-
-  pub leaf_end : kind ≡ 9 → (r : Row) → Made r n (tabulate n (end_at (state_run states n c) n)) → LeafMade kind a states n c own (pair_of r r)
-  leaf_end e r m = rw (e, kind_end) (record { weak = m; strong = m })
-
-  pub leaf_true : LeafReady kind a states n c → (kind ≡ 1 → ⊥) → (kind ≡ 8 → ⊥) → (kind ≡ 9 → ⊥) → (r : Row) → Made r n (tabulate n (λ k. true))
-      → LeafMade kind a states n c own (pair_of r r)
-  leaf_true ready n1 n8 n9 r m = rw (kind_left kind n1 n8 n9 ready.leaf ready.known) (record { weak = m; strong = m })
-
-pub ruleset leaf_laws = (rules, own_atom_lem, foreign_atom_lem, run_row, end_row, atom_low, leaf_atom, leaf_run, leaf_end, leaf_true)

@@ -7,10 +7,6 @@ use Rattle.definitions.specs.Readings.{Rows, node_rows, rows_of, pairs_words}
 use Rattle.rules.specs.Kinds.{Fit}
 use Rattle.evaluation.specs.Traced.{trace_of}
 
--- how many slots there are for leaves seen before
-abbrev pub slots : ℕ
-slots = 64
-
 -- node j is a node before node i with the same word
 unfoldable pub again : List ℕ → ℕ → ℕ → Bool
 again nodes i j = ltb j i && eqb (get_or nodes j 0) (get_or nodes i 0)

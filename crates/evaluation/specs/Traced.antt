@@ -2,11 +2,12 @@
 use Rattle.std.specs.Prelude.{ℕ, suc, ◌<◌, ◌≤◌, ◌-◌, ◌^◌, Bool, true, false, ◌≡◌, List, [], length, get_or, ltb}
 use Rattle.definitions.specs.Limits.{atom_count, max_states, max_controllers}
 use Rattle.definitions.specs.Bounded.{pick, tabulate, bit_of}
-use Rattle.definitions.specs.Nodes.{Atom, Unknown, kind_of}
+use Rattle.definitions.specs.Nodes.{Atom, Unknown}
 use Rattle.definitions.specs.Recordings.{recording_of, runs_at}
 use Rattle.definitions.specs.Projection.{end_at}
 use Rattle.definitions.specs.Readings.{Trace, Rows}
-use Rattle.rules.specs.Kinds.{is_leaf}
+use Rattle.rules.specs.Kinds.{kind_in, is_leaf}
+use Rattle.rules.specs.declared.kind.Kind as code
 
 -- atom a of state i: an atom outside `own` is foreign, weak yes and strong no at the last place
 abbrev pub state_atom : List ℕ → ℕ → ℕ → ℕ → Bool → ℕ → Bool
@@ -39,10 +40,10 @@ pub record Gathered (states : List ℕ) (n : ℕ) : Type 0 where
   pub there : n ≤ length states
 
 -- a leaf with its states
-pub record LeafReady (kind a : ℕ) (states : List ℕ) (n c : ℕ) : Type 0 where
-  pub leaf : is_leaf (kind_of kind) ≡ true
-  pub known : kind_of kind ≡ Unknown → ⊥
-  pub atom : kind_of kind ≡ Atom → a < atom_count
+pub record LeafReady (kind : code.Kind) (a : ℕ) (states : List ℕ) (n c : ℕ) : Type 0 where
+  pub leaf : is_leaf (kind_in kind) ≡ true
+  pub known : kind_in kind ≡ Unknown → ⊥
+  pub atom : kind_in kind ≡ Atom → a < atom_count
   pub few : n ≤ max_states
   pub there : n ≤ length states
   pub controller : c < max_controllers

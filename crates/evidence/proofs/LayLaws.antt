@@ -13,7 +13,9 @@ use borrow.Author.Rules.{rules}
 use Rattle.definitions.specs.Limits.{max_states, max_rule_nodes, max_pairs}
 use Rattle.definitions.specs.Bounded.{pick, bit_of, bit}
 use Rattle.definitions.specs.Evidence.{Found, found as pair_of, found_at, found_from, pair_word}
+use Rattle.definitions.specs.Tables.{Rule}
 use Rattle.theorems.proofs.Tabulations.{tabulate_at}
+use Rattle.judges.specs.declared.local.LocalTrace.{LocalTrace}
 use Rattle.lent.specs.Space.{cleared}
 use Rattle.lent.proofs.LeftLaws.{left_filled}
 use Rattle.mark_words.specs.Marks.{mark_at}
@@ -162,40 +164,40 @@ row_word l a k h =
     (λ (ge : 64 ≤ k). let e : k / 64 ≡ 1 = omega arith in rw e)
     (lt_or_le k 64)
 
-module _ (nodes : List ℕ) (count own n : ℕ) (wanted pairs : List ℕ) (given : PairsReady nodes count n wanted pairs) where
-  pub lay_findable : (found : List ℕ) → 192 ≤ length found → Findable nodes count n wanted found
+module _ (r : Rule) (t : LocalTrace) (wanted pairs : List ℕ) (given : PairsReady r t wanted pairs) where
+  pub lay_findable : (found : List ℕ) → 192 ≤ length found → Findable r t wanted found
   lay_findable found h = record { ready = given.ready; room = omega (arith, given.few) }
 
-  module _ (found : List ℕ) (F : FoundRows nodes count own n wanted found) where
-    mark_found : (j k : ℕ) → j < count → k < n → found_in found j k ≡ places_of nodes own n wanted j k
+  module _ (found : List ℕ) (F : FoundRows r t wanted found) where
+    mark_found : (j k : ℕ) → j < r.count → k < t.count → found_in found j k ≡ places_of r t wanted j k
     unfolding found_in row_at
     mark_found j k c h =
         let few : k < max_states = omega (arith, given.places) in
         let M = F.rows j c in
         ap (λ (w : ℕ). bit_of w (k % 64)) (sym (row_word found (j * 3) k few))
         ∙ (mark_is (row_at found (j * 3)) k M.whole few
-        ∙ (ap (λ (ms : List Bool). mark_at ms k) M.marked ∙ tabulate_at n (places_of nodes own n wanted j) k h))
+        ∙ (ap (λ (ms : List Bool). mark_at ms k) M.marked ∙ tabulate_at t.count (places_of r t wanted j) k h))
 
-    pub lay_ready : 192 ≤ length found → PlacesReady count n found pairs
+    pub lay_ready : 192 ≤ length found → PlacesReady r.count t.count found pairs
     lay_ready h = record { few = given.few; places = given.places; rows = omega (arith, given.few); full = given.full }
 
-    module _ (end : ℕ) (l : List ℕ) (P : PlacesLaid count n found pairs end l) (kept : length l ≡ length pairs) where
+    module _ (end : ℕ) (l : List ℕ) (P : PlacesLaid r.count t.count found pairs end l) (kept : length l ≡ length pairs) where
       pub lay_within : max_pairs ≤ length l
       lay_within = omega (arith, kept, given.full)
 
-      content : take end l ≡ map pair_word (pairs_of nodes count own n wanted)
+      content : take end l ≡ map pair_word (pairs_of r t wanted)
       content =
           P.laid
-          ∙ ap (map pair_word) (found_same (found_in found) (places_of nodes own n wanted) count n mark_found n 0 (omega arith))
+          ∙ ap (map pair_word) (found_same (found_in found) (places_of r t wanted) r.count t.count mark_found t.count 0 (omega arith))
 
-      size : length (map pair_word (pairs_of nodes count own n wanted)) ≡ end
+      size : length (map pair_word (pairs_of r t wanted)) ≡ end
       size = ap length (sym content) ∙ length-take-le end l (omega (arith, P.few, kept, given.full))
 
       -- `lay_pairs`: the pairs are `pairs_of`, and zeros after them
-      pub lay_done : (exit : List ℕ) → exit ≡ cleared l end max_pairs → PairsLaid (pairs_of nodes count own n wanted) pairs end exit
+      pub lay_done : (exit : List ℕ) → exit ≡ cleared l end max_pairs → PairsLaid (pairs_of r t wanted) pairs end exit
       lay_done exit e = record {
-        counted = sym size ∙ length-map (pairs_of nodes count own n wanted) pair_word;
-        laid = left_filled 0 max_pairs (map pair_word (pairs_of nodes count own n wanted)) pairs l exit P.past end refl size content e;
+        counted = sym size ∙ length-map (pairs_of r t wanted) pair_word;
+        laid = left_filled 0 max_pairs (map pair_word (pairs_of r t wanted)) pairs l exit P.past end refl size content e;
       }
 
 pub ruleset lay_laws =

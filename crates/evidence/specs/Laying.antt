@@ -4,6 +4,8 @@ use Rattle.definitions.specs.Limits.{accepted, max_states, max_rule_nodes, max_p
 use Rattle.definitions.specs.Bounded.{bit_of}
 use Rattle.definitions.specs.Evidence.{Found, found_at, found_from, pair_word}
 use Rattle.definitions.specs.Operations.{left}
+use Rattle.definitions.specs.Tables.{Rule}
+use Rattle.judges.specs.declared.local.LocalTrace.{LocalTrace}
 use Rattle.rows.specs.Stored.{words_of_row}
 use Rattle.evidence.specs.Finding.{NodeReady}
 
@@ -39,10 +41,10 @@ pub record PlacesLaid (count n : ℕ) (found entry : List ℕ) (end : ℕ) (exit
   pub past : drop max_pairs exit ≡ drop max_pairs entry
 
 -- the nodes of an accepted rule with their wanted places, and lent pairs of full size
-pub record PairsReady (nodes : List ℕ) (count n : ℕ) (wanted pairs : List ℕ) : Type 0 where
-  pub ready : (j : ℕ) → j < count → NodeReady nodes j n wanted
-  pub few : count ≤ max_rule_nodes
-  pub places : n ≤ max_states
+pub record PairsReady (r : Rule) (l : LocalTrace) (wanted pairs : List ℕ) : Type 0 where
+  pub ready : (j : ℕ) → j < r.count → NodeReady r l wanted j
+  pub few : r.count ≤ max_rule_nodes
+  pub places : l.count ≤ max_states
   pub full : max_pairs ≤ length pairs
 
 -- how many they are, and the lent pairs

@@ -6,48 +6,35 @@ pub mod accepted;
 pub mod found;
 pub mod pairs;
 
-ghost use Rattle.rules.specs.Headings.{rule_in};
+ghost use Rattle.rules.specs.Handed.{rule_in};
 ghost use Rattle.recordings.specs.Heading.{recording_in};
 ghost use Rattle.evidence.specs.Answers.{EvidenceIs};
 
 use accepted::evidence_accepted;
-use judges::local::{local_refusal, local_trace};
-use lent::clear_u32;
-use recordings::heading::RecordingHeading;
-use rules::choice::{or_else, pick, pick_index};
-use rules::headings::RuleHeading;
-use rules::limits::{Limits, Refusal};
+use judges::local::{check_local, local_trace};
+use lent::clear;
+use recordings::heading::Recording;
+use rules::limits::Limits;
+use rules::refusal::Refusal;
+use rules::rule::Rule;
 
-#[derive(Clone, Copy)]
-pub enum Explanation {
-    Pairs(usize),
-    Refused(u8),
-}
-
-// "the readings .. that decide the weak or the strong verdict, as chosen": 13 leaves the lent pairs alone, another refusal zeroes them.
+// "the readings .. that decide the weak or the strong verdict, as chosen", and how many there are: 13 leaves the lent pairs alone, another refusal zeroes them.
 pub fn evidence(
-    rule: RuleHeading,
-    nodes: &[u32],
-    recording: RecordingHeading,
-    masks: &[u32],
-    states: &[u64],
+    rule: Rule<'_>,
+    recording: Recording<'_>,
     weak: bool,
     pairs: &mut [u32],
-) -> Explanation
-    ensures { EvidenceIs (rule_in rule nodes.now) (recording_in recording masks.now states.now) weak pairs.old result pairs.new }
+) -> Result<usize, Refusal>
+    ensures { EvidenceIs (rule_in rule.entry) (recording_in recording.entry) weak pairs.old result pairs.new }
 {
-    let short = pick(
-        pairs.len() < Limits::PAIRS,
-        Refusal::LENT_SHORT,
-        Refusal::NONE,
-    );
-    let refusal = or_else(short, local_refusal(rule, nodes, recording, masks, states));
-    if refusal != Refusal::NONE {
-        let zeroed = pick_index(refusal == Refusal::LENT_SHORT, 0, Limits::PAIRS);
-        clear_u32(pairs, 0, zeroed);
-        return Explanation::Refused(refusal);
+    if pairs.len() < Limits::PAIRS {
+        return Err(Refusal::LentShort);
     }
-    let trace = local_trace(rule.controller, recording, masks, states);
-    let explained = evidence_accepted(rule, nodes, trace, weak, pairs);
-    Explanation::Pairs(explained.count)
+    if let Err(refusal) = check_local(rule, recording) {
+        clear(pairs, 0, Limits::PAIRS);
+        return Err(refusal);
+    }
+    let trace = local_trace(rule.controller, recording);
+    let explained = evidence_accepted(rule, trace, weak, pairs);
+    Ok(explained.count)
 }

@@ -2,17 +2,21 @@
 ghost use Rattle.std.specs.Prelude.{◌≡◌, ◌+◌, ◌*◌, ◌<◌, ◌≤◌, length};
 ghost use Rattle.definitions.specs.Limits.{max_states};
 ghost use Rattle.definitions.specs.Bounded.{bit};
+ghost use Rattle.rules.specs.Handed.{rule_in};
 ghost use Rattle.rows.specs.Stored.{words_of_row};
 ghost use Rattle.evidence.specs.Finding.{pairs_of};
 ghost use Rattle.evidence.specs.Laying.{found_in, PlaceReady, PlaceLaid, PlacesReady, PlacesLaid, PairsReady, PairsLaid};
 
 use super::found::found_rows;
-use lent::clear_u32;
+use judges::local::LocalTrace;
+use lent::clear;
 use mark_words::WORD_MARKS;
 use rows::Row;
 use rules::limits::Limits;
+use rules::rule::Rule;
 
 // Whether node j is found at place k, as a number.
+#[tactic(auto, using(crate::proofs::LayLaws::lay_laws))]
 fn mark_of(found: &[u64], j: usize, k: usize) -> usize
     requires { (j * words_of_row + words_of_row ≤ length found.now) × (k < max_states) }
     ensures { result ≡ bit (found_in found.now j k) }
@@ -34,33 +38,26 @@ fn lay_place(count: usize, k: usize, found: &[u64], from: usize, pairs: &mut [u3
     end
 }
 
+#[tactic(auto, using(crate::proofs::LayLaws::lay_laws))]
 fn lay_places(count: usize, n: usize, found: &[u64], pairs: &mut [u32]) -> usize
     requires { PlacesReady count n found.now pairs.old }
     ensures { PlacesLaid count n found.now pairs.old result pairs.new }
 {
     let mut end = 0;
     for k in 0..n {
-        let next = lay_place(count, k, found, end, pairs);
-        end = next;
+        end = lay_place(count, k, found, end, pairs);
     }
     end
 }
 
 // The pairs of all nodes and places, and zeros after them; answers how many there are.
-pub fn lay_pairs(
-    nodes: &[u32],
-    count: usize,
-    own: u32,
-    n: usize,
-    wanted: &[u64],
-    pairs: &mut [u32],
-) -> usize
-    requires { PairsReady nodes.now count n wanted.now pairs.old }
-    ensures { PairsLaid (pairs_of nodes.now count own n wanted.now) pairs.old result pairs.new }
+pub fn lay_pairs(rule: Rule<'_>, trace: &LocalTrace, wanted: &[u64], pairs: &mut [u32]) -> usize
+    requires { PairsReady (rule_in rule) trace.now wanted.now pairs.old }
+    ensures { PairsLaid (pairs_of (rule_in rule.entry) trace.now wanted.now) pairs.old result pairs.new }
 {
     let mut found = [0u64; Limits::RULE_NODES * Row::WORDS];
-    found_rows(nodes, count, own, n, wanted, &mut found);
-    let end = lay_places(count, n, &found, pairs);
-    clear_u32(pairs, end, Limits::PAIRS);
+    found_rows(rule, trace, wanted, &mut found);
+    let end = lay_places(rule.count, trace.count, &found, pairs);
+    clear(pairs, end, Limits::PAIRS);
     end
 }

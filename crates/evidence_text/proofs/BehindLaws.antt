@@ -1,16 +1,15 @@
 -- One law for each need of printing the verdict and what is behind it.
-use mathlib.Core.Path.{◌≡◌, sym, ap, ap₂, ◌∙◌}
+use mathlib.Core.Path.{◌≡◌, sym, ap, ◌∙◌}
 use mathlib.Core.Bool.{Bool}
-use mathlib.Core.List.{List, ◌++◌, map}
+use mathlib.Core.List.{List, map}
 use Prim.Native.Nat.{ℕ, ◌+◌, ◌≤◌}
 use native.Mathlib.Omega.{arith}
-use lib.ListN.{length, take, drop, length-map, length-take, take-append-drop}
+use lib.ListN.{length, take, length-map, length-take}
 use lib.Seq.{take_at}
 use borrow.Author.Rules.{rules}
 use Rattle.definitions.specs.Limits.{max_pairs}
-use Rattle.definitions.specs.Tables.{Rule, rule_of}
-use Rattle.definitions.specs.Recordings.{Recording, recording_of}
-use Rattle.definitions.specs.Projection.{local_trace}
+use Rattle.definitions.specs.Tables.{Rule}
+use Rattle.definitions.specs.Recordings.{Recording}
 use Rattle.definitions.specs.Evidence.{Found, pair_word}
 use Rattle.definitions.specs.Operations.{evidence_of}
 use Rattle.definitions.specs.Why.{verdict_text, behind_text}
@@ -26,54 +25,36 @@ use Rattle.evidence.specs.Accepted.{deciding_pairs, EvidenceReady, ExplainedIs}
 use Rattle.evidence.specs.declared.accepted.Explained.{Explained}
 use Rattle.evidence.proofs.AcceptedLaws.{trace_pairs}
 use Rattle.evidence_text.specs.Pairs.{pairs_in, PairsReady}
-use Rattle.evidence_text.specs.Verdict.{chosen, Spelled}
+use Rattle.evidence_text.specs.Verdict.{chosen}
 use Rattle.evidence_text.specs.Behind.{max_verdict_bytes, lines_of, behind_of, BehindReady}
-use Rattle.evidence_text.specs.declared.verdict.VerdictLine.{VerdictLine}
-use Rattle.evidence_text.proofs.VerdictLaws.{line_counted, verdict_length, chosen_own}
+use Rattle.evidence_text.proofs.VerdictLaws.{verdict_length, chosen_own}
 use Rattle.evidence_text.proofs.FoundLaws.{evidence_lines, evidence_short, evidence_ready}
 
 -- ---- `put_verdict`
-module _ (text : List ℕ) (room : max_verdict_bytes ≤ length text) (weak : Bool) (v : Verdicts) (l : VerdictLine) (spelled : Spelled (verdict_text weak (chosen weak v)) l) where
-  pub verdict_room : 0 + length (take l.count l.bytes) ≤ length text
-  verdict_room = rw spelled.same (omega (arith, verdict_length weak (chosen weak v)))
+-- the line of a verdict has room
+pub verdict_room : (text : List ℕ) (weak : Bool) (v : Verdicts) (line : List ℕ) → line ≡ verdict_text weak (chosen weak v) → max_verdict_bytes ≤ length text → 0 + length line ≤ length text
+verdict_room text weak v line e room = rw e (omega (arith, verdict_length weak (chosen weak v)))
 
-  -- `put_verdict`: the bytes of the line are `verdict_text`
-  pub verdict_printed : (e : ℕ) (text' : List ℕ) → Printed (take l.count l.bytes) text 0 e text' → Printed (verdict_text weak (chosen weak v)) text 0 e text'
-  verdict_printed e text' p = rw spelled.same at p
-
-pub ruleset put_verdict_laws = (rules, line_counted, verdict_room, verdict_printed)
+pub ruleset put_verdict_laws = (rules, verdict_room)
 
 -- ---- `put_behind`
-module _ (weak : Bool) (c count : ℕ) (nodes : List ℕ) (C N : ℕ) (masks states text : List ℕ)
-    (ready : BehindReady (rule_of c count nodes) (recording_of C N masks states) text) where
-  abbrev r : Rule
-  r = rule_of c count nodes
-
-  abbrev R : Recording
-  R = recording_of C N masks states
-
-  pub behind_traced : TraceReady R c
+module _ (weak : Bool) (r : Rule) (R : Recording) (text : List ℕ) (ready : BehindReady r R text) where
+  pub behind_traced : TraceReady R r.controller
   behind_traced = record { recording = ready.accepted.recording; controller = ready.accepted.controller }
 
   pub behind_room : max_verdict_bytes ≤ length text
   behind_room = omega (arith, ready.room)
 
-  module _ (l : LocalTrace) (is : TraceIs R c l) where
+  module _ (l : LocalTrace) (of : TraceIs R r.controller l) where
     pub behind_ready : (pairs : List ℕ) → max_pairs ≤ length pairs → EvidenceReady r l pairs
-    behind_ready pairs full = record { ready = record { rule = ready.accepted.rule; few = is.few; there = is.there }; full = full }
-
-    abbrev rest : List ℕ
-    rest = drop l.count l.words
-
-    words_are : l.words ≡ local_trace R c ++ rest
-    words_are = sym (take-append-drop l.count l.words) ∙ ap (λ (x : List ℕ). x ++ rest) is.places
+    behind_ready pairs full = record { ready = record { rule = ready.accepted.rule; few = of.few; there = of.there }; full = full }
 
     module _ (pairs : List ℕ) (x : Explained) (pairs' : List ℕ) (found : ExplainedIs r l weak pairs x pairs') where
       abbrev fs : List Found
       fs = evidence_of r R weak
 
       same : deciding_pairs r l weak ≡ fs
-      same = trace_pairs r R l weak is
+      same = trace_pairs r R l weak of
 
       counted : x.count ≡ length fs
       counted = found.counted ∙ ap length same
@@ -90,27 +71,21 @@ module _ (weak : Bool) (c count : ℕ) (nodes : List ℕ) (C N : ℕ) (masks sta
       pub pairs_within : x.count ≤ length pairs'
       pairs_within = omega (arith, pairs_counted, length-take x.count pairs')
 
-      lines_are : pairs_in l.controller nodes N states l.words (take x.count pairs') ≡ lines_of weak r R
-      lines_are =
-          ap₂ (λ (y z : List ℕ). pairs_in l.controller nodes N states y z) words_are numbers_are
-          ∙ (ap (λ (k : ℕ). pairs_in k nodes N states (local_trace R c ++ rest) (map pair_word fs)) is.controller ∙ sym (evidence_lines r R ready.accepted rest weak))
+      lines_are : pairs_in r l R (take x.count pairs') ≡ lines_of weak r R
+      lines_are = ap (pairs_in r l R) numbers_are ∙ sym (evidence_lines r R ready.accepted l of weak)
 
       module _ (text₁ : List ℕ) (p : ℕ) (one : Printed (verdict_text weak (chosen weak x.verdicts)) text 0 p text₁) where
-        pub pairs_ready : length text₁ ≡ length text → PairsReady l.controller nodes N states l.words (take x.count pairs') p text₁
+        pub pairs_ready : length text₁ ≡ length text → PairsReady r l R (take x.count pairs') p text₁
         pairs_ready kept = record {
-          each = λ i h.
-              let q = evidence_ready r R ready.accepted rest weak i (omega (arith, pairs_counted, counted)) in
-              rw (← words_are, ← numbers_are, ← is.controller) at q;
-          room = omega (arith, one.next, verdict_length weak (chosen weak x.verdicts), ap length lines_are, evidence_short r R ready.accepted rest weak, ready.room);
+          each = λ i h. rw (← numbers_are) at (evidence_ready r R ready.accepted l of weak i (omega (arith, pairs_counted, counted)));
+          room = omega (arith, one.next, verdict_length weak (chosen weak x.verdicts), ap length lines_are, evidence_short r R ready.accepted l of weak, ready.room);
         }
 
         -- `put_behind`: the verdict and the lines of the pairs are `behind_of`
-        pub behind_printed : (text₂ : List ℕ) (e : ℕ) →
-            Printed (pairs_in l.controller nodes N states l.words (take x.count pairs')) text₁ p e text₂ →
-            Printed (behind_of weak r R) text 0 e text₂
+        pub behind_printed : (text₂ : List ℕ) (e : ℕ) → Printed (pairs_in r l R (take x.count pairs')) text₁ p e text₂ → Printed (behind_of weak r R) text 0 e text₂
         unfolding behind_text
         behind_printed text₂ e two =
-            let own : meant x.verdicts ≡ own_verdicts r R = found.verdicts ∙ trace_verdicts r R l is in
+            let own : meant x.verdicts ≡ own_verdicts r R = found.verdicts ∙ trace_verdicts r R l of in
             let verdict_fits : 0 + length (verdict_text weak (chosen weak x.verdicts)) ≤ length text = omega (arith, verdict_length weak (chosen weak x.verdicts), ready.room) in
             rw (← chosen_own weak r R x.verdicts own)
             (printed_seq (verdict_text weak (chosen weak x.verdicts)) (lines_of weak r R) text text₁ text₂ 0 p e verdict_fits one (rw lines_are at two))

@@ -9,6 +9,8 @@ use lib.Seq.{take-suc, take_all}
 use mir.Syntax.{w32}
 use mir.Val.{Fits}
 use borrow.Author.Rules.{rules}
+use Rattle.definitions.specs.Tables.{Rule}
+use Rattle.definitions.specs.Recordings.{Recording}
 use Rattle.definitions.specs.Lines.{bytes, tab, newline, digits}
 use Rattle.definitions.specs.Why.{state_of_place, word_number, pair_text}
 use Rattle.projection.specs.Places.{states_only, Countable}
@@ -16,6 +18,7 @@ use Rattle.mark_words.proofs.WordLaws.{bit_number}
 use Rattle.rules.specs.Meaning.{OfWord}
 use Rattle.rules.specs.declared.node.Node as code
 use Rattle.printing.specs.Printing.{Printed, counted_line}
+use Rattle.judges.specs.declared.local.LocalTrace.{LocalTrace}
 use Rattle.printing.proofs.PrintLaws.{digits_fit, printed_none}
 use Rattle.printing.proofs.LineLaws.{first_room_lem, rest_room, both}
 use Rattle.evidence_text.specs.Pairs.{max_pair_bytes, pair_of, line_text, place_text, reading_text, pair_in, pairs_in, PairReady, PairsReady}
@@ -23,31 +26,31 @@ use Rattle.evidence_text.specs.declared.line.Line.{Line}
 use Rattle.projection.proofs.StateLaws.{state_low}
 
 -- ---- `line_of`
-module _ (c : ℕ) (nodes : List ℕ) (N : ℕ) (states places : List ℕ) (w : ℕ) (so : PairReady c nodes N states places w) where
-  pub node_inside : w % 64 < length nodes
+module _ (r : Rule) (l : LocalTrace) (R : Recording) (w : ℕ) (so : PairReady r l R w) where
+  pub node_inside : w % 64 < length r.nodes
   node_inside = so.node
 
-  pub place_inside : w / 64 < length places
+  pub place_inside : w / 64 < length l.words
   place_inside = so.place
 
   pub place_below : w / 64 < 128
   place_below = so.few
 
-  pub pair_countable : Countable N c states
+  pub pair_countable : Countable R.count l.controller R.states
   pair_countable = so.recording
 
-  module _ (x : code.Node) (is : OfWord (get_or nodes (w % 64) 0) x) where
+  module _ (x : code.Node) (is : OfWord (get_or r.nodes (w % 64) 0) x) where
     pub atom_below : x.first < 32
     atom_below = omega (arith, is.first, so.atom)
 
-    module _ (s : ℕ) (at : s ≡ state_of_place (states_only N states) c (w / 64)) where
+    module _ (s : ℕ) (at : s ≡ state_of_place (states_only R.count R.states) l.controller (w / 64)) where
       pub state_fits : Fits w32 s
-      state_fits = record { fits = omega (arith, state_low (states_only N states) c (w / 64) so.recording.some_state, so.recording.few_states) }
+      state_fits = record { fits = omega (arith, state_low (states_only R.count R.states) l.controller (w / 64) so.recording.some_state, so.recording.few_states) }
 
       -- `line_of`: state, step, atom, value and node are those of `pair_in`
-      pub line_is : pair_text s (w / 64) x.first (get_or places (w / 64) 0 / 2 ^ x.first % 2) (w % 64) ≡ pair_in c nodes N states places (pair_of w)
+      pub line_is : pair_text s (w / 64) x.first (get_or l.words (w / 64) 0 / 2 ^ x.first % 2) (w % 64) ≡ pair_in r l R (pair_of w)
       unfolding pair_in
-      line_is = rw (at, is.first, bit_number (get_or places (w / 64) 0) (get_or nodes (w % 64) 0 / 256 % 4096))
+      line_is = rw (at, is.first, bit_number (get_or l.words (w / 64) 0) (get_or r.nodes (w % 64) 0 / 256 % 4096))
 
 pub ruleset line_laws = (rules, node_inside, place_inside, place_below, pair_countable, atom_below, state_fits, line_is)
 
@@ -160,15 +163,15 @@ module _ (l : Line) (o : List ℕ) (at : ℕ) (room : at + length (line_text l) 
 pub ruleset pair_laws = (rules, place_fits, reading_fits, pair_written)
 
 -- ---- `put_pairs`
-module _ (c : ℕ) (nodes : List ℕ) (N : ℕ) (states places : List ℕ) where
+module _ (r : Rule) (l : LocalTrace) (R : Recording) where
   abbrev text : List ℕ → List ℕ
-  text ws = pairs_in c nodes N states places ws
+  text ws = pairs_in r l R ws
 
   text_append : (xs ys : List ℕ) → text (xs ++ ys) ≡ text xs ++ text ys
   text_append [] ys = refl
   text_append (x ∷ xs) ys =
-      ap (λ (r : List ℕ). pair_in c nodes N states places (pair_of x) ++ r) (text_append xs ys)
-      ∙ sym (append_assoc (pair_in c nodes N states places (pair_of x)) (text xs) (text ys))
+      ap (λ (z : List ℕ). pair_in r l R (pair_of x) ++ z) (text_append xs ys)
+      ∙ sym (append_assoc (pair_in r l R (pair_of x)) (text xs) (text ys))
 
   -- before pair i: the lines of those before it are printed
   pub record Printing (pairs : List ℕ) (at : ℕ) (o : List ℕ) (i end : ℕ) (o' : List ℕ) : Type 0 where
@@ -180,7 +183,7 @@ module _ (c : ℕ) (nodes : List ℕ) (N : ℕ) (states places : List ℕ) where
   pub printing_none : (pairs : List ℕ) (at : ℕ) (o : List ℕ) → Printing pairs at o 0 at o
   printing_none pairs at o = record { within = omega arith; kept = refl; printed = printed_none o at }
 
-  module _ (pairs : List ℕ) (at : ℕ) (o : List ℕ) (given : PairsReady c nodes N states places pairs at o) (i end : ℕ) (o' : List ℕ)
+  module _ (pairs : List ℕ) (at : ℕ) (o : List ℕ) (given : PairsReady r l R pairs at o) (i end : ℕ) (o' : List ℕ)
       (so : Printing pairs at o i end o') where
     pub printing_kept : length o' ≡ length o
     printing_kept = so.kept
@@ -190,11 +193,11 @@ module _ (c : ℕ) (nodes : List ℕ) (N : ℕ) (states places : List ℕ) where
     printing_done h = rw (take_all i pairs h) at so.printed
 
     module _ (h : i < length pairs) where
-      pub printing_ready : PairReady c nodes N states places (get_or pairs i 0)
+      pub printing_ready : PairReady r l R (get_or pairs i 0)
       printing_ready = given.each i h
 
       abbrev this : List ℕ
-      this = pair_in c nodes N states places (pair_of (get_or pairs i 0))
+      this = pair_in r l R (pair_of (get_or pairs i 0))
 
       one_more_lem : text (take (i + 1) pairs) ≡ text (take i pairs) ++ this
       one_more_lem = rw (add-one i, take-suc pairs i 0 h, text_append (take i pairs) (get_or pairs i 0 ∷ []), append-nil)
@@ -212,12 +215,12 @@ module _ (c : ℕ) (nodes : List ℕ) (N : ℕ) (states places : List ℕ) where
             ap length one_more_lem,
           )
 
-      module _ (l : Line) (is : line_text l ≡ this) where
-        pub printing_room : end + length (line_text l) ≤ length o'
+      module _ (x : Line) (is : line_text x ≡ this) where
+        pub printing_room : end + length (line_text x) ≤ length o'
         printing_room = rw is (rest_room (text (take i pairs)) this o at more_room o' end so.printed so.kept)
 
         -- `put_pairs`, a turn: the line of one pair more of `pairs_in` is printed
-        pub printing_next : (o'' : List ℕ) (e : ℕ) → length o'' ≡ length o' → Printed (line_text l) o' end e o'' → Printing pairs at o (i + 1) e o''
+        pub printing_next : (o'' : List ℕ) (e : ℕ) → length o'' ≡ length o' → Printed (line_text x) o' end e o'' → Printing pairs at o (i + 1) e o''
         printing_next o'' e kept p = record {
           within = omega arith;
           kept = kept ∙ so.kept;

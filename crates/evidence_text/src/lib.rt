@@ -8,7 +8,7 @@ pub mod verdict;
 ghost use Rattle.std.specs.Prelude.{◌≤◌, length};
 ghost use Rattle.definitions.specs.Why.{verdict_text};
 ghost use Rattle.printing.specs.Printing.{Printed};
-ghost use Rattle.rules.specs.Headings.{rule_in};
+ghost use Rattle.rules.specs.Handed.{rule_in};
 ghost use Rattle.recordings.specs.Heading.{recording_in};
 ghost use Rattle.evidence_text.specs.Behind.{max_verdict_bytes, behind_of, BehindReady};
 ghost use Rattle.evidence_text.specs.Verdict.{chosen};
@@ -18,9 +18,9 @@ use judges::local::local_trace;
 use judges::verdicts::Verdicts;
 use line::put_pairs;
 use printing::put;
-use recordings::heading::RecordingHeading;
-use rules::headings::RuleHeading;
+use recordings::heading::Recording;
 use rules::limits::Limits;
+use rules::rule::Rule;
 use verdict::{VERDICT_BYTES, verdict_line};
 
 // The bytes of the longest line of a reading.
@@ -34,36 +34,23 @@ fn put_verdict(weak: bool, verdicts: Verdicts, text: &mut [u8]) -> usize
     requires { max_verdict_bytes ≤ length text.old }
     ensures { Printed (verdict_text weak (chosen weak verdicts)) text.old 0 result text.new }
 {
-    let line = verdict_line(weak, verdicts);
-    let bytes = line.bytes;
-    let count = line.count;
-    put(&bytes[..count], 0, text)
+    put(verdict_line(weak, verdicts), 0, text)
 }
 
 // The verdict and what is behind it.
-pub fn put_behind(
-    weak: bool,
-    rule: RuleHeading,
-    nodes: &[u32],
-    recording: RecordingHeading,
-    masks: &[u32],
-    states: &[u64],
-    text: &mut [u8],
-) -> usize
-    requires { BehindReady (rule_in rule nodes.now) (recording_in recording masks.now states.now) text.old }
-    ensures { Printed (behind_of weak (rule_in rule nodes.now) (recording_in recording masks.now states.now)) text.old 0 result text.new }
+pub fn put_behind(weak: bool, rule: Rule<'_>, recording: Recording<'_>, text: &mut [u8]) -> usize
+    requires { BehindReady (rule_in rule) (recording_in recording) text.old }
+    ensures { Printed (behind_of weak (rule_in rule.entry) (recording_in recording.entry)) text.old 0 result text.new }
 {
-    let trace = local_trace(rule.controller, recording, masks, states);
+    let trace = local_trace(rule.controller, recording);
     let mut pairs = [0u32; Limits::PAIRS];
-    let explained = evidence_accepted(rule, nodes, trace, weak, &mut pairs);
+    let explained = evidence_accepted(rule, trace, weak, &mut pairs);
     let after = put_verdict(weak, explained.verdicts, text);
-    let count = explained.count;
     put_pairs(
-        nodes,
+        rule,
         trace,
         recording,
-        states,
-        &pairs[..count],
+        &pairs[..explained.count],
         after,
         text,
     )

@@ -1,15 +1,17 @@
 // The lines of pairs.
 ghost use Rattle.std.specs.Prelude.{◌≡◌, ◌+◌, ◌≤◌, length};
 ghost use Rattle.printing.specs.Printing.{Printed};
+ghost use Rattle.rules.specs.Handed.{rule_in};
+ghost use Rattle.recordings.specs.Heading.{recording_in};
 ghost use Rattle.evidence_text.specs.Pairs.{pair_of, line_text, place_text, reading_text, pair_in, pairs_in, PairReady, PairsReady};
 
 use judges::local::LocalTrace;
 use printing::put_line;
 use projection::place_state::state_of_place;
-use recordings::heading::RecordingHeading;
-use rules::headings::RuleHeading;
+use recordings::heading::Recording;
 use rules::limits::Limits;
 use rules::node::Node;
+use rules::rule::Rule;
 
 // What is said of a pair: the state of the recording, the controller's step, the atom, its bit there, the rule's node.
 #[derive(Clone, Copy)]
@@ -22,26 +24,19 @@ struct Line {
 }
 
 // Of the pair that is this number.
-fn line_of(
-    nodes: &[u32],
-    trace: LocalTrace,
-    recording: RecordingHeading,
-    states: &[u64],
-    pair: u32,
-) -> Line
-    requires { PairReady trace.controller nodes.now recording.count states.now trace.words pair }
-    ensures { line_text result ≡ pair_in trace.controller nodes.now recording.count states.now trace.words (pair_of pair) }
+fn line_of(rule: Rule<'_>, trace: LocalTrace, recording: Recording<'_>, pair: u32) -> Line
+    requires { PairReady (rule_in rule) trace (recording_in recording) pair }
+    ensures { line_text result ≡ pair_in (rule_in rule.entry) trace (recording_in recording.entry) (pair_of pair) }
 {
     let place = pair as usize / Limits::RULE_NODES;
     let node = pair as usize % Limits::RULE_NODES;
-    let atom = Node::of_word(nodes[node]).first as u32;
-    let state = state_of_place(recording.count, trace.controller, states, place);
-    let words = trace.words;
+    let atom = Node::of_word(rule.nodes[node]).first as u32;
+    let state = state_of_place(recording.count, trace.controller, recording.states, place);
     Line {
         state: state as u32,
         step: place as u32,
-        atom: atom,
-        value: (words[place] >> atom) % 2,
+        atom,
+        value: (trace.words[place] >> atom) % 2,
         node: node as u32,
     }
 }
@@ -76,22 +71,19 @@ fn put_pair(line: Line, at: usize, text: &mut [u8]) -> usize
 
 // A line for each pair. The place after them.
 pub fn put_pairs(
-    nodes: &[u32],
+    rule: Rule<'_>,
     trace: LocalTrace,
-    recording: RecordingHeading,
-    states: &[u64],
+    recording: Recording<'_>,
     pairs: &[u32],
     at: usize,
     text: &mut [u8],
 ) -> usize
-    requires { PairsReady trace.controller nodes.now recording.count states.now trace.words pairs.now at text.old }
-    ensures { Printed (pairs_in trace.controller nodes.now recording.count states.now trace.words pairs.now) text.old at result text.new }
+    requires { PairsReady (rule_in rule) trace (recording_in recording) pairs.now at text.old }
+    ensures { Printed (pairs_in (rule_in rule.entry) trace (recording_in recording.entry) pairs.now) text.old at result text.new }
 {
     let mut end = at;
-    for i in 0..pairs.len() {
-        let line = line_of(nodes, trace, recording, states, pairs[i]);
-        let next = put_pair(line, end, text);
-        end = next;
+    for pair in pairs {
+        end = put_pair(line_of(rule, trace, recording, *pair), end, text);
     }
     end
 }

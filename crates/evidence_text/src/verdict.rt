@@ -1,51 +1,27 @@
 // The line of the verdict that is asked for.
+ghost use Rattle.std.specs.Prelude.{◌≡◌};
 ghost use Rattle.definitions.specs.Why.{verdict_text};
-ghost use Rattle.evidence_text.specs.Verdict.{chosen, Spelled};
+ghost use Rattle.evidence_text.specs.Verdict.{chosen};
 
 use judges::verdicts::Verdicts;
 
 // The bytes of the longest one.
 pub const VERDICT_BYTES: usize = 11;
 
-// A line: so many bytes of these.
-#[derive(Clone, Copy)]
-pub struct VerdictLine {
-    pub bytes: [u8; VERDICT_BYTES],
-    pub count: usize,
-}
-
-const WEAK_YES: VerdictLine = VerdictLine {
-    bytes: *b"weak\tyes\n  ",
-    count: 9,
-};
-
-const WEAK_NO: VerdictLine = VerdictLine {
-    bytes: *b"weak\tno\n   ",
-    count: 8,
-};
-
-const STRONG_YES: VerdictLine = VerdictLine {
-    bytes: *b"strong\tyes\n",
-    count: 11,
-};
-
-const STRONG_NO: VerdictLine = VerdictLine {
-    bytes: *b"strong\tno\n ",
-    count: 10,
-};
-
 // The reading's word and its verdict, closed by byte 10.
-pub fn verdict_line(weak: bool, verdicts: Verdicts) -> VerdictLine
-    ensures { Spelled (verdict_text weak (chosen weak verdicts)) result }
+#[tactic(auto, unfolding(definitions::specs::Why::verdict_text))]
+pub fn verdict_line(weak: bool, verdicts: Verdicts) -> &'static [u8]
+    ensures { result.now ≡ verdict_text weak (chosen weak verdicts) }
 {
     if weak {
         if verdicts.weak {
-            return WEAK_YES;
+            b"weak\tyes\n"
+        } else {
+            b"weak\tno\n"
         }
-        return WEAK_NO;
+    } else if verdicts.strong {
+        b"strong\tyes\n"
+    } else {
+        b"strong\tno\n"
     }
-    if verdicts.strong {
-        return STRONG_YES;
-    }
-    STRONG_NO
 }

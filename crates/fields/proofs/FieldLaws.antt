@@ -1,29 +1,30 @@
 -- Laws of decimal fields: the largest number stands for itself and all above it.
 use mathlib.Core.Path.{◌≡◌, refl, sym, ◌∙◌}
-use Prim.Native.Nat.{ℕ, suc, ◌+◌, ◌-◌, ◌*◌, ◌<◌, ◌≤◌}
+use Prim.Native.Nat.{ℕ, suc, ◌+◌, ◌-◌, ◌*◌, ◌<◌, ◌≤◌, min}
 use mathlib.Core.List.{List, [], ◌∷◌}
-use mathlib.Core.Bool.{true}
+use mathlib.Core.Bool.{Bool, true, false, ◌&&◌}
 use lib.ListN.{length, drop, get_or, drop_of_length-le}
 use lib.Seq.{drop-cons}
 use native.Mathlib.Omega.{arith}
 use native.Mathlib.Numerals.{add-one}
-use lib.Dec.{ltb}
+use lib.Dec.{eqb, ltb, leb}
+use Rattle.std.proofs.lemmas.Option.{none-some, same_Some}
+use mathlib.Core.Logic.{◌⊎◌, inl, inr}
+use mir.Syntax.{w32}
+use mir.Val.{Fits}
 use borrow.Author.Rules.{rules}
-use borrow.Author.Tests.{eq-eqb, ne_eqb, lt-ltb, le-ltb, le-leb, lt-leb, ltb-true, ltb-false}
+use borrow.Author.Tests.{eq-eqb, ne_eqb, lt-ltb, le-ltb, le-leb, lt-leb, ltb-true, ltb-false, leb-true, eqb-true}
 use Rattle.definitions.specs.Bounded.{pick, within}
 use Rattle.definitions.specs.Lines.{Parsed, formed, malformed, decimal_on, decimal}
-use Rattle.theorems.proofs.Choice.{by_test}
-use Rattle.fields.specs.Fields.{largest, cap, capped, exact}
-use Rattle.fields.specs.declared.number.Field.{Field}
-use Rattle.fields.specs.declared.number.Field.TheVariants.{Number, Malformed}
+use Rattle.theorems.proofs.Choice.{by_test, both_true}
+use Rattle.std.specs.Prelude.{Some, None}
+use Rattle.fields.specs.Fields.{largest, cap, digit_value, taken, capped, exact}
 
 -- ---- the largest number
--- `shifted`, a number above the largest: `cap` is the largest
 pub cap_over : (n : ℕ) → largest < n → largest ≡ cap n
 unfolding cap pick
 cap_over n h = rw (lt-ltb largest n h)
 
--- `shifted`, a number up to the largest: `cap` is the number
 pub cap_within : (n : ℕ) → n ≤ largest → n ≡ cap n
 unfolding cap pick
 cap_within n h = rw (le-ltb largest n h)
@@ -65,30 +66,52 @@ cap_cap : (v : ℕ) → cap (cap v) ≡ cap v
 cap_cap v = sym (cap_within (cap v) (cap_le v))
 
 pub capped_on : (v : ℕ) (t : List ℕ) → capped (decimal_on (cap v) t) ≡ capped (decimal_on v t)
-unfolding capped decimal_on pick
+unfolding taken decimal_on pick
 capped_on v [] = rw (cap_cap v)
 capped_on v (x ∷ t) = by_test (within 48 57 x) (λ e. rw e (sym (capped_on (cap v * 10 + (x - 48)) t) ∙ rw (cap_step v (x - 48)) (capped_on (v * 10 + (x - 48)) t))) (λ e. rw e)
 
+-- the lesser of a number and the largest
+pub cap_min : (n : ℕ) → min n largest ≡ cap n
+cap_min n = by_test (ltb largest n) (λ e. rw (← cap_over n (ltb-true largest n e)) (omega (arith, ltb-true largest n e))) (λ e. rw (← cap_within n (ltb-false largest n e)) (omega (arith, ltb-false largest n e)))
+
+-- two tests of which the second fails, or holds
+pub and_no : (z : Bool) → (z && false) ≡ false
+and_no true = refl
+and_no false = refl
+
+pub and_yes : (z : Bool) → (z && true) ≡ z
+and_yes true = refl
+and_yes false = refl
+
+-- ---- the value of a digit
+module _ (b : ℕ) where
+  -- the byte whose value is d
+  pub digit_is : (d : ℕ) → Some d ≡ digit_value b → (within 48 57 b ≡ true) × (d ≡ b - 48)
+  unfolding digit_value pick
+  digit_is d e = by_test (within 48 57 b) (λ h. (h, same_Some _ _ (rw h at e))) (λ h. absurd (none-some d (sym (rw h at e))))
+
+  pub digit_small : (d : ℕ) → Some d ≡ digit_value b → d ≤ 9
+  digit_small d e =
+      let is = digit_is d e in
+      omega (arith, is.1, leb-true b 57 (both_true (leb 48 b) (leb b 57) is.0).1)
+
+  pub digit_no : None ≡ digit_value b → within 48 57 b ≡ false
+  unfolding digit_value pick
+  digit_no e = by_test (within 48 57 b) (λ h. absurd (none-some _ (rw h at e))) (λ h. h)
+
 -- ---- `decimal`
 -- `decimal`, no byte: `decimal` of the definitions is malformed
-pub dec_empty : (s : List ℕ) → length s ≡ 0 → Malformed ≡ capped (decimal s)
-unfolding capped decimal
+pub dec_empty : (s : List ℕ) → eqb (length s) 0 ≡ true → None ≡ capped (decimal s)
+unfolding taken decimal
 dec_empty [] h = refl
-dec_empty (x ∷ t) h = absurd (omega arith)
-
--- `decimal`, the digit 0 alone: `decimal` of the definitions is 0
-pub dec_zero : (s : List ℕ) → get_or s 0 0 ≡ 48 → length s ≡ 1 → Number 0 ≡ capped (decimal s)
-unfolding capped cap decimal decimal_on pick
-dec_zero [] e h = absurd (omega arith)
-dec_zero (x ∷ []) e h = let g : x ≡ 48 = e in rw g
-dec_zero (x ∷ y ∷ t) e h = absurd (omega arith)
+dec_empty (x ∷ t) h = absurd (omega (arith, eqb-true (suc (length t)) 0 h))
 
 -- `decimal`, a leading digit 0: `decimal` of the definitions is malformed
-pub dec_lead : (s : List ℕ) → (length s ≡ 0 → ⊥) → get_or s 0 0 ≡ 48 → (length s ≡ 1 → ⊥) → Malformed ≡ capped (decimal s)
-unfolding capped decimal pick
-dec_lead [] g e h = absurd (g refl)
-dec_lead (x ∷ []) g e h = absurd (h refl)
-dec_lead (x ∷ y ∷ t) g e h = rw (eq-eqb x 48 e, ne_eqb (suc (length t)) 0 (λ q. omega arith))
+pub dec_lead : (s : List ℕ) → eqb (length s) 0 ≡ false → get_or s 0 0 ≡ 48 → (length s ≡ 1 → ⊥) → None ≡ capped (decimal s)
+unfolding taken decimal pick
+dec_lead [] h e n = cc
+dec_lead (x ∷ []) h e n = absurd (n refl)
+dec_lead (x ∷ y ∷ t) h e n = rw (eq-eqb x 48 e, ne_eqb (suc (length t)) 0 (λ q. omega arith))
 
 -- the first i bytes are the digits of v, or of more than the largest number
 pub record Counted (s : List ℕ) (v i : ℕ) : Type 0 where
@@ -96,57 +119,54 @@ pub record Counted (s : List ℕ) (v i : ℕ) : Type 0 where
   pub small : v ≤ largest
   pub left : capped (decimal s) ≡ capped (decimal_on v (drop i s))
 
--- `decimal`, before byte 0: all of `decimal` of the definitions is left
-pub dec_start : (s : List ℕ) → (length s ≡ 0 → ⊥) → (get_or s 0 0 ≡ 48 → ⊥) → Counted s 0 0
+-- `decimal`, a first byte other than the digit 0, or alone: all of `decimal` of the definitions is left
+pub dec_start : (s : List ℕ) → eqb (length s) 0 ≡ false → ((get_or s 0 0 ≡ 48) × (length s ≡ 1)) ⊎ (get_or s 0 0 ≡ 48 → ⊥) → Counted s 0 0
 unfolding decimal pick
-dec_start [] g e = absurd (g refl)
-dec_start (x ∷ t) g e = record { within = omega arith; small = omega arith; left = rw (ne_eqb x 48 e) }
+dec_start [] h e = cc
+dec_start (x ∷ []) h (inl e) = record { within = omega arith; small = omega arith; left = rw (and_no (eqb x 48)) }
+dec_start (x ∷ y ∷ t) h (inl e) = absurd (omega (arith, e.1))
+dec_start (x ∷ t) h (inr n) = record { within = omega arith; small = omega arith; left = rw (ne_eqb x 48 n) }
 
 module _ (s : List ℕ) (v i : ℕ) (inv : Counted s v i) where
   -- `decimal`, no byte is left: v is `decimal` of the definitions, up to the largest (`capped`)
-  pub dec_done : length s ≤ i → Number v ≡ capped (decimal s)
-  unfolding capped decimal_on
+  pub dec_done : length s ≤ i → Some v ≡ capped (decimal s)
+  unfolding taken decimal_on
   dec_done h = rw (inv.left, drop_of_length-le s h, ← cap_within v inv.small)
 
   module _ (h : i < length s) where
-    -- `decimal`, byte i is below the digits: `decimal` of the definitions is malformed
-    pub dec_low : get_or s i 0 < 48 → Malformed ≡ capped (decimal s)
-    unfolding capped decimal_on pick
-    dec_low l = rw (inv.left, drop-cons s i 0 h, lt-leb 48 (get_or s i 0) l)
+    -- `decimal`, byte i is no digit: `decimal` of the definitions is malformed
+    pub dec_bad : None ≡ digit_value (get_or s i 0) → None ≡ capped (decimal s)
+    unfolding taken decimal_on pick
+    dec_bad e = rw (inv.left, drop-cons s i 0 h, digit_no _ e)
 
-    -- `decimal`, byte i is above the digits: `decimal` of the definitions is malformed
-    pub dec_high : 48 ≤ get_or s i 0 → 57 < get_or s i 0 → Malformed ≡ capped (decimal s)
-    unfolding capped decimal_on pick
-    dec_high l u = rw (inv.left, drop-cons s i 0 h, le-leb 48 (get_or s i 0) l, lt-leb (get_or s i 0) 57 u)
+    module _ (d : ℕ) (e : Some d ≡ digit_value (get_or s i 0)) where
+      pub dec_fits : Fits w32 (v * 10 + d)
+      dec_fits = record { fits = omega (arith, inv.small, digit_small _ d e) }
 
-    -- `decimal`, byte i is a digit: `decimal` of the definitions is left from the next byte on
-    pub dec_next : (r : ℕ) → 48 ≤ get_or s i 0 → get_or s i 0 ≤ 57 → r ≡ cap (v * 10 + (get_or s i 0 - 48)) → Counted s r (i + 1)
-    unfolding decimal_on pick
-    dec_next r l u e = record {
-      within = omega arith;
-      small = rw e (cap_le (v * 10 + (get_or s i 0 - 48)));
-      left = rw (inv.left, add-one, drop-cons s i 0 h, le-leb 48 (get_or s i 0) l, le-leb (get_or s i 0) 57 u, e) (sym (capped_on (v * 10 + (get_or s i 0 - 48)) (drop (suc i) s)));
-    }
+      -- `decimal`, byte i is a digit: `decimal` of the definitions is left from the next byte on
+      pub dec_next : (r : ℕ) → r ≡ min (v * 10 + d) largest → Counted s r (i + 1)
+      unfolding decimal_on pick
+      dec_next r m =
+          let is = digit_is (get_or s i 0) d e in
+          let c : r ≡ cap (v * 10 + (get_or s i 0 - 48)) = m ∙ (cap_min (v * 10 + d) ∙ rw is.1) in
+          record {
+            within = omega arith;
+            small = omega (arith, m);
+            left = rw (c, inv.left, add-one, drop-cons s i 0 h, is.0) (sym (capped_on (v * 10 + (get_or s i 0 - 48)) (drop (suc i) s)));
+          }
 
-pub ruleset shifted_laws = (rules, cap_over, cap_within)
-
-pub ruleset decimal_laws = (rules, dec_empty, dec_zero, dec_lead, dec_start, dec_done, dec_low, dec_high, dec_next)
+pub ruleset decimal_laws = (rules, dec_empty, dec_lead, dec_start, dec_done, dec_bad, dec_fits, dec_next)
 
 -- ---- what a caller has of an answer
-pub exact_number : (p : Parsed ℕ) (r : Field) (v : ℕ) → r ≡ exact p → r ≡ Number v → p ≡ formed v
-unfolding exact
-exact_number (formed w) r v a b = cc
-exact_number malformed r v a b = cc
+pub taken_none : {A B : Type 0} (f : A → B) (p : Parsed A) → None ≡ taken f p → p ≡ malformed
+unfolding taken
+taken_none f (formed a) e = absurd (none-some (f a) e)
+taken_none f malformed e = refl
 
-pub exact_malformed : (p : Parsed ℕ) (r : Field) → r ≡ exact p → r ≡ Malformed → p ≡ malformed
-unfolding exact
-exact_malformed (formed w) r a b = cc
-exact_malformed malformed r a b = refl
-
-pub capped_malformed : (p : Parsed ℕ) (r : Field) → r ≡ capped p → r ≡ Malformed → p ≡ malformed
-unfolding capped
-capped_malformed (formed w) r a b = cc
-capped_malformed malformed r a b = refl
+pub exact_number : (p : Parsed ℕ) (v : ℕ) → Some v ≡ exact p → p ≡ formed v
+unfolding taken
+exact_number (formed w) v e = cc
+exact_number malformed v e = cc
 
 -- the number of a decimal field that is answered as v
 pub record Read (p : Parsed ℕ) (v : ℕ) : Type 0 where
@@ -154,7 +174,7 @@ pub record Read (p : Parsed ℕ) (v : ℕ) : Type 0 where
   pub is : p ≡ formed number
   pub answered : v ≡ cap number
 
-pub capped_read : (p : Parsed ℕ) (r : Field) (v : ℕ) → r ≡ capped p → r ≡ Number v → Read p v
-unfolding capped
-capped_read (formed w) r v a b = record { number = w; is = refl; answered = cc }
-capped_read malformed r v a b = let z : ◌≡◌ {A = ℕ} 0 1 = cc in absurd (omega arith)
+pub capped_read : (p : Parsed ℕ) (v : ℕ) → Some v ≡ capped p → Read p v
+unfolding taken
+capped_read (formed w) v e = record { number = w; is = refl; answered = cc }
+capped_read malformed v e = absurd (none-some v (sym e))

@@ -1,207 +1,104 @@
--- Laws of the forms of lines: one for each return.
-use mathlib.Core.Path.{◌≡◌, refl, ap, sym, ◌∙◌}
+-- Laws of the forms of lines: what is answered of two fields and of a line that opens with a word.
+use mathlib.Core.Path.{◌≡◌, refl, ap, sym}
 use mathlib.Core.Bool.{Bool, true, false, ◌&&◌}
 use mathlib.Core.List.{List}
-use Prim.Native.Nat.{ℕ, ◌+◌, ◌<◌, ◌≤◌}
-use native.Mathlib.Omega.{arith}
-use lib.ListN.{length, take, drop}
-use borrow.Author.Tests.{ltb-true}
+use Prim.Native.Nat.{ℕ}
+use borrow.Author.Rules.{rules}
+use Rattle.std.specs.Prelude.{Some, None}
+use Rattle.std.proofs.lemmas.Option.{none-some, same_Some, some_pair_parts}
 use Rattle.definitions.specs.Bounded.{pick}
-use Rattle.definitions.specs.Lines.{tab, before, has, up_to, after, same, Parsed, formed, malformed, on_parsed, decimal, hexadecimal, Heading, heading, two_fields, worded, heading_form}
-use Rattle.theorems.proofs.Choice.{both_true}
-use Rattle.fields.specs.Fields.{cap, capped, exact}
-use Rattle.fields.specs.Forms.{exact_pair, capped_pair}
-use Rattle.fields.specs.declared.number.Field.{Field}
-use Rattle.fields.specs.declared.number.Field.TheVariants as field
-use Rattle.fields.specs.declared.form.Pair.{Pair}
-use Rattle.fields.specs.declared.form.Pair.TheVariants as pair
-use Rattle.lines.proofs.PartLaws.{part_laws, has_yes, has_no, up_to_part, after_part}
-use Rattle.fields.proofs.FieldLaws.{Read, capped_read, capped_malformed, exact_number, exact_malformed}
+use Rattle.definitions.specs.Lines.{tab, has, up_to, after, same, Parsed, formed, malformed, on_parsed, Heading, heading, two_fields, worded}
+use Rattle.theorems.proofs.Choice.{by_test}
+use Rattle.lines.specs.Parts.{split}
+use Rattle.lines.proofs.PartLaws.{split_no, split_yes}
+use Rattle.fields.specs.Fields.{cap, taken}
+use Rattle.fields.specs.Forms.{exact_pair, capped_pair, after_word}
+use Rattle.fields.proofs.FieldLaws.{taken_none, and_no, and_yes}
 
 -- ---- two fields, each by its reader
 module _ {A : Type 0} (f g : List ℕ → Parsed ℕ) (make : ℕ → ℕ → A) (s : List ℕ) where
-  no_fields : has tab s ≡ false → two_fields f g make s ≡ malformed
+  no_fields : None ≡ split tab s → two_fields f g make s ≡ malformed
   unfolding two_fields pick
-  no_fields h = rw h
+  no_fields e = rw (split_no tab s e)
 
-  first_malformed : has tab s ≡ true → f (up_to tab s) ≡ malformed → two_fields f g make s ≡ malformed
-  unfolding two_fields pick on_parsed
-  first_malformed h a = rw (h, a)
+  fields_by : (x y : List ℕ) → Some (x, y) ≡ split tab s → two_fields f g make s ≡ on_parsed (f x) malformed (λ a. on_parsed (g y) malformed (λ b. formed (make a b)))
+  unfolding two_fields pick
+  fields_by x y e = let p = split_yes tab s x y e in rw (p.there, p.front, p.back)
 
-  second_malformed : (m : ℕ) → has tab s ≡ true → f (up_to tab s) ≡ formed m → g (after tab s) ≡ malformed → two_fields f g make s ≡ malformed
-  unfolding two_fields pick on_parsed
-  second_malformed m h a b = rw (h, a, b)
+-- ---- `decimals` and `hexadecimals`: c of each number is answered
+module _ (c : ℕ → ℕ) (f g : List ℕ → Parsed ℕ) (s : List ℕ) where
+  abbrev pair : Heading → ℕ × ℕ
+  pair h = (c h.first, c h.second)
 
-  both_formed : (m n : ℕ) → has tab s ≡ true → f (up_to tab s) ≡ formed m → g (after tab s) ≡ formed n → two_fields f g make s ≡ formed (make m n)
-  unfolding two_fields pick on_parsed
-  both_formed m n h a b = rw (h, a, b)
+  abbrev fields : Parsed Heading
+  fields = two_fields f g heading s
 
--- ---- what the code answers
-capped_none : (p : Parsed Heading) → p ≡ malformed → pair.Malformed ≡ capped_pair p
-unfolding capped_pair
-capped_none p e = rw e
+  -- no tab: there are no two fields
+  pub two_none : None ≡ split tab s → None ≡ taken pair fields
+  unfolding taken
+  two_none e = rw (no_fields f g heading s e)
 
-capped_some : (p : Parsed Heading) (m n a b : ℕ) → p ≡ formed (heading m n) → a ≡ cap m → b ≡ cap n → pair.Numbers a b ≡ capped_pair p
-unfolding capped_pair
-capped_some p m n a b e x y = rw (e, x, y)
+  module _ (x y : List ℕ) (parts : Some (x, y) ≡ split tab s) where
+    -- the first field is malformed
+    pub two_first : None ≡ taken c (f x) → None ≡ taken pair fields
+    unfolding taken on_parsed
+    two_first e = rw (fields_by f g heading s x y parts, taken_none c (f x) e)
 
-exact_none : (p : Parsed Heading) → p ≡ malformed → pair.Malformed ≡ exact_pair p
-unfolding exact_pair
-exact_none p e = rw e
+    module _ (a : ℕ) (one : Some a ≡ taken c (f x)) where
+      -- the second field is malformed
+      pub two_second : None ≡ taken c (g y) → None ≡ taken pair fields
+      unfolding taken on_parsed
+      two_second e = rw (fields_by f g heading s x y parts, taken_none c (g y) e) (last (f x))
+        where
+          last : (p : Parsed ℕ) → None ≡ taken pair (on_parsed p malformed (λ a. malformed))
+          last (formed v) = refl
+          last malformed = refl
 
-exact_some : (p : Parsed Heading) (a b : ℕ) → p ≡ formed (heading a b) → pair.Numbers a b ≡ exact_pair p
-unfolding exact_pair
-exact_some p a b e = rw e
-
-field_none : (p : Parsed ℕ) → p ≡ malformed → field.Malformed ≡ exact p
-unfolding exact
-field_none p e = rw e
-
-field_capped : (p : Parsed ℕ) → p ≡ malformed → field.Malformed ≡ capped p
-unfolding capped
-field_capped p e = rw e
-
--- ---- `decimals`
-module _ (s : List ℕ) (i : ℕ) (is : i ≡ before tab s) where
-  -- `decimals`, no tab: `two_fields` is malformed
-  pub decimals_missed : length s ≤ i → pair.Malformed ≡ capped_pair (two_fields decimal decimal heading s)
-  decimals_missed h = capped_none _ (no_fields decimal decimal heading s (has_no tab s i is h))
-
-  module _ (h : i < length s) (f : Field) (e : f ≡ capped (decimal (take i s))) where
-    one_field : f ≡ capped (decimal (up_to tab s))
-    one_field = rw (up_to_part tab s i is) at e
-
-    -- `decimals`, the first field is malformed: `two_fields` is too
-    pub decimals_first : f ≡ field.Malformed → pair.Malformed ≡ capped_pair (two_fields decimal decimal heading s)
-    decimals_first x = capped_none _ (first_malformed decimal decimal heading s (has_yes tab s i is h) (capped_malformed (decimal (up_to tab s)) f one_field x))
-
-    module _ (a : ℕ) (x : f ≡ field.Number a) (t : List ℕ) (ts : t ≡ drop (i + 1) s) (g : Field) (d : g ≡ capped (decimal t)) where
-      one : Read (decimal (up_to tab s)) a
-      one = capped_read (decimal (up_to tab s)) f a one_field x
-
-      last : g ≡ capped (decimal (after tab s))
-      last = rw (after_part tab s i is t ts) at d
-
-      -- `decimals`, the second field is malformed: `two_fields` is too
-      pub decimals_second : g ≡ field.Malformed → pair.Malformed ≡ capped_pair (two_fields decimal decimal heading s)
-      decimals_second y =
-          capped_none _ (second_malformed decimal decimal heading s one.number (has_yes tab s i is h) one.is (capped_malformed (decimal (after tab s)) g last y))
-
-      -- `decimals`, both fields are read: their numbers are `two_fields`, up to the largest (`capped_pair`)
-      pub decimals_read : (b : ℕ) → g ≡ field.Number b → pair.Numbers a b ≡ capped_pair (two_fields decimal decimal heading s)
-      decimals_read b y =
-          let q = capped_read (decimal (after tab s)) g b last y in
-          capped_some _ one.number q.number a b
-          (both_formed decimal decimal heading s one.number q.number (has_yes tab s i is h) one.is q.is) one.answered q.answered
-
-pub ruleset decimals_laws = (part_laws, decimals_missed, decimals_first, decimals_second, decimals_read)
-
--- ---- `hexadecimals`
-module _ (m n : ℕ) (s : List ℕ) (i : ℕ) (is : i ≡ before tab s) where
-  -- `hexadecimals`, no tab: `two_fields` is malformed
-  pub hexadecimals_missed : length s ≤ i → pair.Malformed ≡ exact_pair (two_fields (hexadecimal m) (hexadecimal n) heading s)
-  hexadecimals_missed h = exact_none _ (no_fields (hexadecimal m) (hexadecimal n) heading s (has_no tab s i is h))
-
-  module _ (h : i < length s) (f : Field) (e : f ≡ exact (hexadecimal m (take i s))) where
-    one_hex : f ≡ exact (hexadecimal m (up_to tab s))
-    one_hex = rw (up_to_part tab s i is) at e
-
-    -- `hexadecimals`, the first field is malformed: `two_fields` is too
-    pub hexadecimals_first : f ≡ field.Malformed → pair.Malformed ≡ exact_pair (two_fields (hexadecimal m) (hexadecimal n) heading s)
-    hexadecimals_first x =
-        exact_none _ (first_malformed (hexadecimal m) (hexadecimal n) heading s (has_yes tab s i is h) (exact_malformed (hexadecimal m (up_to tab s)) f one_hex x))
-
-    module _ (a : ℕ) (x : f ≡ field.Number a) (t : List ℕ) (ts : t ≡ drop (i + 1) s) (g : Field) (d : g ≡ exact (hexadecimal n t)) where
-      one_is : hexadecimal m (up_to tab s) ≡ formed a
-      one_is = exact_number (hexadecimal m (up_to tab s)) f a one_hex x
-
-      two_hex : g ≡ exact (hexadecimal n (after tab s))
-      two_hex = rw (after_part tab s i is t ts) at d
-
-      -- `hexadecimals`, the second field is malformed: `two_fields` is too
-      pub hexadecimals_second : g ≡ field.Malformed → pair.Malformed ≡ exact_pair (two_fields (hexadecimal m) (hexadecimal n) heading s)
-      hexadecimals_second y =
-          exact_none _
-          (second_malformed (hexadecimal m) (hexadecimal n) heading s a (has_yes tab s i is h) one_is (exact_malformed (hexadecimal n (after tab s)) g two_hex y))
-
-      -- `hexadecimals`, both fields are read: their numbers are `two_fields` (`exact_pair`)
-      pub hexadecimals_read : (b : ℕ) → g ≡ field.Number b → pair.Numbers a b ≡ exact_pair (two_fields (hexadecimal m) (hexadecimal n) heading s)
-      hexadecimals_read b y =
-          exact_some _ a b
-          (both_formed (hexadecimal m) (hexadecimal n) heading s a b (has_yes tab s i is h) one_is (exact_number (hexadecimal n (after tab s)) g b two_hex y))
-
-pub ruleset hexadecimals_laws = (part_laws, hexadecimals_missed, hexadecimals_first, hexadecimals_second, hexadecimals_read)
-
--- ---- `opens`
-and_false : (z : Bool) → false ≡ (z && false)
-and_false true = refl
-and_false false = refl
-
-and_true : (z : Bool) → z ≡ (z && true)
-and_true true = refl
-and_true false = refl
-
-module _ (s w : List ℕ) (i : ℕ) (is : i ≡ before tab s) where
-  -- `opens`, no tab: the line doesn't open with the word and a tab (`up_to`, `has`)
-  pub opens_not : length s ≤ i → false ≡ (same (up_to tab s) w && has tab s)
-  opens_not h = rw (has_no tab s i is h) (and_false (same (up_to tab s) w))
-
-  -- `opens`, a tab: whether the bytes before it are the word (`up_to`, `has`)
-  pub opens_with : i < length s → (r : Bool) → r ≡ same (take i s) w → r ≡ (same (up_to tab s) w && has tab s)
-  opens_with h r e = (rw (up_to_part tab s i is) at e) ∙ rw (has_yes tab s i is h) (and_true (same (up_to tab s) w))
-
-pub ruleset opens_laws = (part_laws, opens_not, opens_with)
+      -- both fields are read
+      pub two_read : (b : ℕ) → Some b ≡ taken c (g y) → Some (a, b) ≡ taken pair fields
+      unfolding taken on_parsed
+      two_read b e = rw (fields_by f g heading s x y parts) (ends (f x) (g y) one e)
+        where
+          ends : (p q : Parsed ℕ) → Some a ≡ taken c p → Some b ≡ taken c q → Some (a, b) ≡ taken pair (on_parsed p malformed (λ v. on_parsed q malformed (λ w. formed (heading v w))))
+          ends (formed v) (formed w) d e = rw (same_Some _ _ d, same_Some _ _ e)
+          ends (formed v) malformed d e = absurd (none-some b (sym e))
+          ends malformed q d e = absurd (none-some a (sym d))
 
 -- ---- a line of a word
-module _ (s w : List ℕ) (r : Bool) (rs : r ≡ (same (up_to tab s) w && has tab s)) where
-  pub word_ends : (i : ℕ) → i ≡ before tab s → r ≡ true → i < length s
-  word_ends i is t = omega (arith, ltb-true (before tab s) (length s) (both_true (same (up_to tab s) w) (has tab s) (sym rs ∙ t)).1)
+module _ (w s : List ℕ) where
+  -- `after_word`, no tab: the line doesn't open with the word and a tab
+  pub word_none : None ≡ split tab s → None ≡ after_word w s
+  unfolding after_word pick
+  word_none e = rw (split_no tab s e, and_no (same (up_to tab s) w))
 
-  pub other_word : {A : Type 0} (fields : List ℕ → Parsed A) → r ≡ false → worded w fields s ≡ malformed
-  unfolding worded pick
-  other_word fields f = rw (← rs, f)
+  module _ (x y : List ℕ) (parts : Some (x, y) ≡ split tab s) (r : Bool) (is : r ≡ same x w) where
+    opens : (same (up_to tab s) w && has tab s) ≡ r
+    opens = let p = split_yes tab s x y parts in rw (← p.front, p.there, ← is) (and_yes r)
 
-  pub right_word : {A : Type 0} (fields : List ℕ → Parsed A) → r ≡ true → worded w fields s ≡ fields (after tab s)
-  unfolding worded pick
-  right_word fields f = rw (← rs, f)
+    -- `after_word`, the word stands before the tab: what follows it
+    pub word_right : r ≡ true → Some y ≡ after_word w s
+    unfolding after_word pick
+    word_right e = let p = split_yes tab s x y parts in rw (opens, e, p.back)
 
-  -- `worded_decimals`, the word doesn't open the line: `heading_form` is malformed
-  pub decimals_other : r ≡ false → pair.Malformed ≡ capped_pair (heading_form w s)
-  unfolding heading_form
-  decimals_other f = capped_none _ (other_word (two_fields decimal decimal heading) f)
+    -- `after_word`, another word stands before it
+    pub word_other : r ≡ false → None ≡ after_word w s
+    unfolding after_word pick
+    word_other e = rw (opens, e)
 
-  -- `worded_decimal`, the word doesn't open the line: `worded` is malformed
-  pub decimal_other : r ≡ false → field.Malformed ≡ capped (worded w decimal s)
-  decimal_other f = field_capped _ (other_word decimal f)
+  module _ {A : Type 0} (fields : List ℕ → Parsed A) where
+    -- the line is malformed
+    pub worded_none : None ≡ after_word w s → worded w fields s ≡ malformed
+    unfolding after_word worded pick
+    worded_none e = by_test (same (up_to tab s) w && has tab s) (λ h. absurd (none-some _ (rw h at e))) (λ h. rw h)
 
-  -- `worded_hexadecimal`, the word doesn't open the line: `worded` is malformed
-  pub hexadecimal_other : (n : ℕ) → r ≡ false → field.Malformed ≡ exact (worded w (hexadecimal n) s)
-  hexadecimal_other n f = field_none _ (other_word (hexadecimal n) f)
+    -- the line is what follows the word
+    pub worded_some : (t : List ℕ) → Some t ≡ after_word w s → worded w fields s ≡ fields t
+    unfolding after_word worded pick
+    worded_some t e = by_test (same (up_to tab s) w && has tab s) (λ h. rw (h, same_Some _ _ (rw h at e))) (λ h. absurd (none-some t (sym (rw h at e))))
 
-  -- `worded_hexadecimals`, the word doesn't open the line: `worded` is malformed
-  pub hexadecimals_other : (m n : ℕ) → r ≡ false → pair.Malformed ≡ exact_pair (worded w (two_fields (hexadecimal m) (hexadecimal n) heading) s)
-  hexadecimals_other m n f = exact_none _ (other_word (two_fields (hexadecimal m) (hexadecimal n) heading) f)
+pub ruleset word_laws = (rules, word_none, word_right, word_other)
 
-  module _ (f : r ≡ true) (i : ℕ) (is : i ≡ before tab s) (t : List ℕ) (ts : t ≡ drop (i + 1) s) where
-    -- `worded_decimals`, the word opens the line: the fields after it are `heading_form`
-    pub decimals_right : (p : Pair) → p ≡ capped_pair (two_fields decimal decimal heading t) → p ≡ capped_pair (heading_form w s)
-    unfolding heading_form
-    decimals_right p e = rw (right_word (two_fields decimal decimal heading) f, ← after_part tab s i is t ts) e
-
-    -- `worded_decimal`, the word opens the line: the field after it is `worded`
-    pub decimal_right : (p : Field) → p ≡ capped (decimal t) → p ≡ capped (worded w decimal s)
-    decimal_right p e = rw (right_word decimal f, ← after_part tab s i is t ts) e
-
-    -- `worded_hexadecimal`, the word opens the line: the field after it is `worded`
-    pub hexadecimal_right : (n : ℕ) (p : Field) → p ≡ exact (hexadecimal n t) → p ≡ exact (worded w (hexadecimal n) s)
-    hexadecimal_right n p e = rw (right_word (hexadecimal n) f, ← after_part tab s i is t ts) e
-
-    -- `worded_hexadecimals`, the word opens the line: the fields after it are `worded`
-    pub hexadecimals_right : (m n : ℕ) (p : Pair) → p ≡ exact_pair (two_fields (hexadecimal m) (hexadecimal n) heading t)
-        → p ≡ exact_pair (worded w (two_fields (hexadecimal m) (hexadecimal n) heading) s)
-    hexadecimals_right m n p e = rw (right_word (two_fields (hexadecimal m) (hexadecimal n) heading) f, ← after_part tab s i is t ts) e
-
-pub ruleset worded_laws = (part_laws, word_ends, decimals_other, decimal_other, hexadecimal_other, hexadecimals_other, decimals_right, decimal_right, hexadecimal_right, hexadecimals_right)
+pub ruleset worded_laws = (rules, worded_none, worded_some)
 
 -- ---- two fields made into one thing
 abbrev pub made : {A : Type 0} → (ℕ → ℕ → A) → Parsed Heading → Parsed A
@@ -238,29 +135,17 @@ pub record PairRead (p : Parsed Heading) (a b : ℕ) : Type 0 where
   pub first : a ≡ cap value.first
   pub second : b ≡ cap value.second
 
-pub pair_read : (p : Parsed Heading) (r : Pair) (a b : ℕ) → r ≡ capped_pair p → r ≡ pair.Numbers a b → PairRead p a b
-unfolding capped_pair
-pair_read (formed h) r a b e x = record { value = h; is = refl; first = cc; second = cc }
-pair_read malformed r a b e x = let z : ◌≡◌ {A = ℕ} 0 1 = cc in absurd (omega arith)
+pub pair_read : (p : Parsed Heading) (a b : ℕ) → Some (a, b) ≡ capped_pair p → PairRead p a b
+unfolding taken
+pair_read (formed h) a b e =
+    let q = some_pair_parts a (cap h.first) b (cap h.second) e in
+    record { value = h; is = refl; first = q.0; second = q.1 }
+pair_read malformed a b e = absurd (none-some (a, b) (sym e))
 
-pub pair_malformed : (p : Parsed Heading) (r : Pair) → r ≡ capped_pair p → r ≡ pair.Malformed → p ≡ malformed
-unfolding capped_pair
-pair_malformed (formed h) r e x = let z : ◌≡◌ {A = ℕ} 0 1 = cc in absurd (omega arith)
-pair_malformed malformed r e x = refl
-
-same_pair : (h : Heading) (a b : ℕ) → pair.Numbers h.first h.second ≡ pair.Numbers a b → formed h ≡ formed (heading a b)
-same_pair h a b e =
-    let x : h.first ≡ a = cc in
-    let y : h.second ≡ b = cc in
-    let q : heading h.first h.second ≡ heading a b = rw (x, y) in
-    ap formed q
-
-pub exact_pair_lem : (p : Parsed Heading) (r : Pair) (a b : ℕ) → r ≡ exact_pair p → r ≡ pair.Numbers a b → p ≡ formed (heading a b)
-unfolding exact_pair
-exact_pair_lem (formed h) r a b e x = same_pair h a b (sym e ∙ x)
-exact_pair_lem malformed r a b e x = let z : ◌≡◌ {A = ℕ} 0 1 = cc in absurd (omega arith)
-
-pub exact_pair_malformed : (p : Parsed Heading) (r : Pair) → r ≡ exact_pair p → r ≡ pair.Malformed → p ≡ malformed
-unfolding exact_pair
-exact_pair_malformed (formed h) r e x = let z : ◌≡◌ {A = ℕ} 0 1 = cc in absurd (omega arith)
-exact_pair_malformed malformed r e x = refl
+pub exact_pair_read : (p : Parsed Heading) (a b : ℕ) → Some (a, b) ≡ exact_pair p → p ≡ formed (heading a b)
+unfolding taken
+exact_pair_read (formed h) a b e =
+    let q = some_pair_parts a h.first b h.second e in
+    let w : heading h.first h.second ≡ heading a b = rw (q.0, q.1) in
+    ap formed w
+exact_pair_read malformed a b e = absurd (none-some (a, b) (sym e))

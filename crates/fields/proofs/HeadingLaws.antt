@@ -3,13 +3,13 @@ use mathlib.Core.Path.{◌≡◌, ap, sym, ◌∙◌}
 use mathlib.Core.Bool.{true}
 use mathlib.Core.List.{List}
 use Prim.Native.Nat.{ℕ}
+use Rattle.std.specs.Prelude.{Some, None}
 use Rattle.definitions.specs.Lines.{is_closed, line_of, rest_of, formed, Heading, heading, heading_form, refused, read, next_line}
 use Rattle.theorems.proofs.NextLines.{next_malformed, next_denied, next_read}
 use Rattle.fields.specs.Fields.{cap}
 use Rattle.fields.specs.Forms.{capped_pair}
-use Rattle.fields.specs.declared.form.Pair.{Pair}
-use Rattle.fields.specs.declared.form.Pair.TheVariants as pair
-use Rattle.fields.proofs.FormLaws.{PairRead, pair_read, pair_malformed}
+use Rattle.fields.proofs.FieldLaws.{taken_none}
+use Rattle.fields.proofs.FormLaws.{PairRead, pair_read}
 
 -- the check of two numbers, by the numbers that the code reads; accepted, they are exact
 pub record CapCheck (check : ℕ → ℕ → ℕ) : Type 0 where
@@ -17,13 +17,13 @@ pub record CapCheck (check : ℕ → ℕ → ℕ) : Type 0 where
   pub first : (a b : ℕ) → check (cap a) (cap b) ≡ 0 → cap a ≡ a
   pub second : (a b : ℕ) → check (cap a) (cap b) ≡ 0 → cap b ≡ b
 
-module _ (missing unformed : ℕ) (word : List ℕ) (check : ℕ → ℕ → ℕ) (caps : CapCheck check) (t : List ℕ) (closed : is_closed t ≡ true) (r : Pair) (rs : r ≡ capped_pair (heading_form word (line_of t))) where
-  pub first_malformed : r ≡ pair.Malformed → next_line missing unformed (heading_form word) (λ h. check h.first h.second) t ≡ refused unformed
-  first_malformed x = next_malformed missing unformed (heading_form word) _ t closed (pair_malformed (heading_form word (line_of t)) r rs x)
+module _ (missing unformed : ℕ) (word : List ℕ) (check : ℕ → ℕ → ℕ) (caps : CapCheck check) (t : List ℕ) (closed : is_closed t ≡ true) where
+  pub first_malformed : None ≡ capped_pair (heading_form word (line_of t)) → next_line missing unformed (heading_form word) (λ h. check h.first h.second) t ≡ refused unformed
+  first_malformed e = next_malformed missing unformed (heading_form word) _ t closed (taken_none _ (heading_form word (line_of t)) e)
 
-  module _ (a b : ℕ) (x : r ≡ pair.Numbers a b) where
+  module _ (a b : ℕ) (is : Some (a, b) ≡ capped_pair (heading_form word (line_of t))) where
     two : PairRead (heading_form word (line_of t)) a b
-    two = pair_read (heading_form word (line_of t)) r a b rs x
+    two = pair_read (heading_form word (line_of t)) a b is
 
     checked : (h : Heading) → a ≡ cap h.first → b ≡ cap h.second → check h.first h.second ≡ check a b
     checked h p q = sym (caps.same h.first h.second) ∙ rw (p, q)

@@ -1,108 +1,75 @@
 // Forms of lines: fields parted by tabs, after a word or not.
-ghost use Rattle.std.specs.Prelude.{◌≡◌, ◌&&◌, ◌≤◌};
-ghost use Rattle.definitions.specs.Lines.{tab, before, has, up_to, same, decimal, hexadecimal, heading, two_fields, worded, heading_form};
+ghost use Rattle.std.specs.Prelude.{◌≡◌, ◌≤◌};
+ghost use Rattle.definitions.specs.Lines.{decimal, hexadecimal, heading, two_fields, worded, heading_form};
 ghost use Rattle.fields.specs.Fields.{widest, capped, exact};
-ghost use Rattle.fields.specs.Forms.{exact_pair, capped_pair, Widths};
+ghost use Rattle.fields.specs.Forms.{exact_pair, capped_pair, Widths, part_in, after_word};
 
 use super::number;
-use super::number::Field;
 use lines::scan;
 
-// Two fields that are read as numbers.
-#[derive(Clone, Copy)]
-pub enum Pair {
-    Numbers(u32, u32),
-    Malformed,
-}
-
 // Two decimal fields.
-pub fn decimals(s: &[u8]) -> Pair
+pub fn decimals(s: &[u8]) -> Option<(u32, u32)>
     ensures { result ≡ capped_pair (two_fields decimal decimal heading s.now) }
 {
-    let i = scan::until_byte(s, scan::TAB);
-    if i < s.len() {
-        let Field::Number(a) = number::decimal(&s[..i]) else {
-            return Pair::Malformed;
-        };
-        let Field::Number(b) = number::decimal(scan::after(s, i)) else {
-            return Pair::Malformed;
-        };
-        return Pair::Numbers(a, b);
-    }
-    Pair::Malformed
+    let (first, second) = scan::split(s, scan::TAB)?;
+    let a = number::decimal(first)?;
+    let b = number::decimal(second)?;
+    Some((a, b))
 }
 
 // Two hexadecimal fields of these widths.
-fn hexadecimals(s: &[u8], first: usize, second: usize) -> Pair
+fn hexadecimals(s: &[u8], first: usize, second: usize) -> Option<(u32, u32)>
     requires { Widths first second }
     ensures { result ≡ exact_pair (two_fields (hexadecimal first) (hexadecimal second) heading s.now) }
 {
-    let i = scan::until_byte(s, scan::TAB);
-    if i < s.len() {
-        let Field::Number(m) = number::hexadecimal(&s[..i], first) else {
-            return Pair::Malformed;
-        };
-        let Field::Number(n) = number::hexadecimal(scan::after(s, i), second) else {
-            return Pair::Malformed;
-        };
-        return Pair::Numbers(m, n);
-    }
-    Pair::Malformed
+    let (one, two) = scan::split(s, scan::TAB)?;
+    let m = number::hexadecimal(one, first)?;
+    let n = number::hexadecimal(two, second)?;
+    Some((m, n))
 }
 
-// Whether a line opens with `word` and a tab, where `i` bytes stand before its first tab.
-pub fn opens(s: &[u8], i: usize, word: &[u8]) -> bool
-    requires { i ≡ before tab s.now }
-    ensures { result ≡ (same (up_to tab s.now) word.now && has tab s.now) }
+// What follows `word` and a tab, where a line opens with them.
+#[tactic(auto, using(crate::proofs::FormLaws::word_laws))]
+pub fn after_word<'a>(s: &'a [u8], word: &[u8]) -> Option<&'a [u8]>
+    ensures { part_in result ≡ after_word word.now s.now }
 {
-    if i < s.len() {
-        return scan::same(&s[..i], word);
+    let (first, rest) = scan::split(s, scan::TAB)?;
+    if scan::same(first, word) {
+        return Some(rest);
     }
-    false
+    None
 }
 
 // A line of a word and two decimal fields.
-pub fn worded_decimals(s: &[u8], word: &[u8]) -> Pair
+#[tactic(auto, using(crate::proofs::FormLaws::worded_laws), unfolding(crate::specs::Fields::taken, definitions::specs::Lines::heading_form))]
+pub fn worded_decimals(s: &[u8], word: &[u8]) -> Option<(u32, u32)>
     ensures { result ≡ capped_pair (heading_form word.now s.now) }
 {
-    let i = scan::until_byte(s, scan::TAB);
-    if opens(s, i, word) {
-        return decimals(scan::after(s, i));
-    }
-    Pair::Malformed
+    decimals(after_word(s, word)?)
 }
 
 // A line of a word and a decimal field.
-pub fn worded_decimal(s: &[u8], word: &[u8]) -> Field
+#[tactic(auto, using(crate::proofs::FormLaws::worded_laws), unfolding(crate::specs::Fields::taken))]
+pub fn worded_decimal(s: &[u8], word: &[u8]) -> Option<u32>
     ensures { result ≡ capped (worded word.now decimal s.now) }
 {
-    let i = scan::until_byte(s, scan::TAB);
-    if opens(s, i, word) {
-        return number::decimal(scan::after(s, i));
-    }
-    Field::Malformed
+    number::decimal(after_word(s, word)?)
 }
 
 // A line of a word and a hexadecimal field.
-pub fn worded_hexadecimal(s: &[u8], word: &[u8], width: usize) -> Field
+#[tactic(auto, using(crate::proofs::FormLaws::worded_laws), unfolding(crate::specs::Fields::taken))]
+pub fn worded_hexadecimal(s: &[u8], word: &[u8], width: usize) -> Option<u32>
     requires { width ≤ widest }
     ensures { result ≡ exact (worded word.now (hexadecimal width) s.now) }
 {
-    let i = scan::until_byte(s, scan::TAB);
-    if opens(s, i, word) {
-        return number::hexadecimal(scan::after(s, i), width);
-    }
-    Field::Malformed
+    number::hexadecimal(after_word(s, word)?, width)
 }
 
 // A line of a word and two hexadecimal fields.
-pub fn worded_hexadecimals(s: &[u8], word: &[u8], first: usize, second: usize) -> Pair
+#[tactic(auto, using(crate::proofs::FormLaws::worded_laws), unfolding(crate::specs::Fields::taken))]
+pub fn worded_hexadecimals(s: &[u8], word: &[u8], first: usize, second: usize) -> Option<(u32, u32)>
     requires { Widths first second }
     ensures { result ≡ exact_pair (worded word.now (two_fields (hexadecimal first) (hexadecimal second) heading) s.now) }
 {
-    let i = scan::until_byte(s, scan::TAB);
-    if opens(s, i, word) {
-        return hexadecimals(scan::after(s, i), first, second);
-    }
-    Pair::Malformed
+    hexadecimals(after_word(s, word)?, first, second)
 }

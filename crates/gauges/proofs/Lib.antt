@@ -1,5 +1,3 @@
-pub mod FinishLaws
-pub mod StepLaws
-pub mod ValuesLaws
 pub mod LineLaws
+pub mod ValuesLaws
 pub mod ScanLaws

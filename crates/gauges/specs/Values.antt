@@ -1,23 +1,22 @@
 -- What the code answers of the values of a line.
-use Rattle.std.specs.Prelude.{ℕ, List, ℤ}
+use Rattle.std.specs.Prelude.{ℕ, List, length, ℤ, Option, None, option_map, Result, Ok, Err}
 use Rattle.definitions.specs.Limits.{recording_form, recording_limits}
 use Rattle.definitions.specs.Bounded.{pick}
 use Rattle.definitions.specs.Lines.{on_parsed}
-use Rattle.definitions.specs.Gauges.{values_after, any_outside, finished_bit, finished}
-use Rattle.measures.specs.declared.Measure.{Measure}
-use Rattle.measures.specs.declared.Measure.TheVariants as field
-use Rattle.gauges.specs.declared.values.Step.{Step}
-use Rattle.gauges.specs.declared.values.Finish.{Finish}
-use Rattle.gauges.specs.declared.values.Finish.TheVariants.{Word, Refused}
+use Rattle.definitions.specs.Gauges.{Gauge, values_after, any_outside, finished_bit, finished}
+use Rattle.measures.specs.declared.Flaw.{Flaw}
+use Rattle.measures.specs.declared.Flaw.TheVariants.{Outside, Malformed}
+use Rattle.gauges.specs.Held.{atoms_of, thresholds_of}
+use Rattle.gauges.specs.declared.gauge.Gauge as code
 
--- one value more: the word and the refusal so far
-unfoldable pub step_of : ℕ → ℕ → ℕ → ℤ → Measure → Step
-step_of w n a t (field.Value v) = record { word = finished_bit w a t v; refusal = n }
-step_of w n a t field.Outside = record { word = w; refusal = recording_limits }
-step_of w n a t field.Malformed = record { word = w; refusal = recording_form }
+-- one value more after the word so far, if it is still there
+unfoldable pub step_of : Option ℕ → Gauge → Result ℤ Flaw → Result (Option ℕ) ℕ
+step_of sofar g (Ok value) = Ok (option_map (λ w. finished_bit w g.atom g.threshold value) sofar)
+step_of sofar g (Err Outside) = Ok None
+step_of sofar g (Err Malformed) = Err recording_form
 
 -- the values that follow the first field: 5 before 6, else the finished word
-unfoldable pub values_read : ℕ → List ℕ → List ℤ → ℕ → List ℕ → Finish
-values_read count atoms thresholds w s =
-    on_parsed (values_after count s) (Refused recording_form)
-    (λ vs. pick (any_outside vs) (Refused recording_limits) (Word (finished atoms thresholds vs w)))
+unfoldable pub values_read : List code.Gauge → ℕ → List ℕ → Result ℕ ℕ
+values_read gauges w s =
+    on_parsed (values_after (length gauges) s) (Err recording_form)
+    (λ vs. pick (any_outside vs) (Err recording_limits) (Ok (finished (atoms_of gauges) (thresholds_of gauges) vs w)))

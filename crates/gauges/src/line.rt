@@ -1,119 +1,64 @@
-// Gauge lines: atom and threshold, and the atoms of the gauges so far.
-ghost use Rattle.std.specs.Prelude.{◌≡◌, ◌&&◌, ◌≤◌, take};
-ghost use Rattle.definitions.specs.Limits.{max_gauges};
+// Gauge lines: a gauge, and the atoms of the gauges before it.
+ghost use Rattle.std.specs.Prelude.{◌≡◌, ◌&&◌};
 ghost use Rattle.definitions.specs.Gauges.{gauge_word, among, any_set, gauge_fields};
-ghost use Rattle.definitions.specs.Lines.{tab, has, up_to, same};
+ghost use Rattle.definitions.specs.Lines.{tab, has, up_to, same, line_length};
 ghost use Rattle.definitions.specs.RecordingText.{gauge_line};
-ghost use Rattle.gauges.specs.Held.{GaugesHeld};
-ghost use Rattle.gauges.specs.Lines.{gauge_checked, gauge_answer, gauge_read, GaugeTurn, gauge_next};
+ghost use Rattle.gauges.specs.Held.{atoms_of};
+ghost use Rattle.gauges.specs.Lines.{gauge_told, gauge_answer, gauge_next};
 
+use super::gauge::Gauge;
 use super::word;
-use fields::number::Field;
 use fields::{form, number};
-use lines::{end_refusal, scan};
-use measures::Measure;
-use rules::limits::{Limits, Refusal};
+use lines::{check_end, scan};
+use rules::limits::Limits;
+use rules::refusal::Refusal;
 
-// Atom and threshold, or the refusal of a gauge line.
-#[derive(Clone, Copy)]
-pub enum GaugeRead {
-    Gauge(u32, i32),
-    Refused(u8),
-}
-
-// Whether an atom has one of the gauges so far.
-fn among(atom: u32, count: usize, atoms: [u32; 8]) -> bool
-    requires { count ≤ max_gauges }
-    ensures { result ≡ among atom (take count atoms) }
+// Whether an atom has one of these gauges.
+fn among(atom: u32, gauges: &[Gauge]) -> bool
+    ensures { result ≡ among atom (atoms_of gauges.now) }
 {
-    let mut i = 0;
-    while i < count {
-        if atom == atoms[i] {
-            return true;
-        }
-        i += 1;
-    }
-    false
+    gauges.iter().any(|gauge| atom == gauge.atom)
 }
 
 // Whether the bit of some gauge is set in a word.
-pub fn any_set(count: usize, atoms: [u32; 8], w: u32) -> bool
-    requires { GaugesHeld count atoms }
-    ensures { result ≡ any_set (take count atoms) w }
+pub fn any_set(gauges: &[Gauge], w: u32) -> bool
+    ensures { result ≡ any_set (atoms_of gauges.now) w }
 {
-    let mut i = 0;
-    while i < count {
-        let atom = atoms[i];
-        if word::has_atom(w, atom) {
-            return true;
-        }
-        i += 1;
-    }
-    false
+    gauges.iter().any(|gauge| word::has_atom(w, gauge.atom))
 }
 
-// A gauge whose threshold is in its limits.
-fn checked(count: usize, atoms: [u32; 8], atom: u32, threshold: i32) -> GaugeRead
-    requires { count ≤ max_gauges }
-    ensures { result ≡ gauge_checked (take count atoms) atom threshold }
+// The fields of a gauge line after those of the earlier gauges.
+#[tactic(auto, using(crate::proofs::LineLaws::gauge_fields_laws))]
+fn gauge_fields(earlier: &[Gauge], s: &[u8]) -> Result<Gauge, Refusal>
+    ensures { gauge_told result ≡ gauge_answer (atoms_of earlier.now) (gauge_fields s.now) }
 {
-    if (atom as usize) < Limits::ATOMS {
-        if among(atom, count, atoms) {
-            return GaugeRead::Refused(Refusal::SECOND_GAUGE);
-        }
-        return GaugeRead::Gauge(atom, threshold);
+    let (first, second) = scan::split(s, scan::TAB).ok_or(Refusal::RecordingForm)?;
+    let atom = number::decimal(first).ok_or(Refusal::RecordingForm)?;
+    let threshold = measures::read(second)?;
+    if Limits::ATOMS <= atom as usize {
+        return Err(Refusal::RecordingLimits);
     }
-    GaugeRead::Refused(Refusal::RECORDING_LIMITS)
-}
-
-// The fields of a gauge line.
-fn gauge_fields(count: usize, atoms: [u32; 8], s: &[u8]) -> GaugeRead
-    requires { count ≤ max_gauges }
-    ensures { result ≡ gauge_answer (take count atoms) (gauge_fields s.now) }
-{
-    let i = scan::until_byte(s, scan::TAB);
-    if i < s.len() {
-        let Field::Number(atom) = number::decimal(&s[..i]) else {
-            return GaugeRead::Refused(Refusal::RECORDING_FORM);
-        };
-        let m = measures::read(scan::after(s, i));
-        return match m {
-            Measure::Value(threshold) => checked(count, atoms, atom, threshold),
-            Measure::Outside => GaugeRead::Refused(Refusal::RECORDING_LIMITS),
-            Measure::Malformed => GaugeRead::Refused(Refusal::RECORDING_FORM),
-        };
+    if among(atom, earlier) {
+        return Err(Refusal::SecondGauge);
     }
-    GaugeRead::Refused(Refusal::RECORDING_FORM)
+    Ok(Gauge { atom, threshold })
 }
 
 // Whether a line opens as a gauge line does.
+#[tactic(auto, using(crate::proofs::LineLaws::opens_is))]
 pub fn is_gauge(s: &[u8]) -> bool
     ensures { result ≡ (same (up_to tab s.now) gauge_word && has tab s.now) }
 {
-    let i = scan::until_byte(s, scan::TAB);
-    form::opens(s, i, b"gauge")
+    form::after_word(s, b"gauge").is_some()
 }
 
-// A gauge line after those of `count` atoms.
-fn gauge_line(count: usize, atoms: [u32; 8], s: &[u8]) -> GaugeRead
-    requires { count ≤ max_gauges }
-    ensures { result ≡ gauge_read (take count atoms) s.now }
+// The next line, of `len` bytes, as a gauge line after those of the earlier gauges.
+#[tactic(auto, using(crate::proofs::LineLaws::next_gauge_laws))]
+pub fn next_gauge(earlier: &[Gauge], t: &[u8], len: usize) -> Result<Gauge, Refusal>
+    requires { len ≡ line_length t.now }
+    ensures { gauge_told result ≡ gauge_next (gauge_line (atoms_of earlier.now) t.now) }
 {
-    let i = scan::until_byte(s, scan::TAB);
-    if form::opens(s, i, b"gauge") {
-        return gauge_fields(count, atoms, scan::after(s, i));
-    }
-    GaugeRead::Refused(Refusal::RECORDING_FORM)
-}
-
-// The next line, of `len` bytes, as a gauge line after those of `count` atoms.
-pub fn next_gauge(count: usize, atoms: [u32; 8], t: &[u8], len: usize) -> GaugeRead
-    requires { GaugeTurn count len t.now }
-    ensures { result ≡ gauge_next (gauge_line (take count atoms) t.now) }
-{
-    let unread = end_refusal(t, len, Refusal::RECORDING_LINES, Refusal::RECORDING_FORM);
-    if unread != Refusal::NONE {
-        return GaugeRead::Refused(unread);
-    }
-    gauge_line(count, atoms, &t[..len])
+    check_end(t, len, Refusal::RecordingLines, Refusal::RecordingForm)?;
+    let fields = form::after_word(&t[..len], b"gauge").ok_or(Refusal::RecordingForm)?;
+    gauge_fields(earlier, fields)
 }

@@ -4,65 +4,29 @@ ghost use Rattle.definitions.specs.Limits.{max_gauges};
 ghost use Rattle.definitions.specs.RecordingText.{scan_gauges};
 ghost use Rattle.gauges.specs.Scanning.{GaugesScanned};
 
-use super::line::{GaugeRead, is_gauge, next_gauge};
-use lines::first_line;
-use rules::limits::{Limits, Refusal};
-
-// What the gauge lines gave: the refusal or 0, the place of the line that they end at, and the first `count` atoms and thresholds.
-#[derive(Clone, Copy)]
-pub struct Gauged {
-    pub number: u8,
-    pub at: usize,
-    pub count: usize,
-    pub atoms: [u32; 8],
-    pub thresholds: [i32; 8],
-}
+use super::gauge::Gauges;
+use super::line::{is_gauge, next_gauge};
+use lines::{Stop, first_line};
+use rules::limits::Limits;
 
 // The gauge lines from `start` on.
-pub fn scan_gauges(text: &[u8], start: usize) -> Gauged
+#[tactic(auto, using(crate::proofs::ScanLaws::scan_gauges_laws))]
+pub fn scan_gauges(text: &[u8], start: usize) -> Result<Gauges, Stop>
     requires { start ≤ length text.now }
     ensures { GaugesScanned (scan_gauges max_gauges [] (drop start text.now)) text.now result }
 {
-    let mut at = start;
-    let mut count = 0;
-    let mut atoms = [0u32; 8];
-    let mut thresholds = [0i32; 8];
-    while count < Limits::GAUGES {
+    let mut gauges = Gauges::none(start);
+    for _ in 0..Limits::GAUGES {
+        let at = gauges.at;
         let t = &text[at..];
         let line = first_line(t);
-        if is_gauge(&t[..line.len]) {
-            match next_gauge(count, atoms, t, line.len) {
-                GaugeRead::Gauge(atom, threshold) => {
-                    atoms[count] = atom;
-                    thresholds[count] = threshold;
-                    at = at + line.next;
-                    count += 1;
-                }
-                GaugeRead::Refused(number) => {
-                    return Gauged {
-                        number: number,
-                        at: at,
-                        count: count,
-                        atoms: atoms,
-                        thresholds: thresholds,
-                    };
-                }
-            }
-        } else {
-            return Gauged {
-                number: Refusal::NONE,
-                at: at,
-                count: count,
-                atoms: atoms,
-                thresholds: thresholds,
-            };
+        if !is_gauge(&t[..line.len]) {
+            return Ok(gauges);
+        }
+        match next_gauge(gauges.held(), t, line.len) {
+            Ok(gauge) => gauges.push(gauge, at + line.next),
+            Err(refusal) => return Err(Stop { refusal, at }),
         }
     }
-    Gauged {
-        number: Refusal::NONE,
-        at: at,
-        count: count,
-        atoms: atoms,
-        thresholds: thresholds,
-    }
+    Ok(gauges)
 }

@@ -1,3 +1,3 @@
 pub mod EmitLaws
-pub mod BlockLaws
+pub mod LayLaws
 pub mod ImageLaws

@@ -19,7 +19,10 @@ use Rattle.theorems.proofs.Choice.{by_test, both_false}
 use Rattle.lent.specs.Space.{cleared}
 use Rattle.lent.proofs.LeftLaws.{left_untouched, left_zeroed, left_filled}
 use Rattle.joint_reading.specs.Room.{Room, is_short, Clearable, Cleared}
-use Rattle.joint_reading.specs.Scanning.{refused_at, part_of, joint_values, Held, JointScanned}
+use Rattle.rules.specs.Refusals.{refusal_in}
+use Rattle.rules.specs.declared.refusal.Refusal.TheVariants.{LentShort}
+use Rattle.joint_reading.specs.declared.scan.Text.TheVariants.{Rule, Recording}
+use Rattle.joint_reading.specs.Scanning.{of_rule, kept, refused_at, part_of, joint_values, Low, Held, JointScanned}
 use Rattle.joint_reading.specs.Joining.{IsPart, heading_of, Joined, ReadJoint}
 use Rattle.joint_reading.specs.declared.scan.Found.{Found}
 
@@ -49,7 +52,7 @@ module _ (rule recording nodes masks states : List ℕ) (room : Room nodes masks
       rw (le-ltb (length nodes) max_rule_nodes room.nodes_room, le-ltb (length masks) max_controllers room.masks_room, le-ltb (length states) max_states room.states_room)
 
   module _ (f : Found) (nodes' masks' states' : List ℕ) (s : JointScanned rule recording nodes masks states f nodes' masks' states') where
-    pub join_clears : length nodes' ≡ length nodes → length masks' ≡ length masks → length states' ≡ length states → Clearable f.count f.controllers f.states nodes' masks' states'
+    pub join_clears : length nodes' ≡ length nodes → length masks' ≡ length masks → length states' ≡ length states → Clearable (kept f.read).rule.count (kept f.read).recording.controllers (kept f.read).recording.count nodes' masks' states'
     join_clears a b c =
         record {
           room = record { nodes_room = omega (arith, room.nodes_room); masks_room = omega (arith, room.masks_room); states_room = omega (arith, room.states_room) };
@@ -58,29 +61,30 @@ module _ (rule recording nodes masks states : List ℕ) (room : Room nodes masks
           states_fit = s.states_held.fits;
         }
 
-    number_is : read_joint_number rule recording nodes masks states ≡ f.number
+    number_is : read_joint_number rule recording nodes masks states ≡ (refusal_in f.read)
     number_is = whole_number ∙ sym s.number
 
     heading_is : heading_of f ≡ read_joint_heading rule recording nodes masks states
     unfolding read_joint_heading joint_values
-    heading_is = rw number_is (ap (λ (l : List ℕ). f.number ∷ l) s.values)
+    heading_is = rw number_is (ap (λ (l : List ℕ). (refusal_in f.read) ∷ l) s.values)
 
     part_is : part_of f ≡ read_joint_part rule recording nodes masks states
     unfolding read_joint_part pick
-    part_is = rw (number_is, ne_eqb f.number lent_short s.not_lent) s.part
+    part_is = rw (number_is, ne_eqb (refusal_in f.read) lent_short s.not_lent) s.part
 
     -- `join_whole`: what `scan_joint` found, with lent space cleared behind it, is `Joined`
-    pub join_done : (nodes'' masks'' states'' : List ℕ) → Cleared f.count f.controllers f.states nodes' masks' states' nodes'' masks'' states''
+    pub join_done : (nodes'' masks'' states'' : List ℕ) → Cleared (kept f.read).rule.count (kept f.read).recording.controllers (kept f.read).recording.count nodes' masks' states' nodes'' masks'' states''
         → Joined rule recording nodes masks states f nodes'' masks'' states''
     unfolding read_joint_nodes read_joint_masks read_joint_states
     join_done nodes'' masks'' states'' c =
         record {
           heading = heading_is;
+          low = s.low;
           part = part_is;
           inside = s.inside;
-          nodes_left = rw number_is (left_held max_rule_nodes f.number f.count (scan_rule rule).words nodes nodes' nodes'' s.not_lent s.nodes_held c.nodes_cleared);
-          masks_left = rw number_is (left_held max_controllers f.number f.controllers (scan_recording recording).masks masks masks' masks'' s.not_lent s.masks_held c.masks_cleared);
-          states_left = rw number_is (left_held max_states f.number f.states (scan_recording recording).states states states' states'' s.not_lent s.states_held c.states_cleared);
+          nodes_left = rw number_is (left_held max_rule_nodes (refusal_in f.read) (kept f.read).rule.count (scan_rule rule).words nodes nodes' nodes'' s.not_lent s.nodes_held c.nodes_cleared);
+          masks_left = rw number_is (left_held max_controllers (refusal_in f.read) (kept f.read).recording.controllers (scan_recording recording).masks masks masks' masks'' s.not_lent s.masks_held c.masks_cleared);
+          states_left = rw number_is (left_held max_states (refusal_in f.read) (kept f.read).recording.count (scan_recording recording).states states states' states'' s.not_lent s.states_held c.states_cleared);
         }
 
 -- ---- `join`
@@ -90,7 +94,7 @@ module _ (rule recording nodes masks states : List ℕ) (short : Bool) (is : sho
   short_number = rw (sym is ∙ e)
 
   -- `join`, 13: `read_joint_heading` has no values, the part is empty, lent space is as it was
-  pub join_short : (f : Found) → f ≡ refused_at 13 true 0 (line_length []) → Joined rule recording nodes masks states f nodes masks states
+  pub join_short : (f : Found) → f ≡ refused_at LentShort Rule 0 (line_length []) → Joined rule recording nodes masks states f nodes masks states
   unfolding read_joint_heading read_joint_part read_joint_nodes read_joint_masks read_joint_states line_length pick
   join_short f w =
       let n = short_number in
@@ -98,6 +102,7 @@ module _ (rule recording nodes masks states : List ℕ) (short : Bool) (is : sho
       (record {
         heading = rw n;
         part = rw n;
+        low = record { controller = omega arith; count = omega arith; controllers = omega arith; states = omega arith };
         inside = omega arith;
         nodes_left = left_untouched (read_joint_number rule recording nodes masks states) max_rule_nodes (scan_rule rule).words nodes n;
         masks_left = left_untouched (read_joint_number rule recording nodes masks states) max_controllers (scan_recording recording).masks masks n;
@@ -118,7 +123,10 @@ join_room nodes masks states short is e =
 
 -- ---- `read_joint`
 module _ (x y : Bor (List ℕ)) (nodes masks states : List ℕ) (f : Found) (nodes' masks' states' : List ℕ) (j : Joined x.now y.now nodes masks states f nodes' masks' states') where
-  handed : (r : Bor (List ℕ)) → IsPart (pick f.of_rule x y) r f.from f.len → ReadJoint x y nodes masks states r nodes' masks' states' (heading_of f)
+  pub heading_low : Low f.read
+  heading_low = j.low
+
+  handed : (r : Bor (List ℕ)) → IsPart (pick (of_rule f.text) x y) r f.from f.len → ReadJoint x y nodes masks states r nodes' masks' states' (heading_of f)
   handed r p =
       record {
         part = rw (← j.part) p;
@@ -128,7 +136,7 @@ module _ (x y : Bor (List ℕ)) (nodes masks states : List ℕ) (f : Found) (nod
         states_left = j.states_left;
       }
 
-  module _ (z : f.of_rule ≡ true) where
+  module _ (z : f.text ≡ Rule) where
     pub rule_inside_lem : f.from + f.len ≤ length x.now
     unfolding pick
     rule_inside_lem = rw z at j.inside
@@ -138,7 +146,7 @@ module _ (x y : Bor (List ℕ)) (nodes masks states : List ℕ) (f : Found) (nod
     unfolding pick
     rule_handed r p = handed r (rw z p)
 
-  module _ (z : f.of_rule ≡ false) where
+  module _ (z : f.text ≡ Recording) where
     pub recording_inside_lem : f.from + f.len ≤ length y.now
     unfolding pick
     recording_inside_lem = rw z at j.inside

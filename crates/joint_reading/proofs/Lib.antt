@@ -1,3 +1,2 @@
-pub mod SpaceLaws
 pub mod ScanLaws
 pub mod JoinLaws

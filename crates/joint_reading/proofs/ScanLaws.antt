@@ -1,12 +1,10 @@
 -- Laws of reading both texts: one for each return.
 use mathlib.Core.Path.{◌≡◌, refl, ap, sym, ◌∙◌}
-use mathlib.Core.Bool.{Bool, true, false}
+use mathlib.Core.Bool.{true, false}
 use mathlib.Core.List.{List, [], ◌∷◌}
 use Prim.Native.Nat.{ℕ, ◌+◌, ◌-◌, ◌<◌, ◌≤◌}
 use native.Mathlib.Omega.{arith}
 use lib.ListN.{length, take, drop, length-drop}
-use mir.Val.{Fits}
-use mir.Syntax.{w32}
 use borrow.Author.Tests.{ne_eqb, lt-ltb, le-ltb}
 use Rattle.definitions.specs.Limits.{no_controller, max_rule_nodes, max_controllers, max_states}
 use Rattle.definitions.specs.Bounded.{pick}
@@ -20,20 +18,31 @@ use Rattle.lines.proofs.PartLaws.{part_to_end}
 use Rattle.lines.specs.Reading.{FirstLine}
 use Rattle.lines.specs.declared.Line.{Line}
 use Rattle.lines.proofs.NextLaws.{length_le}
-use Rattle.rule_reader.specs.Reading.{RuleScanned}
-use Rattle.rule_reader.specs.declared.Scanned as ruled
+use Rattle.std.specs.Prelude.{Ok, Err}
+use Rattle.rules.specs.Refusals.{number_of}
+use Rattle.rules.specs.declared.refusal.Refusal.{Refusal}
+use Rattle.rules.specs.declared.refusal.Refusal.TheVariants.{NoController}
+use Rattle.rules.specs.declared.rule.RuleHeading.{RuleHeading}
+use Rattle.rules.proofs.RefusalLaws.{number_some}
+use Rattle.recordings.specs.declared.heading.RecordingHeading.{RecordingHeading}
+use Rattle.lines.specs.declared.Stop.{Stop}
+use Rattle.rule_reader.specs.Reading.{RuleAccepted, RuleRefused}
 use Rattle.theorems.proofs.TextNumbers.{recording_of_text_lem}
-use Rattle.recording_reader.specs.Scanning.{RecordingScanned}
-use Rattle.recording_reader.specs.declared.scan.Scanned as recorded
+use Rattle.recording_reader.specs.Scanning.{RecordingAccepted, RecordingRefused}
 use Rattle.recording_reader.proofs.ScanLaws.{recording_end}
-use Rattle.joint_reading.specs.Scanning.{refused_at, joint_values, Held, JointScanned}
+use Rattle.joint_reading.specs.Scanning.{refused_at, joint_values, Low, Held, JointScanned}
 use Rattle.joint_reading.specs.declared.scan.Found.{Found}
+use Rattle.joint_reading.specs.declared.scan.Text.{Text}
+use Rattle.joint_reading.specs.declared.scan.Text.TheVariants.{Rule, Recording}
 
 -- ---- `refused_at`
--- `refused_at`: the number, no values and the line that begins there are `refused_at`
-pub refused_line_lem : (number at : ℕ) (l : Line) (z : Bool) (s : List ℕ) → FirstLine (take (length s - at) (drop at s)) l
-    → record { number = number; controller = 0; count = 0; controllers = 0; states = 0; of_rule = z; from = at; len = l.len } ≡ refused_at number z at (line_length (drop at s))
-refused_line_lem number at l z s e = ap (refused_at number z at) (e.length_is ∙ ap line_length (part_to_end s at))
+-- `refused_at`: the refusal and the line that begins there are `refused_at`
+pub refused_line_lem : (e : Refusal) (text : Text) (at : ℕ) (l : Line) (s : List ℕ) → FirstLine (take (length s - at) (drop at s)) l
+    → record { read = Err e; text = text; from = at; len = l.len } ≡ refused_at e text at (line_length (drop at s))
+refused_line_lem e text at l s f = ap (refused_at e text at) (f.length_is ∙ ap line_length (part_to_end s at))
+
+low_none : (e : Refusal) → Low (Err e)
+low_none e = record { controller = omega arith; count = omega arith; controllers = omega arith; states = omega arith }
 
 -- ---- lent space
 held_refused : (full number : ℕ) (content entry exit : List ℕ) → (number ≡ 0 → ⊥) → drop full exit ≡ drop full entry → Held full number 0 content entry exit
@@ -95,103 +104,105 @@ line_inside : (t : List ℕ) (at : ℕ) → at ≤ length t → at + line_length
 line_inside t at h = omega (arith, length_le (drop at t), length-drop at t)
 
 -- ---- `scan_joint`
-module _ (rule recording nodes masks states nodes' : List ℕ) (u : ruled.Scanned) (s : RuleScanned rule nodes u nodes') where
+module _ (rule recording nodes masks states nodes' : List ℕ) (past : drop max_rule_nodes nodes' ≡ drop max_rule_nodes nodes) where
   -- `scan_joint`, the rule is refused: `joint_part` is the rule's refused line
-  pub rule_refused : (f : Found) → (u.number ≡ 0 → ⊥) → f ≡ refused_at u.number true u.rest_at (line_length (drop u.rest_at rule))
+  pub rule_refused : (u : Stop) → RuleRefused rule u → (f : Found) → f ≡ refused_at u.refusal Rule u.at (line_length (drop u.at rule))
       → JointScanned rule recording nodes masks states f nodes' masks states
   unfolding pick
-  rule_refused f z e =
+  rule_refused u s f e =
+      let z = number_some u.refusal in
       let y : (scan_rule rule).number ≡ 0 → ⊥ = λ q. z (s.number ∙ q) in
       rw e
       (record {
         number = s.number ∙ sym (rule_number rule recording y);
         not_lent = λ q. omega (arith, s.low);
-        values = refused_values rule recording u.number z;
+        values = refused_values rule recording (number_of u.refusal) z;
+        low = low_none u.refusal;
         part = rw (s.rest, s.place) (sym (rule_part rule recording y));
-        inside = line_inside rule u.rest_at s.inside;
-        nodes_held = held_refused max_rule_nodes u.number (scan_rule rule).words nodes nodes' z s.nodes_past;
-        masks_held = held_refused max_controllers u.number (scan_recording recording).masks masks masks z refl;
-        states_held = held_refused max_states u.number (scan_recording recording).states states states z refl;
+        inside = line_inside rule u.at s.inside;
+        nodes_held = held_refused max_rule_nodes (number_of u.refusal) (scan_rule rule).words nodes nodes' z past;
+        masks_held = held_refused max_controllers (number_of u.refusal) (scan_recording recording).masks masks masks z refl;
+        states_held = held_refused max_states (number_of u.refusal) (scan_recording recording).states states states z refl;
       })
 
-  module _ (a : u.number ≡ 0) where
+  module _ (laid_nodes : nodes' ≡ laid (scan_rule rule).words nodes) (u : RuleHeading) (s : RuleAccepted rule u) (masks' states' : List ℕ)
+      (masks_past : drop max_controllers masks' ≡ drop max_controllers masks) (states_past : drop max_states states' ≡ drop max_states states) where
     ruled_number : (scan_rule rule).number ≡ 0
-    ruled_number = sym s.number ∙ a
+    ruled_number = sym s.number
 
-    module _ (masks' states' : List ℕ) (v : recorded.Scanned) (t : RecordingScanned recording masks states v masks' states') where
-      -- `scan_joint`, the recording is refused: `joint_part` is the recording's refused line
-      pub recording_refused : (f : Found) → (v.number ≡ 0 → ⊥) → f ≡ refused_at v.number false v.rest_at (line_length (drop v.rest_at recording))
+    -- `scan_joint`, the recording is refused: `joint_part` is the recording's refused line
+    pub recording_refused : (v : Stop) → RecordingRefused recording v → (f : Found) → f ≡ refused_at v.refusal Recording v.at (line_length (drop v.at recording))
+        → JointScanned rule recording nodes masks states f nodes' masks' states'
+    unfolding pick
+    recording_refused v t f e =
+        let z = number_some v.refusal in
+        let y : (scan_recording recording).number ≡ 0 → ⊥ = λ q. z (t.number ∙ q) in
+        rw e
+        (record {
+          number = t.number ∙ sym (recording_number rule recording ruled_number y);
+          not_lent = t.not_lent;
+          values = refused_values rule recording (number_of v.refusal) z;
+          low = low_none v.refusal;
+          part = rw (t.rest, t.place) (sym (recording_part rule recording ruled_number y));
+          inside = line_inside recording v.at t.inside;
+          nodes_held = held_refused max_rule_nodes (number_of v.refusal) (scan_rule rule).words nodes nodes' z past;
+          masks_held = held_refused max_controllers (number_of v.refusal) (scan_recording recording).masks masks masks' z masks_past;
+          states_held = held_refused max_states (number_of v.refusal) (scan_recording recording).states states states' z states_past;
+        })
+
+    module _ (laid_states : states' ≡ laid (scan_recording recording).states states) (v : RecordingHeading) (t : RecordingAccepted recording masks v masks') where
+      recorded_number : (scan_recording recording).number ≡ 0
+      recorded_number = sym t.number
+
+      -- `scan_joint`, 11: `joint_part` is the rule's first line
+      pub joining_refused : (f : Found) → v.controllers ≤ u.controller → f ≡ refused_at NoController Rule 0 (line_length rule)
           → JointScanned rule recording nodes masks states f nodes' masks' states'
       unfolding pick
-      recording_refused f z e =
-          let y : (scan_recording recording).number ≡ 0 → ⊥ = λ q. z (t.number ∙ q) in
+      joining_refused f h e =
+          let l : (scan_recording recording).controllers ≤ (scan_rule rule).controller = omega (arith, s.controller, t.controllers) in
+          let o : length rule - length rule ≡ 0 = omega arith in
+          let z = number_some NoController in
           rw e
           (record {
-            number = t.number ∙ sym (recording_number rule recording ruled_number y);
-            not_lent = t.not_lent;
-            values = refused_values rule recording v.number z;
-            part = rw (t.rest, t.place) (sym (recording_part rule recording ruled_number y));
-            inside = line_inside recording v.rest_at t.inside;
-            nodes_held = held_refused max_rule_nodes v.number (scan_rule rule).words nodes nodes' z s.nodes_past;
-            masks_held = held_refused max_controllers v.number (scan_recording recording).masks masks masks' z t.masks_past;
-            states_held = held_refused max_states v.number (scan_recording recording).states states states' z t.states_past;
+            number = sym (joining_number rule recording ruled_number recorded_number l);
+            not_lent = λ (q : ◌≡◌ {A = ℕ} 11 13). omega arith;
+            values = refused_values rule recording 11 z;
+            low = low_none NoController;
+            part = rw o at (sym (joining_part rule recording ruled_number recorded_number l));
+            inside = omega (arith, length_le rule);
+            nodes_held = held_refused max_rule_nodes 11 (scan_rule rule).words nodes nodes' z past;
+            masks_held = held_refused max_controllers 11 (scan_recording recording).masks masks masks' z masks_past;
+            states_held = held_refused max_states 11 (scan_recording recording).states states states' z states_past;
           })
 
-      module _ (b : v.number ≡ 0) where
-        recorded_number : (scan_recording recording).number ≡ 0
-        recorded_number = sym t.number ∙ b
+      module _ (h : u.controller < v.controllers) where
+        below : (scan_rule rule).controller < (scan_recording recording).controllers
+        below = omega (arith, s.controller, t.controllers)
 
-        -- `scan_joint`, 11: `joint_part` is the rule's first line
-        pub joining_refused : (f : Found) → v.controllers ≤ u.controller → f ≡ refused_at 11 true 0 (line_length rule)
-            → JointScanned rule recording nodes masks states f nodes' masks' states'
+        end_part : record { of_rule = false; from = length recording; count = 0 } ≡ line_in false recording (scan_recording recording).rest
+        end_part =
+            let r = recording_end recording recorded_number in
+            let o : length recording - length (scan_recording recording).rest ≡ length recording = omega arith in
+            let c : line_length (scan_recording recording).rest ≡ 0 = omega (arith, length_le (scan_recording recording).rest) in
+            rw (o, c)
+
+        accepted_values : ◌≡◌ {A = List ℕ} (u.controller ∷ u.count ∷ v.controllers ∷ v.count ∷ []) (joint_values 0 rule recording)
+        unfolding joint_values pick
+        accepted_values = rw (s.controller, s.count, t.controllers, t.count)
+
+        -- `scan_joint`, accepted: `joint_values` are the two headings, `joint_part` is empty at the recording's end
+        pub joint_accepted :
+            JointScanned rule recording nodes masks states (record { read = Ok (record { rule = u; recording = v }); text = Recording; from = length recording; len = 0 }) nodes' masks' states'
         unfolding pick
-        joining_refused f h e =
-            let l : (scan_recording recording).controllers ≤ (scan_rule rule).controller = omega (arith, s.controller, t.controllers) in
-            let o : length rule - length rule ≡ 0 = omega arith in
-            let p : line_in true rule rule ≡ record { of_rule = true; from = 0; count = line_length rule } = rw o in
-            let z : ◌≡◌ {A = ℕ} 11 0 → ⊥ = λ q. omega arith in
-            rw e
-            (record {
-              number = sym (joining_number rule recording ruled_number recorded_number l);
-              not_lent = λ q. omega arith;
-              values = refused_values rule recording 11 z;
-              part = sym p ∙ sym (joining_part rule recording ruled_number recorded_number l);
-              inside = omega (arith, length_le rule);
-              nodes_held = held_refused max_rule_nodes 11 (scan_rule rule).words nodes nodes' z s.nodes_past;
-              masks_held = held_refused max_controllers 11 (scan_recording recording).masks masks masks' z t.masks_past;
-              states_held = held_refused max_states 11 (scan_recording recording).states states states' z t.states_past;
-            })
-
-        module _ (h : u.controller < v.controllers) where
-          below : (scan_rule rule).controller < (scan_recording recording).controllers
-          below = omega (arith, s.controller, t.controllers)
-
-          end_part : record { of_rule = false; from = length recording; count = 0 } ≡ line_in false recording (scan_recording recording).rest
-          end_part =
-              let r = recording_end recording recorded_number in
-              let o : length recording - length (scan_recording recording).rest ≡ length recording = omega arith in
-              let c : line_length (scan_recording recording).rest ≡ 0 = omega (arith, length_le (scan_recording recording).rest) in
-              rw (o, c)
-
-          accepted_values : ◌≡◌ {A = List ℕ} (u.controller ∷ u.count ∷ v.controllers ∷ v.count ∷ []) (joint_values 0 rule recording)
-          unfolding joint_values pick
-          accepted_values = rw (s.controller, s.count, t.controllers, t.count)
-
-          -- `scan_joint`, accepted: `joint_values` are the two headings, `joint_part` is empty at the recording's end
-          pub joint_accepted : JointScanned rule recording nodes masks states (record { number = 0; controller = u.controller; count = u.count; controllers = v.controllers; states = v.count; of_rule = false; from = length recording; len = 0 }) nodes' masks' states'
-          unfolding pick
-          joint_accepted =
-              record {
-                number = sym (accepted_number rule recording ruled_number recorded_number below);
-                not_lent = λ q. omega arith;
-                values = accepted_values;
-                part = end_part ∙ sym (accepted_part rule recording ruled_number recorded_number below);
-                inside = omega arith;
-                nodes_held = held_laid max_rule_nodes u.count (scan_rule rule).words nodes nodes' s.few (s.nodes_count a) s.nodes_laid s.nodes_past;
-                masks_held = held_laid max_controllers v.controllers (scan_recording recording).masks masks masks' t.few (t.masks_count b) (t.masks_laid b) t.masks_past;
-                states_held = held_laid max_states v.count (scan_recording recording).states states states' t.short (t.states_count b) t.states_laid t.states_past;
-              }
-
--- the node count of a rule is a word
-pub count_fits_lem : (rule nodes nodes' : List ℕ) (u : ruled.Scanned) → RuleScanned rule nodes u nodes' → Fits w32 u.count
-count_fits_lem rule nodes nodes' u s = omega (arith, s.few)
+        joint_accepted =
+            record {
+              number = sym (accepted_number rule recording ruled_number recorded_number below);
+              not_lent = λ (q : ◌≡◌ {A = ℕ} 0 13). omega arith;
+              values = accepted_values;
+              low = record { controller = omega (arith, t.few); count = omega (arith, s.few); controllers = omega (arith, t.few); states = t.short };
+              part = end_part ∙ sym (accepted_part rule recording ruled_number recorded_number below);
+              inside = omega arith;
+              nodes_held = held_laid max_rule_nodes u.count (scan_rule rule).words nodes nodes' s.few s.nodes_count laid_nodes past;
+              masks_held = held_laid max_controllers v.controllers (scan_recording recording).masks masks masks' t.few t.masks_count t.masks_laid masks_past;
+              states_held = held_laid max_states v.count (scan_recording recording).states states states' t.short t.states_count laid_states states_past;
+            }

@@ -5,12 +5,13 @@
 pub mod scan;
 pub mod space;
 
-ghost use Rattle.std.specs.Prelude.{◌≤◌, ◌+◌, length};
+ghost use Rattle.std.specs.Prelude.{◌≡◌, ◌≤◌, ◌+◌, length};
 ghost use Rattle.joint_reading.specs.Room.{Room};
-ghost use Rattle.joint_reading.specs.Joining.{IsPart, Joined, ReadJoint};
+ghost use Rattle.joint_reading.specs.Scanning.{Low};
+ghost use Rattle.joint_reading.specs.Joining.{IsPart, heading_in, Joined, ReadJoint};
 
-use rules::limits::Refusal;
-use scan::{Found, refused_at, scan_joint};
+use rules::refusal::Refusal;
+use scan::{Found, Text, kept, refused_at, scan_joint};
 use space::{clear_past, is_short};
 
 // Reads both texts into lent space of full size, and zeroes its unused entries: after a refusal, all.
@@ -25,14 +26,7 @@ fn join_whole(
     ensures { Joined rule.now recording.now nodes.old masks.old states.old result nodes.new masks.new states.new }
 {
     let found = scan_joint(rule, recording, nodes, masks, states);
-    clear_past(
-        nodes,
-        masks,
-        states,
-        found.count as usize,
-        found.controllers as usize,
-        found.states as usize,
-    );
+    clear_past(nodes, masks, states, kept(found.read));
     found
 }
 
@@ -47,12 +41,30 @@ pub fn join(
     ensures { Joined rule.now recording.now nodes.old masks.old states.old result nodes.new masks.new states.new }
 {
     if is_short(nodes, masks, states) {
-        return refused_at(Refusal::LENT_SHORT, true, &rule[..0], 0);
+        return refused_at(Refusal::LentShort, Text::Rule, &rule[..0], 0);
     }
     join_whole(rule, recording, nodes, masks, states)
 }
 
+// The number, controller, node count, C and N: zeros beside a refusal's number.
+fn heading_in(read: Result<scan::Joined, Refusal>) -> [u32; 5]
+    requires { Low read }
+    ensures { result ≡ heading_in read }
+{
+    match read {
+        Ok(joined) => [
+            0,
+            joined.rule.controller as u32,
+            joined.rule.count as u32,
+            joined.recording.controllers as u32,
+            joined.recording.count as u32,
+        ],
+        Err(refusal) => [refusal.number() as u32, 0, 0, 0, 0],
+    }
+}
+
 // The part of `text` of `len` bytes from `from` on.
+#[tactic(auto, using(crate::proofs::JoinLaws::part_laws))]
 fn part<'a>(text: &'a [u8], from: usize, len: usize) -> &'a [u8]
     requires { from + len ≤ length text.now }
     ensures { IsPart text.entry result from len }
@@ -72,15 +84,9 @@ pub fn read_joint<'a>(
     ensures { ReadJoint rule.entry recording.entry nodes.old masks.old states.old result nodes.new masks.new states.new heading.new }
 {
     let found = join(rule, recording, nodes, masks, states);
-    *heading = [
-        found.number as u32,
-        found.controller,
-        found.count,
-        found.controllers,
-        found.states,
-    ];
-    if found.of_rule {
-        return part(rule, found.from, found.len);
+    *heading = heading_in(found.read);
+    match found.text {
+        Text::Rule => part(rule, found.from, found.len),
+        Text::Recording => part(recording, found.from, found.len),
     }
-    part(recording, found.from, found.len)
 }

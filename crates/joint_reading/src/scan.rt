@@ -2,39 +2,69 @@
 ghost use Rattle.std.specs.Prelude.{◌≡◌, ◌≤◌, length, drop};
 ghost use Rattle.definitions.specs.Lines.{line_length};
 ghost use Rattle.joint_reading.specs.Room.{Room};
-ghost use Rattle.joint_reading.specs.Scanning.{refused_at, JointScanned};
+ghost use Rattle.joint_reading.specs.Scanning.{refused_at, kept, JointScanned};
 
 use lines::first_line;
 use recording_reader::scan::scan_recording;
+use recordings::heading::RecordingHeading;
 use rule_reader::scan_rule;
-use rules::limits::Refusal;
+use rules::refusal::Refusal;
+use rules::rule::RuleHeading;
 
-// The number and, accepted, controller, node count, C and N; and the part handed back: of which text, from where, how long.
+// Which of the two texts.
+#[derive(Clone, Copy, PartialEq, Eq)]
+pub enum Text {
+    Rule,
+    Recording,
+}
+
+// What stands before the nodes, and before the masks and states.
+#[derive(Clone, Copy)]
+pub struct Joined {
+    pub rule: RuleHeading,
+    pub recording: RecordingHeading,
+}
+
+// What was read, or the refusal; and the part handed back: of which text, from where, how long.
 #[derive(Clone, Copy)]
 pub struct Found {
-    pub number: u8,
-    pub controller: u32,
-    pub count: u32,
-    pub controllers: u32,
-    pub states: u32,
-    pub of_rule: bool,
+    pub read: Result<Joined, Refusal>,
+    pub text: Text,
     pub from: usize,
     pub len: usize,
 }
 
-// A refusal with the line that begins at `at`, without its ending.
-pub fn refused_at(number: u8, of_rule: bool, text: &[u8], at: usize) -> Found
-    requires { at ≤ length text.now }
-    ensures { result ≡ refused_at number of_rule at (line_length (drop at text.now)) }
-{
-    let line = first_line(&text[at..]);
-    Found {
-        number: number,
+// Refused, nothing that was read counts.
+const NOTHING: Joined = Joined {
+    rule: RuleHeading {
         controller: 0,
         count: 0,
+    },
+    recording: RecordingHeading {
         controllers: 0,
-        states: 0,
-        of_rule: of_rule,
+        count: 0,
+    },
+};
+
+// What of lent space is kept.
+pub fn kept(read: Result<Joined, Refusal>) -> Joined
+    ensures { result ≡ kept read }
+{
+    match read {
+        Ok(joined) => joined,
+        Err(_) => NOTHING,
+    }
+}
+
+// A refusal with the line that begins at `at`, without its ending.
+pub fn refused_at(refusal: Refusal, text: Text, bytes: &[u8], at: usize) -> Found
+    requires { at ≤ length bytes.now }
+    ensures { result ≡ refused_at refusal text at (line_length (drop at bytes.now)) }
+{
+    let line = first_line(&bytes[at..]);
+    Found {
+        read: Err(refusal),
+        text,
         from: at,
         len: line.len,
     }
@@ -51,25 +81,25 @@ pub fn scan_joint(
     requires { Room nodes.old masks.old states.old }
     ensures { JointScanned rule.now recording.now nodes.old masks.old states.old result nodes.new masks.new states.new }
 {
-    let ruled = scan_rule(rule, nodes);
-    if ruled.number != Refusal::NONE {
-        return refused_at(ruled.number, true, rule, ruled.rest_at);
+    let ruled = match scan_rule(rule, nodes) {
+        Ok(heading) => heading,
+        Err(stop) => return refused_at(stop.refusal, Text::Rule, rule, stop.at),
+    };
+    let recorded = match scan_recording(recording, masks, states) {
+        Ok(heading) => heading,
+        Err(stop) => return refused_at(stop.refusal, Text::Recording, recording, stop.at),
+    };
+    if recorded.controllers <= ruled.controller {
+        return refused_at(Refusal::NoController, Text::Rule, rule, 0);
     }
-    let recorded = scan_recording(recording, masks, states);
-    if recorded.number != Refusal::NONE {
-        return refused_at(recorded.number, false, recording, recorded.rest_at);
+    let joined = Joined {
+        rule: ruled,
+        recording: recorded,
+    };
+    Found {
+        read: Ok(joined),
+        text: Text::Recording,
+        from: recording.len(),
+        len: 0,
     }
-    if ruled.controller < recorded.controllers {
-        return Found {
-            number: Refusal::NONE,
-            controller: ruled.controller as u32,
-            count: ruled.count as u32,
-            controllers: recorded.controllers as u32,
-            states: recorded.count as u32,
-            of_rule: false,
-            from: recording.len(),
-            len: 0,
-        };
-    }
-    refused_at(Refusal::NO_CONTROLLER, true, rule, 0)
 }

@@ -1,15 +1,6 @@
 -- One law for each need of judging a rule on its local trace.
-use mathlib.Core.Path.{◌≡◌, refl, sym, ap, ◌∙◌}
-use mathlib.Core.Bool.{false}
-use mathlib.Core.List.{List, ◌++◌, append_assoc}
-use Prim.Native.Nat.{ℕ, suc, ◌+◌, ◌*◌, ◌-◌, ◌<◌, ◌≤◌}
-use native.Mathlib.Numerals.{add-one}
-use native.Mathlib.Omega.{arith}
-use lib.ListN.{length, take, drop, get_or, set, length-append, length-drop}
-use lib.Seq.{take_at, drop_at, drop-drop, take-suc, set_split, length-take-le}
-use borrow.Author.Rules.{rules}
+use Rattle.std.proofs.Common.{rules, ℕ, ◌+◌, ◌*◌, ◌-◌, ◌<◌, ◌≤◌, ◌≡◌, ◌≢◌, refl, sym, ap, ◌∙◌, false, List, [], ◌++◌, Ok, length, take, drop, get_or, set, length-append, length-drop, length-set, length-take-le, take_at, take-append-drop, get_or-set_other, get_or-set_same, ext_get_or, below_more, arith}
 use Rattle.definitions.specs.Limits.{max_states, max_rule_nodes, pair_words, accepted}
-use Rattle.definitions.specs.Bounded.{or_else}
 use Rattle.definitions.specs.Nodes.{Node}
 use Rattle.definitions.specs.Tables.{Rule, rule_of, rule_refusal, nodes_refusal, nodes_in}
 use Rattle.definitions.specs.Recordings.{Recording, recording_of, mask_of, recording_refusal, controller_refusal}
@@ -22,7 +13,11 @@ use Rattle.theorems.proofs.NodeLaws.{accepted_rule}
 use Rattle.theorems.proofs.RuleNodes.{rule_some, rule_few, rule_length_lem}
 use Rattle.theorems.proofs.ScheduleIndependence.{Accepted}
 use Rattle.lent.specs.Space.{laid}
+use Rattle.rules.specs.Refusals.{number_of}
+use Rattle.rules.specs.declared.refusal.Refusal.{Refusal}
+use Rattle.rules.proofs.RefusalLaws.{refusals}
 use Rattle.recordings.specs.Joining.{joined_refusal}
+use Rattle.recordings.proofs.NumberLaws.{refusal_alone}
 use Rattle.recordings.proofs.WordLaws.{own_mask_lem}
 use Rattle.projection.specs.Places.{runs_in, places_in, Projectable}
 use Rattle.projection.proofs.LengthLaws.{length_of}
@@ -33,51 +28,13 @@ use Rattle.evaluation.proofs.TableLaws.{rows_length}
 use Rattle.rules.proofs.NodeLists.{nodes_length}
 use Rattle.rows.proofs.StoredLaws.{pairs_length}
 use Rattle.judges.specs.declared.verdicts.Verdicts.{Verdicts}
-use Rattle.judges.specs.declared.verdicts.Judgement.TheVariants.{Judged, Refused}
 use Rattle.judges.specs.Verdicts.{meant, answer_of, own_verdicts, Topped, tops_in}
 use Rattle.judges.specs.Local.{places_of, trace_of, verdicts_on, TraceReady, TraceIs, LocalReady, RowsReady, LocalRows}
 use Rattle.judges.specs.declared.local.LocalTrace.{LocalTrace}
 use Rattle.judges.proofs.CheckedNodes.{nodes_fit, nodes_there_lem}
 use Rattle.judges.proofs.TraceLaws.{local_rows_lem}
 use Rattle.judges.proofs.TopLaws.{topped, tops_verdicts}
-use Rattle.judges.proofs.WholeLaws.{answer_refused, accepted_controller}
-
--- ---- places widened
-
--- before place i: the places before it are laid
-pub record Widening (words : List ℕ) (n : ℕ) (entry : List ℕ) (i : ℕ) (l : List ℕ) : Type 0 where
-  pub within : i ≤ n
-  pub laid : l ≡ take i words ++ drop i entry
-
--- `widen`, before the first turn: no place is laid
-pub widening_none : (words : List ℕ) (n : ℕ) (entry : List ℕ) → Widening words n entry 0 entry
-widening_none words n entry = record { within = omega arith; laid = refl }
-
-module _ (words : List ℕ) (n : ℕ) (entry : List ℕ) (i : ℕ) (l : List ℕ) (there : n ≤ length words) (room : n ≤ length entry) (so : Widening words n entry i l) where
-  front_length : length (take i words) ≡ i
-  front_length = length-take-le i words (omega (arith, so.within))
-
-  pub widening_length : length l ≡ length entry
-  widening_length = ap length so.laid ∙ rw (length-append, front_length, length-drop) (omega (arith, so.within))
-
-  pub widening_room : i < n → i < length l
-  widening_room h = omega (arith, widening_length)
-
-  -- `widen`, a turn: one place more is laid
-  pub widening_more : i < n → Widening words n entry (i + 1) (set l i (get_or words i 0))
-  widening_more h =
-      let front : take i l ≡ take i words = ap (take i) so.laid ∙ take_at (take i words) (drop i entry) i front_length in
-      let back : drop i l ≡ drop i entry = ap (drop i) so.laid ∙ drop_at (take i words) (drop i entry) i front_length in
-      let sum : i + 1 ≡ suc i = add-one i in
-      let past : drop (suc i) l ≡ drop (suc i) entry = rw sum at (sym (drop-drop 1 i l) ∙ ap (drop 1) back ∙ drop-drop 1 i entry) in
-      record {
-        within = omega arith;
-        laid = set_split l i (get_or words i 0) (omega (arith, widening_length)) ∙ rw (sum, front, past, take-suc words i 0 (omega arith), append_assoc);
-      }
-
-  -- `widen`, all places are laid: the first n words, and what was lent behind them
-  pub widening_done : n ≤ i → l ≡ take n words ++ drop n entry
-  widening_done h = let e : i ≡ n = omega (arith, so.within) in rw e at so.laid
+use Rattle.judges.proofs.WholeLaws.{accepted_controller}
 
 -- ---- the local trace of an accepted recording
 
@@ -125,46 +82,44 @@ module _ (c count : ℕ) (nodes : List ℕ) (l : LocalTrace) (rows : List ℕ) (
   nodes_accepted : nodes_refusal false 0 count nodes ≡ 0
   nodes_accepted = (accepted_rule r ready.ready.rule).1
 
-  pub rows_there : l.count ≤ length l.words
-  rows_there = ready.ready.there
-
-  pub rows_room_lem : (places : List ℕ) → max_states ≤ length places → l.count ≤ length places
-  rows_room_lem places room = omega (arith, ready.ready.few)
-
-  module _ (places places' : List ℕ) (w : places' ≡ take l.count l.words ++ drop l.count places) where
+  module _ (places : List ℕ) (room : max_states ≤ length places) (w : take l.count places ≡ places_of l) where
     abbrev content : List ℕ
     content = places_of l
 
     size : length content ≡ l.count
     size = length-take-le l.count l.words ready.ready.there
 
-    pub rows_evaluable : Evaluable nodes count places' l.count 0 rows
+    -- the places, and what stands past them
+    split : places ≡ content ++ drop l.count places
+    split = sym (take-append-drop l.count places) ∙ ap (λ (p : List ℕ). p ++ drop l.count places) w
+
+    pub rows_evaluable : Evaluable nodes count places l.count 0 rows
     rows_evaluable = record {
       counted = nodes_there_lem false 0 count nodes nodes_accepted;
       fit = nodes_fit false count nodes nodes_accepted;
       few = ready.ready.few;
-      there = rw (w, length-append) (omega (arith, size));
+      there = omega (arith, ready.ready.few);
       controller = omega arith;
       room = omega (arith, rule_few r ready.ready.rule, ready.room);
     }
 
-    -- `local_rows`: the rows evaluated over the widened places are `rows_of` the local trace
-    pub rows_laid_lem : (rows' : List ℕ) → rows' ≡ pairs_words (rows_to nodes count places' l.count 0 l.mask) ++ drop (count * pair_words) rows → LocalRows r l rows rows'
+    -- `local_rows`: the rows evaluated over the places are `rows_of` the local trace
+    pub rows_laid_lem : (rows' : List ℕ) → rows' ≡ pairs_words (rows_to nodes count places l.count 0 l.mask) ++ drop (count * pair_words) rows → LocalRows r l rows rows'
     rows_laid_lem rows' evaluated =
         let L : ℕ = l.count in
         let mask : ℕ = l.mask in
-        let same : rows_of (trace_of l) (nodes_in count nodes) ≡ rows_to nodes count places' L 0 mask =
-        rows_same mask count nodes content (drop L places) L size nodes_accepted ∙ ap (λ (p : List ℕ). rows_to nodes count p L 0 mask) (sym w) in
+        let same : rows_of (trace_of l) (nodes_in count nodes) ≡ rows_to nodes count places L 0 mask =
+        rows_same mask count nodes content (drop L places) L size nodes_accepted ∙ ap (λ (p : List ℕ). rows_to nodes count p L 0 mask) (sym split) in
         let ns : length (nodes_in count nodes) ≡ count = nodes_length nodes count rows_evaluable.counted in
-        let len : length (pairs_words (rows_to nodes count places' L 0 mask)) ≡ count * pair_words =
-        omega (arith, pairs_length (rows_to nodes count places' L 0 mask), rows_length (leaves.trace_of places' L 0 mask) (nodes_in count nodes)) in
+        let len : length (pairs_words (rows_to nodes count places L 0 mask)) ≡ count * pair_words =
+        omega (arith, pairs_length (rows_to nodes count places L 0 mask), rows_length (leaves.trace_of places L 0 mask) (nodes_in count nodes)) in
         record {
           rows = evaluated ∙ rw (same, len);
           room =
               omega (
                 arith,
                 ap length evaluated,
-                length-append (pairs_words (rows_to nodes count places' L 0 mask)) (drop (count * pair_words) rows),
+                length-append (pairs_words (rows_to nodes count places L 0 mask)) (drop (count * pair_words) rows),
                 len,
                 length-drop (count * pair_words) rows,
                 rule_few r ready.ready.rule,
@@ -209,32 +164,25 @@ module _ (c count : ℕ) (nodes : List ℕ) (l : LocalTrace) (given : LocalReady
         tops_verdicts t ns rows rest (count - 1) (count - 1) few own.rows below below v e
         ∙ ap (λ (m : ℕ). verdicts t ns (m - 1) (m - 1)) (sym all)
 
--- ---- the check, and the answers
+-- ---- the answers
 
--- `local_refusal`: `rule_refusal`, or else `joined_refusal`, is `judge_local_number`
-pub local_number : (r : Rule) (R : Recording) (refusal trace number : ℕ) → refusal ≡ rule_refusal r → trace ≡ joined_refusal R r.controller → number ≡ or_else refusal trace
-    → number ≡ judge_local_number r R
-unfolding judge_local_number
-local_number r R refusal trace number a b e = cc
-
-module _ (c count : ℕ) (nodes : List ℕ) (C n : ℕ) (masks states : List ℕ) (number : ℕ)
-    (e : number ≡ judge_local_number (rule_of c count nodes) (recording_of C n masks states)) where
+module _ (c count : ℕ) (nodes : List ℕ) (C n : ℕ) (masks states : List ℕ) where
   abbrev rule : Rule
   rule = rule_of c count nodes
 
   abbrev recording : Recording
   recording = recording_of C n masks states
 
-  -- `judge_local`, refused: `judge_local_answer` is that number
-  pub local_refused : (number ≡ 0 → ⊥) → answer_of (Refused number) ≡ judge_local_answer rule recording
+  -- `judge_local`, refused: its number alone
+  pub local_refused : (e : Refusal) → number_of e ≡ judge_local_number rule recording → answer (number_of e) [] ≡ judge_local_answer rule recording
   unfolding judge_local_answer
-  local_refused some = rw (← e) (answer_refused number (verdict_values (local_verdicts (nodes_in count nodes) (mask_of recording c) (local_trace recording c))) some)
+  local_refused e r = refusal_alone e _ _ r
 
-  module _ (none : number ≡ 0) where
+  module _ (none : accepted ≡ judge_local_number rule recording) where
     pub local_accepted : Accepted rule recording
     unfolding judge_local_number
     local_accepted =
-        let p = or_else_none (rule_refusal rule) (joined_refusal recording c) (sym e ∙ none) in
+        let p = or_else_none (rule_refusal rule) (joined_refusal recording c) (sym none) in
         let q = or_else_none (recording_refusal recording) (controller_refusal C c) p.1 in
         record { rule = p.0; recording = q.0; controller = accepted_controller C c q.1 }
 
@@ -246,17 +194,16 @@ module _ (c count : ℕ) (nodes : List ℕ) (C n : ℕ) (masks states : List ℕ
       local_ready = record { rule = local_accepted.rule; few = is.few; there = is.there }
 
       -- `judge_local`, accepted: `judge_local_answer` is the two verdicts
-      pub local_judged : (v : Verdicts) → meant v ≡ verdicts_on rule l → answer_of (Judged v) ≡ judge_local_answer rule recording
-      unfolding answer_of judge_local_answer
-      local_judged v a = let own : meant v ≡ own_verdicts rule recording = a ∙ trace_verdicts rule recording l is in
-          rw (← e, none) (ap (λ (x : readings.Verdicts). answer accepted (verdict_values x)) own)
-
-pub ruleset widen_laws = (rules, widening_none, widening_length, widening_room, widening_more, widening_done)
+      pub local_judged : (v : Verdicts) → meant v ≡ verdicts_on rule l → answer_of (Ok v) ≡ judge_local_answer rule recording
+      unfolding judge_local_answer
+      local_judged v a =
+          let own : meant v ≡ own_verdicts rule recording = a ∙ trace_verdicts rule recording l is in
+          rw (← none) (ap (λ (x : readings.Verdicts). answer accepted (verdict_values x)) own)
 
 pub ruleset trace_laws = (rules, trace_projectable, trace_is)
 
-pub ruleset rows_laws = (rules, rows_there, rows_room_lem, rows_evaluable, rows_laid_lem)
+pub ruleset rows_laws = (rules, rows_evaluable, rows_laid_lem)
 
 pub ruleset own_laws = (rules, own_ready, own_some, own_topped, own_judged)
 
-pub ruleset local_laws = (rules, local_number, local_refused, local_traced, local_ready, local_judged)
+pub ruleset local_laws = (refusals, local_refused, local_traced, local_ready, local_judged)

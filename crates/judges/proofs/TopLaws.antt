@@ -11,7 +11,7 @@ use Rattle.definitions.specs.Nodes.{Node}
 use Rattle.definitions.specs.Readings.{Trace, no_rows, rows_of, verdict, pairs_words, verdicts}
 use Rattle.rows.specs.declared.Row.{Row}
 use Rattle.mark_words.specs.Marks.{mark_at}
-use Rattle.rows.specs.Marks.{marks, Whole, Made}
+use Rattle.rows.specs.Marks.{marks, Made}
 use Rattle.rows.specs.Stored.{row_at}
 use Rattle.rows.proofs.StoredLaws.{pairs_length}
 use Rattle.rows.specs.Pairs.{pair_at, pair_of_node}
@@ -21,12 +21,6 @@ use Rattle.judges.specs.declared.verdicts.Verdicts.{Verdicts}
 use Rattle.judges.specs.Verdicts.{meant, Topped, tops_in}
 
 module _ (rows : List ℕ) (weak_top strong_top : ℕ) where
-  pub weak_whole : (r : Row) → Topped rows weak_top strong_top → r ≡ row_at rows (weak_top * pair_words) → Whole r
-  weak_whole r t e = rw e t.weak
-
-  pub strong_whole : (r : Row) → Topped rows weak_top strong_top → r ≡ row_at rows (strong_top * pair_words + 3) → Whole r
-  strong_whole r t e = rw e t.strong
-
   -- `at_tops`: `tops_in`
   pub tops_read : (a b : Row) (x y : Bool) → a ≡ row_at rows (weak_top * pair_words) → b ≡ row_at rows (strong_top * pair_words + 3)
       → x ≡ mark_at (marks a) 0 → y ≡ mark_at (marks b) 0 → record { weak = x; strong = y } ≡ tops_in rows weak_top strong_top
@@ -59,4 +53,4 @@ module _ (t : Trace) (ns : List Node) (l rest : List ℕ) (weak_top strong_top :
   unfolding tops_in verdict
   tops_verdicts r e = rw (e, weak_made.marked, strong_made.marked)
 
-pub ruleset top_laws = (rules, weak_whole, strong_whole, tops_read)
+pub ruleset top_laws = (rules, tops_read)

@@ -1,15 +1,5 @@
 -- One law for each need of judging the whole recording.
-use mathlib.Core.Path.{◌≡◌, refl, sym, ap, ◌∙◌}
-use mathlib.Core.Bool.{true, ◌&&◌}
-use mathlib.Core.List.{List, [], ◌++◌}
-use Prim.Native.Nat.{ℕ, ◌*◌, ◌<◌, ◌≤◌}
-use native.Mathlib.Omega.{arith}
-use lib.Dec.{eqb, ltb, leb}
-use lib.ListN.{length, drop, length-take}
-use mir.Syntax.{w64}
-use mir.Val.{Fits}
-use borrow.Author.Rules.{rules}
-use borrow.Author.Tests.{ltb-true, leb-true, ne_eqb}
+use Rattle.std.proofs.Common.{rules, ℕ, ◌*◌, ◌<◌, ◌≤◌, ◌≡◌, refl, sym, ap, ◌∙◌, true, ◌&&◌, List, [], ◌++◌, Ok, Err, length, drop, length-take, arith, ltb, leb, lt-ltb, le-ltb, ltb-true, leb-true, Fits, w64}
 use Rattle.definitions.specs.Limits.{accepted, lent_short, no_controller, rule_limits, max_row_words, max_table_nodes, pair_words}
 use Rattle.definitions.specs.Bounded.{pick, or_else, within}
 use Rattle.definitions.specs.Tables.{Table, table_of, nodes_refusal, tops_refusal, table_refusal, nodes_in}
@@ -21,15 +11,19 @@ use Rattle.theorems.proofs.Choice.{both_true, accept_yes, or_else_none}
 use Rattle.theorems.proofs.RecordingLaws.{Checked, checked}
 use Rattle.lent.specs.Space.{laid, cleared}
 use Rattle.rows.proofs.StoredLaws.{pairs_length}
-use Rattle.lent.proofs.LeftLaws.{laid_past, laid_begins, left_filled, lent_number, lent_full, zeroed_within, zeroed_left}
+use Rattle.lent.proofs.LeftLaws.{laid_past, laid_begins, left_untouched, left_zeroed, left_filled}
+use Rattle.rules.specs.Refusals.{number_of}
+use Rattle.rules.specs.declared.refusal.Refusal.{Refusal}
+use Rattle.rules.specs.declared.refusal.Refusal.TheVariants.{LentShort}
+use Rattle.rules.proofs.RefusalLaws.{number_some}
 use Rattle.recordings.specs.Joining.{joined_refusal}
+use Rattle.recordings.proofs.NumberLaws.{or_else_below, table_below, joined_below, refusal_alone}
 use Rattle.evaluation.specs.Traced.{every_atom}
 use Rattle.evaluation.specs.Nodes.{Evaluable, rows_to}
 use Rattle.evaluation.proofs.TableLaws.{rows_length}
 use Rattle.rules.proofs.NodeLists.{nodes_length}
 use Rattle.judges.specs.declared.verdicts.Verdicts.{Verdicts}
-use Rattle.judges.specs.declared.verdicts.Judgement.TheVariants.{Judged, Refused}
-use Rattle.judges.specs.Verdicts.{answer_of, Topped, tops_in}
+use Rattle.judges.specs.Verdicts.{Topped, tops_in}
 use Rattle.judges.specs.Whole.{whole_in, WholeReady, WholeVerdicts, WholeJudged}
 use Rattle.judges.proofs.CheckedNodes.{nodes_fit, nodes_there_lem}
 use Rattle.judges.proofs.TraceLaws.{whole_rows}
@@ -132,48 +126,56 @@ whole_ready t R c rows h k below full =
       full = full;
     }
 
-pub answer_refused : (number : ℕ) (values : List ℕ) → (number ≡ accepted → ⊥) → answer_of (Refused number) ≡ answer number values
-unfolding answer_of answer pick
-answer_refused number values some = rw (ne_eqb number accepted some)
-
 -- ---- the answers
 
-module _ (count : ℕ) (nodes : List ℕ) (weak_top strong_top C n : ℕ) (masks states : List ℕ) (c : ℕ) (entry : List ℕ)
-    (short unread unjoined both number : ℕ) (s : short ≡ pick (ltb (length entry) max_row_words) lent_short accepted)
-    (a : unread ≡ table_refusal (table_of count nodes weak_top strong_top))
-    (b : unjoined ≡ joined_refusal (recording_of C n masks states) c)
-    (o : both ≡ or_else unread unjoined) (e : number ≡ or_else short both) where
+module _ (count : ℕ) (nodes : List ℕ) (weak_top strong_top C n : ℕ) (masks states : List ℕ) (c : ℕ) (entry : List ℕ) where
   abbrev table : Table
   table = table_of count nodes weak_top strong_top
 
   abbrev R : Recording
   R = recording_of C n masks states
 
-  number_is : judge_recording_number table R c entry ≡ number
-  unfolding judge_recording_number
-  number_is = rw (← a, ← b, ← o) (sym (lent_number max_row_words entry short both number s e))
+  -- what the check comes to
+  abbrev checked_number : ℕ
+  checked_number = or_else (table_refusal table) (joined_refusal R c)
 
-  -- `judge_recording`, refused and judged: `judge_recording_answer`, `judge_recording_rows`
-  pub whole_refused : (number ≡ 0 → ⊥) → (zeroed : ℕ) → zeroed ≡ pick (eqb number lent_short) 0 max_row_words → (exit : List ℕ) → exit ≡ cleared entry 0 zeroed
-      → WholeJudged table R c entry (Refused number) exit
+  -- `judge_recording`, lent space is short: 13 alone, and what was lent
+  pub whole_short : length entry < max_row_words → WholeJudged table R c entry (Err LentShort) entry
   unfolding judge_recording_answer judge_recording_rows
-  whole_refused some zeroed z exit x = record {
-    answered = rw number_is (answer_refused number (verdict_values (verdicts (whole R c) (nodes_in count nodes) weak_top strong_top)) some);
-    rows = rw number_is (zeroed_left max_row_words entry short both number s e zeroed z (pairs_words (rows_of (whole R c) (nodes_in count nodes))) exit some x);
-  }
+  whole_short h =
+      let short : judge_recording_number table R c entry ≡ lent_short = unfold judge_recording_number pick in rw (lt-ltb (length entry) max_row_words h) in
+      record { answered = refusal_alone LentShort _ _ (sym short); rows = left_untouched _ _ _ _ short }
 
-  module _ (none : number ≡ 0) where
-    pub whole_accepted : WholeReady table n states c entry
-    whole_accepted =
-        let p = or_else_none unread unjoined (sym o ∙ (or_else_none short both (sym e ∙ none)).1) in
-        let q = or_else_none (recording_refusal R) (controller_refusal C c) (sym b ∙ p.1) in
-        whole_ready table R c entry (sym a ∙ p.0) q.0 (accepted_controller C c q.1) (lent_full max_row_words entry short both number s e (λ w. omega arith))
+  module _ (room : max_row_words ≤ length entry) where
+    number_is : judge_recording_number table R c entry ≡ checked_number
+    unfolding judge_recording_number pick
+    number_is = rw (le-ltb (length entry) max_row_words room)
 
-    -- `judge_recording`, judged: `judge_recording_answer` is the verdicts, `judge_recording_rows` the rows and then zeros
-    pub whole_judged : (v : Verdicts) (exit : List ℕ) → WholeVerdicts table n states c entry v exit → WholeJudged table R c entry (Judged v) exit
-    unfolding answer_of judge_recording_answer judge_recording_rows
-    whole_judged v exit d = record { answered = rw (number_is, none) (ap (λ (x : readings.Verdicts). answer accepted (verdict_values x)) d.verdicts); rows = d.rows ∙ rw (number_is, none) }
+    -- `judge_recording`, a refusal: its number alone, and zeros
+    pub whole_refused : (e : Refusal) → number_of e ≡ checked_number → (exit : List ℕ) → exit ≡ cleared entry 0 max_row_words → WholeJudged table R c entry (Err e) exit
+    unfolding judge_recording_answer judge_recording_rows
+    whole_refused e r exit x =
+        let number : number_of e ≡ judge_recording_number table R c entry = r ∙ sym number_is in
+        let below : checked_number < lent_short = or_else_below _ _ _ (table_below table) (joined_below R c) in
+        record {
+          answered = refusal_alone e _ _ number;
+          rows = left_zeroed _ _ _ entry entry exit refl (λ z. omega (arith, below, number_is)) (λ z. number_some e (number ∙ z)) x;
+        }
+
+    module _ (none : accepted ≡ checked_number) where
+      pub whole_accepted : WholeReady table n states c entry
+      whole_accepted =
+          let p = or_else_none (table_refusal table) (joined_refusal R c) (sym none) in
+          let q = or_else_none (recording_refusal R) (controller_refusal C c) p.1 in
+          whole_ready table R c entry p.0 q.0 (accepted_controller C c q.1) room
+
+      -- `judge_recording`, judged: the verdicts, the rows and then zeros
+      pub whole_judged : (v : Verdicts) (exit : List ℕ) → WholeVerdicts table n states c entry v exit → WholeJudged table R c entry (Ok v) exit
+      unfolding judge_recording_answer judge_recording_rows
+      whole_judged v exit d =
+          let number : judge_recording_number table R c entry ≡ accepted = number_is ∙ sym none in
+          record { answered = rw number (ap (λ (x : readings.Verdicts). answer accepted (verdict_values x)) d.verdicts); rows = d.rows ∙ rw number }
 
 pub ruleset accepted_laws = (rules, whole_evaluable, whole_few, whole_fits, whole_topped, whole_verdicts)
 
-pub ruleset whole_laws = (rules, zeroed_within, whole_refused, whole_accepted, whole_judged)
+pub ruleset whole_laws = (rules, whole_short, whole_accepted)

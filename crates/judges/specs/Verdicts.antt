@@ -1,27 +1,26 @@
 -- The answer of a judge: what its cases mean, and the verdicts at the tops.
-use Rattle.std.specs.Prelude.{List, [], ℕ, ◌+◌, ◌*◌, ◌≤◌, length}
-use Rattle.definitions.specs.Limits.{accepted, pair_words}
+use Rattle.std.specs.Prelude.{List, ℕ, ◌+◌, ◌*◌, ◌≤◌, length, Result}
+use Rattle.definitions.specs.Limits.{pair_words}
 use Rattle.definitions.specs.Tables.{Rule, nodes_in}
 use Rattle.definitions.specs.Recordings.{Recording, mask_of}
 use Rattle.definitions.specs.Projection.{local_trace}
 use Rattle.definitions.specs.Readings as readings
 use Rattle.definitions.specs.Readings.{local_verdicts}
-use Rattle.definitions.specs.Operations.{Answer, answer, verdict_values}
+use Rattle.definitions.specs.Operations.{Answer, verdict_values}
 use Rattle.mark_words.specs.Marks.{mark_at}
 use Rattle.rows.specs.Marks.{marks, Whole}
 use Rattle.rows.specs.Stored.{row_at}
+use Rattle.rules.specs.Answers as any
+use Rattle.rules.specs.declared.refusal.Refusal.{Refusal}
 use Rattle.judges.specs.declared.verdicts.Verdicts.{Verdicts}
-use Rattle.judges.specs.declared.verdicts.Judgement.{Judgement}
-use Rattle.judges.specs.declared.verdicts.Judgement.TheVariants.{Judged, Refused}
 
 -- the verdicts that the struct is
 abbrev pub meant : Verdicts → readings.Verdicts
 meant v = record { weak = v.weak; strong = v.strong }
 
 -- document 01's answer: the weak and the strong verdict, or a refusal number alone
-unfoldable pub answer_of : Judgement → Answer
-answer_of (Judged v) = answer accepted (verdict_values (meant v))
-answer_of (Refused number) = answer number []
+abbrev pub answer_of : Result Verdicts Refusal → Answer
+answer_of = any.answer_of (λ v. verdict_values (meant v))
 
 -- the verdicts of a rule on its own local trace
 abbrev pub own_verdicts : Rule → Recording → readings.Verdicts

@@ -1,12 +1,12 @@
 -- Judging the whole recording: what it asks where nothing is refused, what it answers, and what it leaves.
-use Rattle.std.specs.Prelude.{List, [], ◌≡◌, ℕ, ◌<◌, ◌≤◌, length}
+use Rattle.std.specs.Prelude.{List, [], ◌≡◌, ℕ, ◌<◌, ◌≤◌, length, Result}
 use Rattle.definitions.specs.Limits.{accepted, max_states, max_controllers, max_row_words}
 use Rattle.definitions.specs.Tables.{Table, table_refusal, nodes_in}
 use Rattle.definitions.specs.Recordings.{Recording, recording_of}
 use Rattle.definitions.specs.Readings.{Trace, whole, rows_of, pairs_words, verdicts}
 use Rattle.definitions.specs.Operations.{left, judge_recording_answer, judge_recording_rows}
 use Rattle.judges.specs.declared.verdicts.Verdicts.{Verdicts}
-use Rattle.judges.specs.declared.verdicts.Judgement.{Judgement}
+use Rattle.rules.specs.declared.refusal.Refusal.{Refusal}
 use Rattle.judges.specs.Verdicts.{meant, answer_of}
 
 -- the whole recording, of the parts of it that are read: whole R c is whole_in R.count R.states c
@@ -27,6 +27,6 @@ pub record WholeVerdicts (t : Table) (n : ℕ) (states : List ℕ) (c : ℕ) (en
   pub rows : exit ≡ left accepted max_row_words (pairs_words (rows_of (whole_in n states c) (nodes_in t.count t.nodes))) entry
 
 -- the whole answer, and the lent rows
-pub record WholeJudged (t : Table) (R : Recording) (c : ℕ) (entry : List ℕ) (r : Judgement) (exit : List ℕ) : Type 0 where
+pub record WholeJudged (t : Table) (R : Recording) (c : ℕ) (entry : List ℕ) (r : Result Verdicts Refusal) (exit : List ℕ) : Type 0 where
   pub answered : answer_of r ≡ judge_recording_answer t R c entry
   pub rows : exit ≡ judge_recording_rows t R c entry

@@ -12,21 +12,13 @@ pub struct Verdicts {
     pub strong: bool,
 }
 
-#[derive(Clone, Copy)]
-pub enum Judgement {
-    Judged(Verdicts),
-    Refused(u8),
-}
-
 // "The verdict is the reading at place 0": the weak one at one top, the strong one at another.
 pub fn at_tops(rows: &[u64], weak_top: usize, strong_top: usize) -> Verdicts
     requires { Topped rows.now weak_top strong_top }
     ensures { result ≡ tops_in rows.now weak_top strong_top }
 {
-    let weak = load(rows, weak_top * Limits::PAIR_WORDS).mark(0);
-    let strong = load(rows, strong_top * Limits::PAIR_WORDS + Pair::STRONG).mark(0);
     Verdicts {
-        weak: weak,
-        strong: strong,
+        weak: load(rows, weak_top * Limits::PAIR_WORDS).mark(0),
+        strong: load(rows, strong_top * Limits::PAIR_WORDS + Pair::STRONG).mark(0),
     }
 }

@@ -2,85 +2,52 @@
 #![tactic(auto)]
 
 ghost use Rattle.std.specs.Prelude.{◌≡◌};
-ghost use Rattle.definitions.specs.Nodes.{kind_number, kind_of};
-ghost use Rattle.definitions.specs.RuleText.{word_kind};
-ghost use Rattle.kind_words.specs.Words.{late_kind, WordIs};
+ghost use Rattle.definitions.specs.RuleText.{kind_word, word_kind};
+ghost use Rattle.rules.specs.Kinds.{kind_in};
 
 use lines::scan;
-use rules::node::Node;
+use rules::kind::Kind;
 
-// The number of every word that is no kind word.
-pub const UNKNOWN: u8 = 10;
-
-// The kind of a word. Five words to a function keeps the proofs small.
-pub fn kind_of_word(w: &[u8]) -> u8
-    ensures { result ≡ kind_number (word_kind w.now) }
+// The word of a kind; an unknown kind has none.
+pub fn word_of(kind: Kind) -> &'static [u8]
+    ensures { result.now ≡ kind_word (kind_in kind) }
 {
-    if scan::same(w, b"true") {
-        return Node::TRUE;
+    match kind {
+        Kind::True => b"true",
+        Kind::Atom => b"atom",
+        Kind::Not => b"not",
+        Kind::Or => b"or",
+        Kind::Next => b"next",
+        Kind::Until => b"until",
+        Kind::Prev => b"prev",
+        Kind::Since => b"since",
+        Kind::Run => b"run",
+        Kind::End => b"end",
+        Kind::Unknown => b"",
     }
-    if scan::same(w, b"atom") {
-        return Node::ATOM;
-    }
-    if scan::same(w, b"not") {
-        return Node::NOT;
-    }
-    if scan::same(w, b"or") {
-        return Node::OR;
-    }
-    if scan::same(w, b"next") {
-        return Node::NEXT;
-    }
-    late_kind_of_word(w)
 }
 
-fn late_kind_of_word(w: &[u8]) -> u8
-    ensures { result ≡ kind_number (late_kind w.now) }
-{
-    if scan::same(w, b"until") {
-        return Node::UNTIL;
-    }
-    if scan::same(w, b"prev") {
-        return Node::PREV;
-    }
-    if scan::same(w, b"since") {
-        return Node::SINCE;
-    }
-    if scan::same(w, b"run") {
-        return Node::RUN;
-    }
-    if scan::same(w, b"end") {
-        return Node::END;
-    }
-    UNKNOWN
-}
-
-// A kind's word: its letters in the first bytes, and how many they are.
-#[derive(Clone, Copy)]
-pub struct Word(pub [u8; 5], pub usize);
-
-// The words by the numbers of their kinds.
-const WORDS: [Word; 10] = [
-    Word(*b"true ", 4),
-    Word(*b"atom ", 4),
-    Word(*b"not  ", 3),
-    Word(*b"or   ", 2),
-    Word(*b"next ", 4),
-    Word(*b"until", 5),
-    Word(*b"prev ", 4),
-    Word(*b"since", 5),
-    Word(*b"run  ", 3),
-    Word(*b"end  ", 3),
+// The kinds that have a word, in the order of their numbers.
+const KINDS: [Kind; 10] = [
+    Kind::True,
+    Kind::Atom,
+    Kind::Not,
+    Kind::Or,
+    Kind::Next,
+    Kind::Until,
+    Kind::Prev,
+    Kind::Since,
+    Kind::Run,
+    Kind::End,
 ];
 
-const NO_WORD: Word = Word(*b"     ", 0);
-
-// The word of a kind.
-pub fn word_of(kind: u8) -> Word
-    ensures { WordIs (kind_of kind) result }
+// The kind of a word; unknown of every word that is no kind word.
+pub fn kind_of_word(w: &[u8]) -> Kind
+    ensures { kind_in result ≡ word_kind w.now }
 {
-    if Node::END < kind {
-        return NO_WORD;
-    }
-    WORDS[kind as usize]
+    KINDS
+        .iter()
+        .copied()
+        .find(|kind| scan::same(w, word_of(*kind)))
+        .unwrap_or(Kind::Unknown)
 }

@@ -13,7 +13,7 @@ use Rattle.definitions.specs.Bounded.{pick, or_else}
 use Rattle.definitions.specs.Operations.{left, too_short}
 use Rattle.theorems.proofs.Choice.{by_test}
 use Rattle.theorems.proofs.LentSpace.{left_short, left_refused, left_accepted}
-use Rattle.lent.specs.Space.{laid, cleared}
+use Rattle.lent.specs.Space.{laid, filled, cleared}
 
 -- what lies past the full size is as it was
 pub laid_past : (full : ℕ) (words entry exit : List ℕ) → length words ≤ full → exit ≡ laid words entry → drop full exit ≡ drop full entry
@@ -34,13 +34,13 @@ left_untouched number full content entry e = rw e (sym (left_short full content 
 module _ (number full : ℕ) (content entry exit end : List ℕ) (past : drop full exit ≡ drop full entry) where
   -- "after another refusal its full size is zero": the return after `clear_..(lent, 0, full)`
   pub left_zeroed : (number ≡ lent_short → ⊥) → (number ≡ 0 → ⊥) → end ≡ cleared exit 0 full → end ≡ left number full content entry
-  unfolding cleared
+  unfolding filled
   left_zeroed other some e = e ∙ rw (sub-zero full, past) (sym (left_refused number full content entry some other))
 
   -- "Accepted, unused entries are zero": the return after `clear_..(lent, count, full)`
   pub left_filled : (count : ℕ) → number ≡ 0 → length content ≡ count → take count exit ≡ content → end ≡ cleared exit count full
       → end ≡ left number full content entry
-  unfolding cleared
+  unfolding filled
   left_filled count none l begins e = rw none (e ∙ rw (begins, past, ← l) (sym (left_accepted full content entry)))
 
 -- ---- an operation on one lent slice that tests 13 first, then the rest, and zeroes what a refusal asks
@@ -64,7 +64,7 @@ module _ (full : ℕ) (entry : List ℕ) (short other number : ℕ) (s : short �
 
     -- the return of such a refusal, after `clear_..(lent, 0, zeroed)`: `left` of the definitions
     pub zeroed_left : (content exit : List ℕ) → (number ≡ 0 → ⊥) → exit ≡ cleared entry 0 zeroed → exit ≡ left number full content entry
-    unfolding left cleared pick
+    unfolding left filled pick
     zeroed_left content exit some e =
         let f : full - 0 ≡ full = omega arith in
         by_test (eqb number lent_short) (λ t. rw (e, z, t)) (λ t. rw (e, z, t, ne_eqb number 0 some, f))

@@ -5,9 +5,13 @@ use Rattle.std.specs.Prelude.{List, ◌++◌, ℕ, ◌-◌, ◌≤◌, length, t
 abbrev pub laid : List ℕ → List ℕ → List ℕ
 laid words entry = words ++ drop (length words) entry
 
+-- the entries from..to are x
+unfoldable pub filled : {T : Type 0} → T → List T → ℕ → ℕ → List T
+filled x l from to = take from l ++ (replicate (to - from) x ++ drop to l)
+
 -- the entries from..to are zero
-unfoldable pub cleared : List ℕ → ℕ → ℕ → List ℕ
-cleared l from to = take from l ++ (replicate (to - from) 0 ++ drop to l)
+abbrev pub cleared : List ℕ → ℕ → ℕ → List ℕ
+cleared = filled 0
 
 -- n words that are there can be laid over a full size
 pub record Layable (words : List ℕ) (n full : ℕ) (lent : List ℕ) : Type 0 where

@@ -7,8 +7,13 @@ use native.Mathlib.Numerals.{add-one}
 use lib.ListN.{length, take, drop, set, take-append-drop, length-set, length-drop}
 use lib.Seq.{take-suc-set, drop-set-lt, drop-drop, length-take-le}
 use Rattle.definitions.specs.Lines.{rest_of, Scan, stop, more}
-use Rattle.lines.specs.Reading.{FirstLine, LinesScanned}
+use Rattle.std.specs.Prelude.{Result, Ok, Err}
+use Rattle.definitions.specs.Limits.{accepted}
+use Rattle.lines.specs.Reading.{FirstLine, LinesScanned, stopped_number, stopped_at}
 use Rattle.lines.specs.declared.Line.{Line}
+use Rattle.lines.specs.declared.Stop.{Stop}
+use Rattle.rules.specs.Refusals.{number_of}
+use Rattle.rules.specs.declared.refusal.Refusal.{Refusal}
 
 -- a list that is laid from the front: `total` is what is laid so far and what is left
 pub record Fills (total o o' : List ℕ) (n : ℕ) (left : List ℕ) : Type 0 where
@@ -45,15 +50,24 @@ pub lines_none : (total left : Scan) (text o : List ℕ) (at : ℕ) → at ≤ l
 lines_none total left text o at h e = rw e (record { inside = h; filled = fills_none left.words o; number = refl; rest = refl })
 
 module _ (total : Scan) (text o o' : List ℕ) (at n : ℕ) (left : Scan) (inv : Lines total text o o' at n left) where
-  pub lines_stop : (number : ℕ) → left ≡ stop number (drop at text) → n ≤ length o → LinesScanned total text o (record { number = number; at = at }) o'
-  lines_stop number e h =
+  -- the reading ends at `at`, whether it is refused there or not
+  ends : (r : Result ℕ Stop) → at ≡ stopped_at r → left ≡ stop (stopped_number r) (drop at text) → n ≤ length o → LinesScanned total text o r o'
+  ends r p e h =
       let f : Fills total.words o o' n [] = rw e at inv.filled in
       record {
         number = sym (inv.number ∙ ap (λ (s : Scan). s.number) e);
-        inside = inv.inside;
-        rest = sym (inv.rest ∙ ap (λ (s : Scan). s.rest) e);
+        inside = rw (← p) inv.inside;
+        rest = rw (← p) (sym (inv.rest ∙ ap (λ (s : Scan). s.rest) e));
         words = fills_stop total.words o o' n f h;
       }
+
+  -- all lines are read, and the text goes on at `at`
+  pub lines_done : left ≡ stop accepted (drop at text) → n ≤ length o → LinesScanned total text o (Ok at) o'
+  lines_done e h = ends (Ok at) refl e h
+
+  -- the line at `at` is refused
+  pub lines_stop : (e : Refusal) → left ≡ stop (number_of e) (drop at text) → n ≤ length o → LinesScanned total text o (Err (record { refusal = e; at = at })) o'
+  lines_stop e is h = ends (Err (record { refusal = e; at = at })) refl is h
 
   pub lines_next : (w at' : ℕ) (left' : Scan) → left ≡ more w left' → n < length o → at' ≤ length text → Lines total text o (set o' n w) at' (n + 1) left'
   lines_next w at' left' e h k =

@@ -9,6 +9,11 @@ use native.Mathlib.Omega.{arith}
 use borrow.Author.Rules.{rules}
 use borrow.Author.Tests.{eq-eqb, ne_eqb, lt-ltb, le-ltb}
 use Rattle.definitions.specs.Lines.{before, is_empty, has, up_to, after}
+use Rattle.std.specs.Prelude.{Some, None}
+use Rattle.std.proofs.lemmas.Option.{none-some, some_pair_parts}
+use Rattle.definitions.specs.Bounded.{pick}
+use Rattle.theorems.proofs.Choice.{by_test}
+use Rattle.lines.specs.Parts.{split}
 use Rattle.lines.proofs.ScanLaws.{before_le}
 
 -- `&s[k..]` reads this
@@ -43,5 +48,27 @@ module _ (b : ℕ) (s : List ℕ) (i : ℕ) (is : i ≡ before b s) where
   -- what `after` answers
   pub after_part : (t : List ℕ) → t ≡ drop (i + 1) s → t ≡ after b s
   after_part t e = e ∙ rw is
+
+-- the parts x and y that `split` answers
+pub record Split (b : ℕ) (s x y : List ℕ) : Type 0 where
+  pub there : has b s ≡ true
+  pub front : x ≡ up_to b s
+  pub back : y ≡ after b s
+
+module _ (b : ℕ) (s : List ℕ) where
+  -- `split` answers no parts: no b is there
+  pub split_no : None ≡ split b s → has b s ≡ false
+  unfolding split pick
+  split_no e = by_test (has b s) (λ h. absurd (none-some _ (rw h at e))) (λ h. h)
+
+  -- `split` answers the parts x and y
+  pub split_yes : (x y : List ℕ) → Some (x, y) ≡ split b s → Split b s x y
+  unfolding split pick
+  split_yes x y e = by_test (has b s) there (λ h. absurd (none-some _ (sym (rw h at e))))
+    where
+      there : has b s ≡ true → Split b s x y
+      there h =
+          let p = some_pair_parts x (up_to b s) y (after b s) (rw h at e) in
+          record { there = h; front = p.0; back = p.1 }
 
 pub ruleset part_laws = (rules, part_to_end, empty_yes, empty_no, place_within, part_counts, has_yes, has_no, up_to_part, after_part)

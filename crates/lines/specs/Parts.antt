@@ -1,7 +1,8 @@
 -- Where a byte stands in a text, and the part of a text from a place on.
-use Rattle.std.specs.Prelude.{◌≡◌, ℕ, ◌+◌, ◌≤◌, List, length, drop}
+use Rattle.std.specs.Prelude.{◌≡◌, ℕ, ◌+◌, ◌≤◌, List, length, drop, Option, Some, None}
 use Rattle.std.specs.Borrow.{Bor}
-use Rattle.definitions.specs.Lines.{before}
+use Rattle.definitions.specs.Bounded.{pick}
+use Rattle.definitions.specs.Lines.{before, has, up_to, after}
 
 -- the answer r of a search for the first b
 pub record Located (b : ℕ) (s : List ℕ) (r : ℕ) : Type 0 where
@@ -12,3 +13,12 @@ pub record Located (b : ℕ) (s : List ℕ) (r : ℕ) : Type 0 where
 pub record IsRest (s r : Bor (List ℕ)) (from : ℕ) : Type 0 where
   pub lies : r.ref_ptr ≡ (s.ref_ptr.0, from + s.ref_ptr.1)
   pub reads : r.now ≡ drop from s.now
+
+-- two parts of a text, by their bytes
+abbrev pub parts_in : Option (Bor (List ℕ) × Bor (List ℕ)) → Option (List ℕ × List ℕ)
+parts_in (Some parts) = Some (parts.0.now, parts.1.now)
+parts_in None = None
+
+-- the part before the first b and the part after it, where there is one
+unfoldable pub split : ℕ → List ℕ → Option (List ℕ × List ℕ)
+split b s = pick (has b s) (Some (up_to b s, after b s)) None

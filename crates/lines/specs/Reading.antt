@@ -1,10 +1,11 @@
 -- Where the next line of a text ends, how it is refused for that, and what a reading of lines leaves.
-use Rattle.std.specs.Prelude.{◌≡◌, ℕ, ◌<◌, ◌≤◌, List, ◌++◌, length, drop}
+use Rattle.std.specs.Prelude.{◌≡◌, ℕ, ◌<◌, ◌≤◌, List, ◌++◌, length, drop, Result, Ok, Err}
 use Rattle.definitions.specs.Limits.{accepted}
 use Rattle.definitions.specs.Bounded.{pick}
 use Rattle.definitions.specs.Lines.{newline, before, is_empty, line_length, is_closed, rest_of, Scan}
 use Rattle.lines.specs.declared.Line.{Line}
-use Rattle.lines.specs.declared.Stopped.{Stopped}
+use Rattle.lines.specs.declared.Stop.{Stop}
+use Rattle.rules.specs.Refusals.{number_of}
 
 -- the first line is closed by the byte 10 at `end`
 pub record Ending (t : List ℕ) (end : ℕ) : Type 0 where
@@ -22,9 +23,19 @@ pub record FirstLine (t : List ℕ) (l : Line) : Type 0 where
 unfoldable pub end_refusal : (missing unclosed : ℕ) → List ℕ → ℕ
 end_refusal missing unclosed t = pick (is_empty t) missing (pick (is_closed t) accepted unclosed)
 
+-- the number of the refusal that a reading stopped for: `accepted` where it was read to its end
+abbrev pub stopped_number : {A : Type 0} → Result A Stop → ℕ
+stopped_number (Ok a) = accepted
+stopped_number (Err stop) = number_of stop.refusal
+
+-- where the text goes on after what was read, or where the reading stopped
+abbrev pub stopped_at : Result ℕ Stop → ℕ
+stopped_at (Ok at) = at
+stopped_at (Err stop) = stop.at
+
 -- lines of a text were read as s says: its words are laid over the start of lent space
-pub record LinesScanned (s : Scan) (text entry : List ℕ) (r : Stopped) (exit : List ℕ) : Type 0 where
-  pub number : r.number ≡ s.number
-  pub inside : r.at ≤ length text
-  pub rest : drop r.at text ≡ s.rest
+pub record LinesScanned (s : Scan) (text entry : List ℕ) (r : Result ℕ Stop) (exit : List ℕ) : Type 0 where
+  pub number : stopped_number r ≡ s.number
+  pub inside : stopped_at r ≤ length text
+  pub rest : drop (stopped_at r) text ≡ s.rest
   pub words : exit ≡ s.words ++ drop (length s.words) entry

@@ -7,6 +7,9 @@ pub mod scan;
 ghost use Rattle.std.specs.Prelude.{◌≡◌};
 ghost use Rattle.definitions.specs.Lines.{line_length};
 ghost use Rattle.lines.specs.Reading.{Ending, FirstLine, end_refusal};
+ghost use Rattle.rules.specs.Refusals.{number_of, refusal_in};
+
+use rules::refusal::{Refusal, unless};
 
 // The first line of a text: how many bytes it has without its ending, and where the text after its ending begins.
 #[derive(Clone, Copy)]
@@ -15,14 +18,15 @@ pub struct Line {
     pub next: usize,
 }
 
-// How a reading of lines ended: the refusal or 0, and the place of the line that it ended at.
+// Why a reading of lines stopped, and the place of the line that it stopped at.
 #[derive(Clone, Copy)]
-pub struct Stopped {
-    pub number: u8,
+pub struct Stop {
+    pub refusal: Refusal,
     pub at: usize,
 }
 
 // How many bytes the first line has, closed by the newline at `end`: a carriage return right before that is of its ending.
+#[tactic(auto, using(crate::proofs::NextLaws::ending_laws))]
 fn before_ending(t: &[u8], end: usize) -> usize
     requires { Ending t.now end }
     ensures { result ≡ line_length t.now }
@@ -53,19 +57,14 @@ pub fn first_line(t: &[u8]) -> Line
     }
 }
 
-// The number where nothing is refused.
-const ACCEPTED: u8 = 0;
-
-// The refusal of the next line, of `len` bytes, for how it ends; 0 where it is closed.
-pub fn end_refusal(t: &[u8], len: usize, missing: u8, unclosed: u8) -> u8
+// How the next line, of `len` bytes, is refused for its end: it is missing, or nothing closes it.
+#[tactic(auto, using(crate::proofs::NextLaws::end_laws))]
+pub fn check_end(t: &[u8], len: usize, missing: Refusal, unclosed: Refusal) -> Result<(), Refusal>
     requires { len ≡ line_length t.now }
-    ensures { result ≡ end_refusal missing unclosed t.now }
+    ensures { refusal_in result ≡ end_refusal (number_of missing) (number_of unclosed) t.now }
 {
-    if t.len() == 0 {
-        return missing;
+    if t.is_empty() {
+        return Err(missing);
     }
-    if len < t.len() {
-        return ACCEPTED;
-    }
-    unclosed
+    unless(unclosed, len < t.len())
 }

@@ -1,7 +1,7 @@
 // Bytes of a text: where one stands, what follows it, and comparison.
 ghost use Rattle.std.specs.Prelude.{◌≡◌, ◌+◌, ◌<◌, length};
 ghost use Rattle.definitions.specs.Lines.{same, letters};
-ghost use Rattle.lines.specs.Parts.{Located, IsRest};
+ghost use Rattle.lines.specs.Parts.{Located, IsRest, parts_in, split};
 
 // Ends a line, alone or after a carriage return; what is written ends its lines in it alone.
 pub const NEWLINE: u8 = 10;
@@ -14,14 +14,7 @@ pub const CARRIAGE_RETURN: u8 = 13;
 pub fn until_byte(s: &[u8], b: u8) -> usize
     ensures { Located b s.now result }
 {
-    let mut i = 0;
-    while i < s.len() {
-        if s[i] == b {
-            return i;
-        }
-        i += 1;
-    }
-    i
+    s.iter().position(|x| *x == b).unwrap_or(s.len())
 }
 
 // What follows byte `i`.
@@ -32,37 +25,25 @@ pub fn after<'a>(s: &'a [u8], i: usize) -> &'a [u8]
     &s[i + 1..]
 }
 
+// The part of `s` before its first `b`, and the part after it.
+pub fn split<'a>(s: &'a [u8], b: u8) -> Option<(&'a [u8], &'a [u8])>
+    ensures { parts_in result ≡ split b s.now }
+{
+    let i = s.iter().position(|x| *x == b)?;
+    Some((&s[..i], after(s, i)))
+}
+
 // Whether `a` and `b` are the same bytes.
+#[tactic(auto, using(crate::proofs::ScanLaws::pointwise_same))]
 pub fn same(a: &[u8], b: &[u8]) -> bool
     ensures { result ≡ same a.now b.now }
 {
-    if a.len() != b.len() {
-        return false;
-    }
-    let mut i = 0;
-    while i < a.len() {
-        if a[i] != b[i] {
-            return false;
-        }
-        i += 1;
-    }
-    true
+    a == b
 }
 
 // Whether each byte of `s` is a letter a to z.
 pub fn letters(s: &[u8]) -> bool
     ensures { result ≡ letters s.now }
 {
-    let mut i = 0;
-    while i < s.len() {
-        let b = s[i];
-        if b < b'a' {
-            return false;
-        }
-        if b'z' < b {
-            return false;
-        }
-        i += 1;
-    }
-    true
+    s.iter().all(|x| matches!(*x, b'a'..=b'z'))
 }

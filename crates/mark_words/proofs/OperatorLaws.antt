@@ -2,6 +2,7 @@
 use Rattle.std.proofs.Common.{◌≡◌, ℕ, zero, suc, ◌+◌, ◌-◌, ◌<◌, ◌≤◌, Bool, true, false, not, ◌&&◌, ◌||◌, ltb, ◌⊎◌, List, [], ◌∷◌, map, length, get_or, replicate, sym, refl, ap, ◌∙◌, inl, inr, ⊎_elim, le_of_suc-le-suc, not-suc-le-zero, arith, ltb-false, ltb-true, le-ltb, lt-ltb}
 use mathlib.Core.Bool.{and-false, or-false}
 use lib.ListN.{length-map, length-replicate, get_or-replicate, get_or-eq_default}
+use Rattle.std.proofs.lemmas.List.{get_or_default}
 use Rattle.definitions.specs.Bounded.{pick, tabulate}
 use Rattle.definitions.specs.Readings.{next_at, until_at, prev_at, since_at}
 use Rattle.theorems.proofs.Recursions.{until_end, until_step, since_start, since_step}
@@ -41,11 +42,6 @@ until_at_lem w (p ∷ ps) [] k h l = absurd (omega arith)
 until_at_lem w (p ∷ ps) (q ∷ qs) zero h l = rw head_at
 until_at_lem w (p ∷ ps) (q ∷ qs) (suc k) h l = until_at_lem w ps qs k (omega arith) (le_of_suc-le-suc l)
 
-default : (l : List Bool) (k : ℕ) (a b : Bool) → k < length l → get_or l k a ≡ get_or l k b
-default [] k a b h = absurd (not-suc-le-zero h)
-default (x ∷ l) zero a b h = refl
-default (x ∷ l) (suc k) a b h = default l k a b (le_of_suc-le-suc h)
-
 module _ (w : Bool) (ps qs : List Bool) (h : length ps ≡ length qs) where
   until_places : (j k : ℕ) → k + j ≡ length ps → get_or (until_row w ps qs) k w ≡ until_at w (length ps) (mark_at ps) (mark_at qs) k
   until_places zero k e =
@@ -60,7 +56,7 @@ module _ (w : Bool) (ps qs : List Bool) (h : length ps ≡ length qs) where
   pub until_is : until_row w ps qs ≡ tabulate (length ps) (until_at w (length ps) (mark_at ps) (mark_at qs))
   until_is =
       tabulated (until_row w ps qs) (length ps) (until_at w (length ps) (mark_at ps) (mark_at qs)) (until_length w ps qs h)
-      (λ i hi. default (until_row w ps qs) i false w (rw (until_length w ps qs h) hi) ∙ until_places (length ps - i) i (omega arith))
+      (λ i hi. get_or_default (until_row w ps qs) i false w (rw (until_length w ps qs h) hi) ∙ until_places (length ps - i) i (omega arith))
 
 -- ---- since
 

@@ -319,9 +319,6 @@ pub last_one : (n : ℕ) → marks_word (last_only true (suc n)) ≡ 2 ^ n
 last_one zero = refl
 last_one (suc n) = rw pow-suc (omega (arith, last_one n))
 
-pub word_last_none : (n : ℕ) (w : Bool) → n ≡ 0 → 0 ≡ marks_word (last_only w n)
-word_last_none n w e = rw e
-
 pub word_last_no : (n : ℕ) (w : Bool) → w ≡ false → 0 ≡ marks_word (last_only w n)
 word_last_no n w e = rw e (sym (last_none n))
 
@@ -330,7 +327,7 @@ word_last_yes n w h some e =
     let m : n ≡ suc (n - 1) = omega arith in
     rw (e, one-mul, mod-eq_of_lt (pow-lt {i = n - 1} {j = 64} (omega arith))) (sym (last_one (n - 1)) ∙ ap (λ (k : ℕ). marks_word (last_only true k)) (sym m))
 
-pub ruleset last_laws = (rules, word_last_none, word_last_no, word_last_yes)
+pub ruleset last_laws = (rules, word_last_no, word_last_yes)
 
 -- ---- the low bits of a number
 
@@ -385,7 +382,4 @@ gathering_room ws from to a word k v h few =
     let f : Fits w64 (word * 2 + get_or ws (k - 1) 0 / 2 ^ a % 2) = gathering_fits ws from to a word k v h few in
     record { fits = omega (arith, f.fits) }
 
-pub gathering_done : (ws : List ℕ) (from to a word k : ℕ) → Gathering ws from to a word k → k ≤ from → word ≡ gathered ws from to a
-gathering_done ws from to a word k v h = let e : k ≡ from = omega arith in rw e at v.part
-
-pub ruleset gather_laws = (rules, gathering_none, gathering_more, gathering_fits, gathering_room, gathering_done)
+pub ruleset gather_laws = (rules, gathering_none, gathering_more, gathering_fits, gathering_room)

@@ -46,7 +46,7 @@ pub fn until_word(p: u64, q: u64) -> u64
 pub fn since_word(p: u64, q: u64, c: u64) -> u64
     ensures { (ps qs : List Bool) (b : Bool) → p ≡ marks_word ps → q ≡ marks_word qs → c ≡ bit b → length ps ≡ length qs → result ≡ marks_word (since_row b ps qs) }
 {
-    let s = std::num::wrapping_add_u64(std::num::wrapping_add_u64(q, p | q), c);
+    let s = q.wrapping_add(p | q).wrapping_add(c);
     q | (p & (p ^ s))
 }
 
@@ -75,25 +75,13 @@ pub fn last_word(n: usize, yes: bool) -> u64
     0
 }
 
-// The word of one mark. A shift moves it to its place: no branch that the mark decides.
-pub fn one(yes: bool) -> u64
-    ensures { result ≡ bit yes }
-{
-    if yes {
-        return 1;
-    }
-    0
-}
-
 // Bit `bit` of each of the states from..to, gathered from the last one back.
 pub fn gather(states: &[u64], from: usize, to: usize, bit: usize) -> u64
     requires { (from ≤ to) × (to ≤ length states.now) × (to ≤ from + word_marks) × (bit < word_marks) }
     ensures { result ≡ gathered states.now from to bit }
 {
     let mut word = 0u64;
-    let mut k = to;
-    while from < k {
-        k -= 1;
+    for k in (from..to).rev() {
         word = word * 2 + (states[k] >> bit) % 2;
     }
     word

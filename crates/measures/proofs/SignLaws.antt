@@ -18,7 +18,10 @@ small_bits n h = to_z_pos w32 n (omega arith)
 minus_is : (n : ℕ) → n ≤ largest → to_z w32 0 -ℤ to_z w32 n ≡ neg_ℤ (pos n)
 minus_is n h = rw (small_bits n h) (+ℤ_idl (neg_ℤ (pos n)))
 
-negated_small : (n : ℕ) → n ≤ largest → SFits w32 (neg_ℤ (pos n))
+pub plain_small : (n : ℕ) → n ≤ largest → SFits w32 (pos n)
+plain_small n h = record { sfits = omega arith }
+
+pub negated_small : (n : ℕ) → n ≤ largest → SFits w32 (neg_ℤ (pos n))
 negated_small zero h = record { sfits = omega arith }
 negated_small (suc n) h = record { sfits = omega arith }
 

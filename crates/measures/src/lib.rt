@@ -4,114 +4,87 @@
 
 pub mod sign;
 
-ghost use Rattle.std.specs.Prelude.{◌≡◌, ◌+◌, ◌*◌};
-ghost use Rattle.fields.specs.Fields.{cap, capped, exact};
+ghost use Rattle.std.specs.Prelude.{◌≡◌};
+ghost use Rattle.fields.specs.Fields.{capped, exact};
 ghost use Rattle.definitions.specs.Measures.{decimals, hundredths, measure};
-ghost use Rattle.measures.specs.Answers.{limited_to, limited};
+ghost use Rattle.measures.specs.Answers.{limited_to, limited, refusal_for};
 
 use fields::number;
-use fields::number::Field;
 use lines::scan;
+use rules::refusal::Refusal;
 
-// What a field of a signed number is.
-#[derive(Clone, Copy)]
-pub enum Measure {
-    Value(i32),
+// Why a field is no signed number: it is of another form, or the number is outside its limits.
+#[derive(Clone, Copy, PartialEq, Eq)]
+pub enum Flaw {
     Outside,
     Malformed,
 }
 
+impl From<Flaw> for Refusal {
+    ghost from_gives = { λ flaw refusal. refusal ≡ refusal_for flaw };
+
+    fn from(flaw: Flaw) -> Refusal {
+        match flaw {
+            Flaw::Outside => Refusal::RecordingLimits,
+            Flaw::Malformed => Refusal::RecordingForm,
+        }
+    }
+}
+
 pub const POINT: u8 = b'.';
 
-pub const MINUS: u8 = b'-';
 // The limits, in hundredths.
 pub const LEAST: i32 = -32768;
 
 pub const GREATEST: i32 = 32767;
 
 // Two digits.
-fn decimals(s: &[u8]) -> Field
+#[tactic(auto, using(crate::proofs::MeasureLaws::decimals_laws))]
+fn decimals(s: &[u8]) -> Option<u32>
     ensures { result ≡ exact (decimals s.now) }
 {
-    if s.len() != 2 {
-        return Field::Malformed;
-    }
-    let a = s[0];
-    let b = s[1];
-    if a < b'0' {
-        return Field::Malformed;
-    }
-    if b'9' < a {
-        return Field::Malformed;
-    }
-    if b < b'0' {
-        return Field::Malformed;
-    }
-    if b'9' < b {
-        return Field::Malformed;
-    }
-    Field::Number(((a - b'0') * 10 + (b - b'0')) as u32)
+    let [a, b] = s else {
+        return None;
+    };
+    let tens = number::digit(*a)?;
+    let ones = number::digit(*b)?;
+    Some(tens * 10 + ones)
 }
 
-// Whole ones and hundredths as hundredths, up to the largest number of a field.
-fn joined(whole: u32, part: u32) -> u32
-    ensures { result ≡ cap (whole * 100 + part) }
-{
-    let n = whole as u64 * 100 + part as u64;
-    if (number::LARGEST as u64) < n {
-        number::LARGEST
-    } else {
-        n as u32
-    }
-}
-
-// A number without a sign.
-fn hundredths(s: &[u8]) -> Field
+// A number without a sign, up to the largest number of a field.
+#[tactic(auto, using(crate::proofs::MeasureLaws::hundredths_laws))]
+fn hundredths(s: &[u8]) -> Option<u32>
     ensures { result ≡ capped (hundredths s.now) }
 {
-    let i = scan::until_byte(s, POINT);
-    if i < s.len() {
-        let Field::Number(whole) = number::decimal(&s[..i]) else {
-            return Field::Malformed;
-        };
-        let Field::Number(part) = decimals(scan::after(s, i)) else {
-            return Field::Malformed;
-        };
-        return Field::Number(joined(whole, part));
-    }
-    Field::Malformed
+    let (whole, part) = scan::split(s, POINT)?;
+    let ones = number::decimal(whole)?;
+    let rest = decimals(part)?;
+    Some((ones * 100 + rest).min(number::LARGEST))
 }
 
 // A number against its limits.
-fn limited(z: i32) -> Measure
+#[tactic(auto, unfolding(crate::specs::Answers::limited_to, definitions::specs::Measures::in_limits, definitions::specs::Bounded::pick))]
+fn limited(z: i32) -> Result<i32, Flaw>
     ensures { result ≡ limited_to z }
 {
-    if sign::reached(z, LEAST) {
-        if sign::reached(GREATEST, z) {
-            return Measure::Value(z);
-        }
+    if sign::reached(z, LEAST) & sign::reached(GREATEST, z) {
+        return Ok(z);
     }
-    Measure::Outside
+    Err(Flaw::Outside)
 }
 
 // A signed number: negated after a minus.
-pub fn read(s: &[u8]) -> Measure
+#[tactic(auto, using(crate::proofs::MeasureLaws::read_laws))]
+pub fn read(s: &[u8]) -> Result<i32, Flaw>
     ensures { result ≡ limited (measure s.now) }
 {
-    if s.len() == 0 {
-        return Measure::Malformed;
-    }
-    if s[0] == MINUS {
-        let Field::Number(n) = hundredths(scan::after(s, 0)) else {
-            return Measure::Malformed;
-        };
+    if let Some(digits) = s.strip_prefix(b"-") {
+        let n = hundredths(digits).ok_or(Flaw::Malformed)?;
         if n == 0 {
-            return Measure::Malformed;
+            return Err(Flaw::Malformed);
         }
         return limited(sign::negated(n));
     }
-    let Field::Number(n) = hundredths(s) else {
-        return Measure::Malformed;
-    };
-    limited(sign::plain(n))
+    let amount = hundredths(s).ok_or(Flaw::Malformed)?;
+    limited(sign::plain(amount))
 }

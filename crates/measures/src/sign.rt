@@ -11,6 +11,7 @@ pub fn reached(value: i32, threshold: i32) -> bool
 }
 
 // The number without a sign.
+#[tactic(auto, using(crate::proofs::SignLaws::sign_laws))]
 pub fn plain(n: u32) -> i32
     requires { n ≤ largest }
     ensures { result ≡ pos n }
@@ -19,6 +20,7 @@ pub fn plain(n: u32) -> i32
 }
 
 // The number after a minus.
+#[tactic(auto, using(crate::proofs::SignLaws::sign_laws))]
 pub fn negated(n: u32) -> i32
     requires { n ≤ largest }
     ensures { result ≡ neg_ℤ (pos n) }

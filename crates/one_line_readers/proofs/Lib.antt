@@ -1,3 +1,2 @@
-pub mod WordLaws
 pub mod Laying
 pub mod ReadLaws

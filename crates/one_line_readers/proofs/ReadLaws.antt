@@ -3,51 +3,48 @@ use mathlib.Core.Path.{◌≡◌, refl, ap, sym, ◌∙◌}
 use Prim.Native.Nat.{ℕ, suc, ◌+◌, ◌-◌, ◌*◌, ◌<◌, ◌≤◌}
 use native.Mathlib.Omega.{arith}
 use native.Mathlib.Numerals.{add-one}
-use native.Mathlib.Decide.{dec_lt}
-use mathlib.Core.Bool.{Bool, true, false, true≢false, ◌&&◌}
-use mathlib.Core.List.{List, [], ◌∷◌, ◌++◌, append_assoc}
-use lib.ListN.{length, get_or, set, take, length-map, length-take, get_or-eq_default}
-use lib.Seq.{get_or-take}
-use lib.Dec.{eqb, leb}
-use mir.Syntax.{w64}
-use mir.Val.{Fits}
-use borrow.Author.Rules.{rules}
-use borrow.Author.Tests.{le-leb, lt-leb}
+use mathlib.Core.Bool.{true}
+use mathlib.Core.List.{List, [], ◌∷◌, ◌++◌, append_assoc, map-append}
+use lib.ListN.{length, drop, get_or, length-map}
+use lib.Seq.{drop-cons}
+use Rattle.std.proofs.Common.{inl, inr}
 use Rattle.definitions.specs.Limits.{max_rule_nodes}
-use Rattle.definitions.specs.Bounded.{pick}
 use Rattle.definitions.specs.Nodes as table
-use Rattle.definitions.specs.Nodes.{Node, node, node_word, operand_span}
-use Rattle.definitions.specs.OneLineSigns.{Sign, true_sign, atom_sign, prefix_sign, infix_sign, open_bracket, close_bracket, Prefix, Not, Next, Prev, Future, Always, Infix, Implies, Or, And, Until, Since}
+use Rattle.definitions.specs.Nodes.{Kind, Node, node, node_word, operand_span}
+use Rattle.definitions.specs.OneLineSigns.{Sign, true_sign, atom_sign, prefix_sign, infix_sign, open_bracket, Prefix, Not, Next, Prev, Future, Always, Infix, Implies, Or, And, Until, Since}
 use Rattle.definitions.specs.OneLineGrammar.{Tree, truth, atom, prefixed, joined, Level, Arrows, Ors, Ands, Untils, Prefixes, Primaries, Phrase, arrow, no_arrow, or, no_or, and, no_and, until, since, no_until, prefix, no_prefix, truth_alone, atom_alone, bracketed, larger, most_open}
 use Rattle.definitions.specs.OneLineNodes.{rule_tree_of, size, nodes_from}
-use Rattle.theorems.proofs.Choice.{by_test}
-use Rattle.theorems.proofs.Phrases.{flat, operand, operator, tight, sign_strength, tight_most, prefix_nodes, infix_nodes, sign_nodes, weight, phrase_flat, phrase_shorter, phrase_weight, larger_second, most_grows, phrase_opened}
+use Rattle.definitions.specs.OneLineReading.{strength}
+use Rattle.theorems.proofs.Phrases.{flat, operand, operator, tight, tight_most, prefix_nodes, infix_nodes, sign_nodes, weight, phrase_flat, phrase_shorter, phrase_weight, larger_second, most_grows, phrase_opened}
 use Rattle.theorems.proofs.OneLineTables.{nodes_size, size_some}
-use Rattle.one_line_signs.specs.Codes.{sign_of, ahead}
-use Rattle.one_line_signs.proofs.CodeLaws.{by_code, atom_sign_lem, ahead_cons, ahead_none, ahead_length, code_inside}
-use Rattle.one_line_readers.specs.Nodes.{words, prefix_of, until_sign, until_kind, prefix_first, prefix_last, infix_middle, infix_last, not_words, dual_words}
-use Rattle.one_line_readers.specs.Laying.{Laid, SpaceBehind, SpaceFirst, SpaceLast}
-use Rattle.one_line_readers.proofs.Laying.{laid_one, laid_none, laid_seq, relaid}
-use Rattle.one_line_readers.specs.Reading.{Ready, is_prefix, is_until, Primed, tree_words, Read}
+use Rattle.rules.specs.Kinds.{kind_in}
+use Rattle.rules.specs.declared.kind.Kind.{Kind as KindCode}
+use Rattle.rules.specs.declared.kind.Kind.TheVariants as kind
+use Rattle.one_line_signs.specs.Signs.{sign_in, signs_in, infix_in, prefix_in}
+use Rattle.one_line_signs.specs.declared.sign.Infix.{Infix as InfixCode}
+use Rattle.one_line_signs.specs.declared.sign.Infix.TheVariants as between
+use Rattle.one_line_signs.specs.declared.sign.Prefix.{Prefix as PrefixCode}
+use Rattle.one_line_signs.specs.declared.sign.Sign.{Sign as SignCode}
+use Rattle.one_line_signs.specs.declared.sign.Sign.TheVariants as sign
+use Rattle.one_line_readers.specs.Nodes.{words, prefix_first, prefix_last, infix_middle, infix_last, not_words, dual_words}
+use Rattle.one_line_readers.specs.Laying.{Laid, NodeThere, Space, SpaceBehind, SpaceFor, SpaceOver, SpaceLast}
+use Rattle.one_line_readers.specs.Reading.{NotFirst, UntilThere, NoPrefix, Ready, Primed, tree_words, Read}
+use Rattle.one_line_readers.specs.declared.emitted.Emitted.{Emitted}
+use Rattle.one_line_readers.proofs.Laying.{laid_none, laid_seq, relaid}
 
 -- what falls: the brackets that may still be opened and the signs that are left, and then the level
-unfoldable pub measure : ℕ → ℕ → ℕ → ℕ → ℕ
-measure left n at level = (left + (n - at)) * 8 + level
+unfoldable pub measure : ℕ → ℕ → ℕ → ℕ
+measure left n level = (left + n) * 8 + level
 
-false_true : {A : Type 0} → false ≡ true → A
-false_true e = absurd (true≢false (sym e))
+-- a call at a lower level
+pub falls : (left n t k i : ℕ) → measure left n k ≡ t → i < k → measure left n i < t
+unfolding measure
+falls left n t k i e h = omega arith
 
 -- ---- the words of a tree
 
-words_length : (ns : List Node) → length (words ns) ≡ length ns
-words_length ns = length-map ns node_word
-
-words_append : (ms ns : List Node) → words (ms ++ ns) ≡ words ms ++ words ns
-words_append [] ns = refl
-words_append (m ∷ ms) ns = rw (words_append ms ns)
-
 tree_words_length : (t : Tree) (b : ℕ) → length (tree_words t b) ≡ size (rule_tree_of t)
-tree_words_length t b = words_length (nodes_from b (rule_tree_of t)) ∙ nodes_size (rule_tree_of t) b
+tree_words_length t b = length-map (nodes_from b (rule_tree_of t)) node_word ∙ nodes_size (rule_tree_of t) b
 
 -- a sign adds as many nodes as stand between and after its operands
 infix_adds : (x : Infix) (m e : ℕ) → length (infix_middle x m) + length (infix_last x m e) ≡ infix_nodes x
@@ -101,8 +98,7 @@ infix_nodes_lem Since p q made m n e i j k =
     rw (f, d, h)
 
 append_one_by_one : (l : List Node) (a b c : Node) → (((l ++ (a ∷ [])) ++ (b ∷ [])) ++ (c ∷ [])) ≡ l ++ (a ∷ b ∷ c ∷ [])
-append_one_by_one [] a b c = refl
-append_one_by_one (x ∷ l) a b c = rw (append_one_by_one l a b c)
+append_one_by_one l a b c = simp append_assoc
 
 -- the nodes of an operand and a prefix, in their order
 prefix_nodes_lem : (x : Prefix) (p : Tree) (b n e : ℕ) → n ≡ b + length (prefix_first x) → e ≡ n + size (rule_tree_of p)
@@ -127,130 +123,32 @@ prefix_nodes_lem Always p b n e i j =
 infix_words : (x : Infix) (p q : Tree) (made m n e : ℕ) → m ≡ made + size (rule_tree_of p) → n ≡ m + length (words (infix_middle x m)) → e ≡ n + size (rule_tree_of q)
     → tree_words p made ++ (words (infix_middle x m) ++ (tree_words q n ++ words (infix_last x m e))) ≡ tree_words (joined x p q) made
 infix_words x p q made m n e i j k =
-    let l : n ≡ m + length (infix_middle x m) = j ∙ ap (λ (z : ℕ). m + z) (words_length (infix_middle x m)) in
-    rw (infix_nodes_lem x p q made m n e i l k) (simp words_append)
+    let l : n ≡ m + length (infix_middle x m) = j ∙ ap (λ (z : ℕ). m + z) (length-map (infix_middle x m) node_word) in
+    rw (infix_nodes_lem x p q made m n e i l k) (simp map-append)
 
 prefix_words : (x : Prefix) (p : Tree) (b n e : ℕ) → n ≡ b + length (words (prefix_first x)) → e ≡ n + size (rule_tree_of p)
     → words (prefix_first x) ++ (tree_words p n ++ words (prefix_last x b e)) ≡ tree_words (prefixed x p) b
 prefix_words x p b n e i j =
-    let l : n ≡ b + length (prefix_first x) = i ∙ ap (λ (z : ℕ). b + z) (words_length (prefix_first x)) in
-    rw (prefix_nodes_lem x p b n e l j) (simp words_append)
-
--- ---- `peek`
--- `peek`: a sign stands there
-pub peek_some : (cs : List ℕ) (count at : ℕ) → at < count → get_or cs at 0 ≡ get_or (take count cs) at 0
-peek_some cs count at h = sym (get_or-take count cs at 0 h)
-
--- `peek`: past the end
-pub peek_none : (cs : List ℕ) (count at : ℕ) → count ≤ at → 0 ≡ get_or (take count cs) at 0
-peek_none cs count at h = sym (get_or-eq_default (take count cs) 0 {n = at} (omega (arith, length-take count cs, h)))
-
-pub ruleset peek_laws = (rules, peek_some, peek_none)
-
--- ---- `is_prefix` and `is_until`
--- `is_prefix`, `is_prefix`: its return
-pub prefix_told : (c : ℕ) → (leb 3 c && leb c 7) ≡ is_prefix (sign_of c)
-unfolding sign_of
-prefix_told =
-    by_code (λ c. (leb 3 c && leb c 7) ≡ is_prefix (sign_of c))
-    refl refl refl refl refl refl refl refl refl refl refl refl refl
-    (λ n. rw (le-leb 3 (suc (suc (suc (suc (suc (suc (suc (suc (suc (suc (suc (suc (suc n))))))))))))) (omega arith), lt-leb (suc (suc (suc (suc (suc (suc (suc (suc (suc (suc (suc (suc (suc n))))))))))))) 7 (omega arith)))
-
--- `is_until`, `is_until`: its return
-pub until_told : (c : ℕ) → (leb 11 c && leb c 12) ≡ is_until (sign_of c)
-unfolding sign_of
-until_told =
-    by_code (λ c. (leb 11 c && leb c 12) ≡ is_until (sign_of c))
-    refl refl refl refl refl refl refl refl refl refl refl refl refl
-    (λ n. rw (le-leb 11 (suc (suc (suc (suc (suc (suc (suc (suc (suc (suc (suc (suc (suc n))))))))))))) (omega arith), lt-leb (suc (suc (suc (suc (suc (suc (suc (suc (suc (suc (suc (suc (suc n))))))))))))) 12 (omega arith)))
-
--- ---- the sign at a place
-
--- which codes bind how tightly
-record Bound (c : ℕ) : Type 0 where
-  is_1 : sign_strength (sign_of c) ≡ 1 → c ≡ 8
-  is_2 : sign_strength (sign_of c) ≡ 2 → c ≡ 9
-  is_3 : sign_strength (sign_of c) ≡ 3 → c ≡ 10
-  is_4 : sign_strength (sign_of c) ≡ 4 → is_until (sign_of c) ≡ true
-
-bound : (c : ℕ) → Bound c
-unfolding sign_of
-bound c = record {
-  is_1 = by_code (λ c. sign_strength (sign_of c) ≡ 1 → c ≡ 8) (omega arith) (omega arith) (omega arith) (omega arith) (omega arith) (omega arith) (omega arith) (omega arith) (omega arith) (omega arith) (omega arith) (omega arith) (omega arith) (λ n. omega arith) c;
-  is_2 = by_code (λ c. sign_strength (sign_of c) ≡ 2 → c ≡ 9) (omega arith) (omega arith) (omega arith) (omega arith) (omega arith) (omega arith) (omega arith) (omega arith) (omega arith) (omega arith) (omega arith) (omega arith) (omega arith) (λ n. omega arith) c;
-  is_3 = by_code (λ c. sign_strength (sign_of c) ≡ 3 → c ≡ 10) (omega arith) (omega arith) (omega arith) (omega arith) (omega arith) (omega arith) (omega arith) (omega arith) (omega arith) (omega arith) (omega arith) (omega arith) (omega arith) (λ n. omega arith) c;
-  is_4 =
-      by_code (λ c. sign_strength (sign_of c) ≡ 4 → is_until (sign_of c) ≡ true)
-      (λ e. absurd (omega arith)) (λ e. absurd (omega arith)) (λ e. absurd (omega arith)) (λ e. absurd (omega arith)) (λ e. absurd (omega arith)) (λ e. absurd (omega arith)) (λ e. absurd (omega arith)) (λ e. absurd (omega arith)) (λ e. absurd (omega arith)) (λ e. absurd (omega arith)) (λ e. absurd (omega arith)) (λ e. refl) (λ e. refl) (λ n e. absurd (omega arith)) c;
-}
-
-tight_ahead : (cs : List ℕ) (a c : ℕ) → c ≡ get_or cs a 0 → tight (ahead cs a) ≡ sign_strength (sign_of c)
-unfolding sign_of
-tight_ahead cs a c is = go (dec_lt a (length cs))
-  where
-    go : Dec (a < length cs) → tight (ahead cs a) ≡ sign_strength (sign_of c)
-    go (yes h) = rw (ahead_cons cs a h, is)
-    go (no h) = let k : length cs ≤ a = omega arith in rw (ahead_none cs a k, is, get_or-eq_default cs 0 {n = a} k)
-
--- a sign between two operands stands at a place
-record Joins (cs : List ℕ) (a : ℕ) (x : Infix) : Type 0 where
-  inside : a < length cs
-  there : ahead cs a ≡ (infix_sign x ∷ ahead cs (a + 1))
-
-joins : (cs : List ℕ) (a c : ℕ) (x : Infix) → c ≡ get_or cs a 0 → 0 < c → sign_of c ≡ infix_sign x → Joins cs a x
-joins cs a c x is some e =
-    let h = code_inside cs a c is some in
-    record { inside = h; there = ahead_cons cs a h ∙ ap (λ (y : Sign). y ∷ ahead cs (a + 1)) (ap sign_of (sym is) ∙ e) }
-
-implies_sign : (c : ℕ) → c ≡ 8 → sign_of c ≡ infix_sign Implies
-unfolding sign_of
-implies_sign c e = rw e
-
-or_sign : (c : ℕ) → c ≡ 9 → sign_of c ≡ infix_sign Or
-unfolding sign_of
-or_sign c e = rw e
-
-and_sign : (c : ℕ) → c ≡ 10 → sign_of c ≡ infix_sign And
-unfolding sign_of
-and_sign c e = rw e
-
-until_sign_lem : (c : ℕ) → is_until (sign_of c) ≡ true → sign_of c ≡ infix_sign (until_sign c)
-unfolding sign_of until_sign pick
-until_sign_lem = by_code (λ c. is_until (sign_of c) ≡ true → sign_of c ≡ infix_sign (until_sign c)) (λ e. false_true e) (λ e. false_true e) (λ e. false_true e) (λ e. false_true e) (λ e. false_true e) (λ e. false_true e) (λ e. false_true e) (λ e. false_true e) (λ e. false_true e) (λ e. false_true e) (λ e. false_true e) (λ e. refl) (λ e. refl) (λ n e. false_true e)
-
-until_some : (c : ℕ) → is_until (sign_of c) ≡ true → 0 < c
-unfolding sign_of
-until_some = by_code (λ c. is_until (sign_of c) ≡ true → 0 < c) (λ e. false_true e) (λ e. omega arith) (λ e. omega arith) (λ e. omega arith) (λ e. omega arith) (λ e. omega arith) (λ e. omega arith) (λ e. omega arith) (λ e. omega arith) (λ e. omega arith) (λ e. omega arith) (λ e. omega arith) (λ e. omega arith) (λ n e. omega arith)
-
-prefix_sign_lem : (c : ℕ) → is_prefix (sign_of c) ≡ true → sign_of c ≡ prefix_sign (prefix_of c)
-unfolding sign_of prefix_of pick
-prefix_sign_lem = by_code (λ c. is_prefix (sign_of c) ≡ true → sign_of c ≡ prefix_sign (prefix_of c)) (λ e. false_true e) (λ e. false_true e) (λ e. false_true e) (λ e. refl) (λ e. refl) (λ e. refl) (λ e. refl) (λ e. refl) (λ e. false_true e) (λ e. false_true e) (λ e. false_true e) (λ e. false_true e) (λ e. false_true e) (λ n e. false_true e)
-
-prefix_low : (c : ℕ) → is_prefix (sign_of c) ≡ true → 3 ≤ c
-unfolding sign_of
-prefix_low = by_code (λ c. is_prefix (sign_of c) ≡ true → 3 ≤ c) (λ e. false_true e) (λ e. false_true e) (λ e. false_true e) (λ e. omega arith) (λ e. omega arith) (λ e. omega arith) (λ e. omega arith) (λ e. omega arith) (λ e. omega arith) (λ e. omega arith) (λ e. omega arith) (λ e. omega arith) (λ e. omega arith) (λ n e. omega arith)
-
-prefix_high : (c : ℕ) → is_prefix (sign_of c) ≡ true → c ≤ 7
-unfolding sign_of
-prefix_high = by_code (λ c. is_prefix (sign_of c) ≡ true → c ≤ 7) (λ e. omega arith) (λ e. omega arith) (λ e. omega arith) (λ e. omega arith) (λ e. omega arith) (λ e. omega arith) (λ e. omega arith) (λ e. omega arith) (λ e. false_true e) (λ e. false_true e) (λ e. false_true e) (λ e. false_true e) (λ e. false_true e) (λ n e. false_true e)
+    let l : n ≡ b + length (prefix_first x) = i ∙ ap (λ (z : ℕ). b + z) (length-map (prefix_first x) node_word) in
+    rw (prefix_nodes_lem x p b n e l j) (simp map-append)
 
 -- ---- behind a phrase
 
-read_size : {l : Level} {b at made a m : ℕ} {cs out o : List ℕ} (r : Read l b cs at made out a m o) → m ≡ made + size (rule_tree_of r.tree)
-read_size {made = made} r = r.laid.next ∙ ap (λ (k : ℕ). made + k) (tree_words_length r.tree made)
+read_size : {l : Level} {b : ℕ} {s u : List SignCode} {o o' : Emitted} (r : Read l b s o u o') → o'.count ≡ o.count + size (rule_tree_of r.tree)
+read_size {o = o} r = r.laid.next ∙ ap (λ (k : ℕ). o.count + k) (tree_words_length r.tree o.count)
 
-record Going (left : ℕ) (cs : List ℕ) (at made a m : ℕ) (o : List ℕ) : Type 0 where
+record Going (left : ℕ) (s : List SignCode) (o : Emitted) (u : List SignCode) (o' : Emitted) : Type 0 where
   opened : ℕ
   most : ℕ
-  due : flat (ahead cs a) operator opened ≡ true
-  deep : most_open most opened (ahead cs a) ≤ left + opened
-  room : m + weight (ahead cs a) ≤ max_rule_nodes
-  held : max_rule_nodes ≤ length o
-  behind : made < m
-  onwards : length cs - a < length cs - at
+  due : flat (signs_in u) operator opened ≡ true
+  deep : most_open most opened (signs_in u) ≤ left + opened
+  room : o'.count + weight (signs_in u) ≤ max_rule_nodes
+  held : max_rule_nodes ≤ length o'.words
+  behind : o.count < o'.count
+  onwards : length u < length s
 
-going : {l : Level} {b left at made a m : ℕ} {cs out o : List ℕ} → Ready left cs at made out → Read l b cs at made out a m o → Going left cs at made a m o
-going {at = at} {a = a} {cs = cs} w r =
+going : {l : Level} {b left : ℕ} {s u : List SignCode} {o o' : Emitted} → Ready left s o → Read l b s o u o' → Going left s o u o'
+going {s = s} {u = u} w r =
     let p = phrase_opened r.phrase w.most w.opened in
     record {
       opened = w.opened;
@@ -260,8 +158,12 @@ going {at = at} {a = a} {cs = cs} w r =
       room = omega (arith, w.room, read_size r, phrase_weight r.phrase);
       held = omega (arith, w.held, r.laid.kept);
       behind = omega (arith, read_size r, size_some (rule_tree_of r.tree));
-      onwards = omega (arith, phrase_shorter r.phrase, ahead_length cs at, ahead_length cs a);
+      onwards = omega (arith, phrase_shorter r.phrase, length-map s sign_in, length-map u sign_in);
     }
+
+-- `last` behind a phrase
+pub read_last : {l : Level} {b left : ℕ} {s u : List SignCode} {o o' : Emitted} → Ready left s o → Read l b s o u o' → NodeThere o'
+read_last w r = record { some = omega (arith, (going w r).behind); few = omega (arith, (going w r).room) }
 
 weight_infix : (x : Infix) (s : List Sign) → weight (infix_sign x ∷ s) ≡ infix_nodes x + weight s
 unfolding weight sign_nodes
@@ -276,529 +178,309 @@ unfolding most_open
 most_infix x s most k = refl
 
 -- ---- a sign behind a phrase, and what is read after it
-module _ (l : Level) (b left at made a m : ℕ) (x : Infix) (cs out o₁ : List ℕ) (w : Ready left cs at made out) (r₁ : Read l b cs at made out a m o₁) (j : Joins cs a x) where
-  infix_room : m + (infix_nodes x + weight (ahead cs (a + 1))) ≤ max_rule_nodes
-  infix_room = omega (arith, (going w r₁).room, ap weight j.there ∙ weight_infix x (ahead cs (a + 1)))
+module _ {l : Level} {b left : ℕ} {x : InfixCode} {s u v : List SignCode} {o o₁ : Emitted} (w : Ready left s o) (r₁ : Read l b s o u o₁) (j : u ≡ (sign.Infix x ∷ v)) where
+  infix_room : o₁.count + (infix_nodes (infix_in x) + weight (signs_in v)) ≤ max_rule_nodes
+  infix_room = omega (arith, (going w r₁).room, ap (λ (u : List SignCode). weight (signs_in u)) j ∙ weight_infix (infix_in x) (signs_in v))
 
-  infix_behind : 0 < m
-  infix_behind = omega (arith, (going w r₁).behind)
-
-  infix_held : max_rule_nodes ≤ length o₁
-  infix_held = (going w r₁).held
-
-  infix_index : Fits w64 (a + 1)
-  infix_index = record { fits = omega (arith, j.inside, w.short) }
-
-  infix_falls : (t k i : ℕ) → measure left (length cs) at k ≡ t → i < k + 8 → measure left (length cs) (a + 1) i < t
+  -- a call after the sign, at whatever level: wrong programs are then refused for what they read
+  pub falls_after : (t k i : ℕ) → measure left (length s) k ≡ t → i < k + 8 → measure left (length v) i < t
   unfolding measure
-  infix_falls t k i e h = omega (arith, j.inside, (going w r₁).onwards)
+  falls_after t k i e h = omega (arith, (going w r₁).onwards, ap length j)
 
-  module _ (n : ℕ) (o₂ : List ℕ) (mid : Laid (words (infix_middle x m)) o₁ m n o₂) where
-    infix_ready : Ready left cs (a + 1) n o₂
+  module _ {o₂ : Emitted} (mid : Laid (words (infix_middle (infix_in x) o₁.count)) o₁ o₂) where
+    infix_ready : Ready left v o₂
     infix_ready = record {
       opened = (going w r₁).opened;
       most = (going w r₁).most;
-      due = sym (flat_infix x (ahead cs (a + 1)) (going w r₁).opened) ∙ (ap (λ (s : List Sign). flat s operator (going w r₁).opened) (sym j.there) ∙ (going w r₁).due);
+      due = sym (flat_infix (infix_in x) (signs_in v) (going w r₁).opened) ∙ (ap (λ (u : List SignCode). flat (signs_in u) operator (going w r₁).opened) (sym j) ∙ (going w r₁).due);
       deep =
           omega (
             arith,
             (going w r₁).deep,
-            ap (λ (s : List Sign). most_open (going w r₁).most (going w r₁).opened s) j.there ∙ most_infix x (ahead cs (a + 1)) (going w r₁).most (going w r₁).opened,
+            ap (λ (u : List SignCode). most_open (going w r₁).most (going w r₁).opened (signs_in u)) j ∙ most_infix (infix_in x) (signs_in v) (going w r₁).most (going w r₁).opened,
           );
-      room = omega (arith, infix_room, infix_adds x m m, mid.next, words_length (infix_middle x m));
-      held = omega (arith, infix_held, mid.kept);
-      low = w.low;
-      short = w.short;
+      room = omega (arith, infix_room, infix_adds (infix_in x) o₁.count o₁.count, mid.next, length-map (infix_middle (infix_in x) o₁.count) node_word);
+      held = omega (arith, (going w r₁).held, mid.kept);
     }
 
-    module _ (l₂ : Level) (b₂ a' e : ℕ) (o₃ : List ℕ) (r₂ : Read l₂ b₂ cs (a + 1) n o₂ a' e o₃) where
-      infix_after : e + length (infix_last x m e) ≤ max_rule_nodes
-      infix_after = omega (arith, infix_room, infix_adds x m e, mid.next, words_length (infix_middle x m), read_size r₂, phrase_weight r₂.phrase)
+    module _ {l₂ : Level} {b₂ : ℕ} {u₂ : List SignCode} {o₃ : Emitted} (r₂ : Read l₂ b₂ v o₂ u₂ o₃) where
+      infix_after : o₃.count + length (infix_last (infix_in x) o₁.count o₃.count) ≤ max_rule_nodes
+      infix_after = omega (arith, infix_room, infix_adds (infix_in x) o₁.count o₃.count, mid.next, length-map (infix_middle (infix_in x) o₁.count) node_word, read_size r₂, phrase_weight r₂.phrase)
 
-      infix_order : m < e
-      infix_order = omega (arith, mid.next, (going infix_ready r₂).behind)
+      infix_held : max_rule_nodes ≤ length o₃.words
+      infix_held = (going infix_ready r₂).held
 
-      infix_held_after : max_rule_nodes ≤ length o₃
-      infix_held_after = (going infix_ready r₂).held
+      infix_some : 0 < o₃.count
+      infix_some = omega (arith, (going infix_ready r₂).behind)
 
-      infix_onwards : length cs - a' < length cs - a
-      infix_onwards = omega (arith, j.inside, (going infix_ready r₂).onwards)
+      infix_onwards : length u₂ < length u
+      infix_onwards = omega (arith, (going infix_ready r₂).onwards, ap length j)
 
-      infix_first : Phrase l (ahead cs at) (infix_sign x ∷ ahead cs (a + 1)) r₁.tree
-      infix_first = rw j.there at r₁.phrase
+      infix_first : Phrase l (signs_in s) (infix_sign (infix_in x) ∷ signs_in v) r₁.tree
+      infix_first = rw j at r₁.phrase
 
-      infix_laid : (f : ℕ) (o₄ : List ℕ) → Laid (words (infix_last x m e)) o₃ e f o₄ → Laid (tree_words (joined x r₁.tree r₂.tree) made) out made f o₄
-      infix_laid f o₄ last =
-          relaid (infix_words x r₁.tree r₂.tree made m n e (read_size r₁) mid.next (read_size r₂))
+      infix_laid : {o₄ : Emitted} → Laid (words (infix_last (infix_in x) o₁.count o₃.count)) o₃ o₄ → Laid (tree_words (joined (infix_in x) r₁.tree r₂.tree) o.count) o o₄
+      infix_laid last =
+          relaid (infix_words (infix_in x) r₁.tree r₂.tree o.count o₁.count o₂.count o₃.count (read_size r₁) mid.next (read_size r₂))
           (laid_seq r₁.laid (laid_seq mid (laid_seq r₂.laid last)))
 
--- what was read stops at a code
+-- what was read stops at a sign
 below : (k b : ℕ) → k < b + 1 → (k ≡ b → ⊥) → k < b
 below k b h n = omega arith
 
+-- where a sign between two operands binds with strength k, it is that sign
+tight_infix : (u : List SignCode) (k : ℕ) → 0 < k → tight (signs_in u) ≡ k → ((x : InfixCode) (v : List SignCode) → u ≡ (sign.Infix x ∷ v) → strength (infix_in x) ≡ k → ⊥) → ⊥
+tight_infix [] k h e n = omega arith
+tight_infix (sign.True ∷ v) k h e n = omega arith
+tight_infix (sign.Atom a ∷ v) k h e n = omega arith
+tight_infix (sign.Prefix x ∷ v) k h e n = omega arith
+tight_infix (sign.Infix x ∷ v) k h e n = n x v refl e
+tight_infix (sign.Opening ∷ v) k h e n = omega arith
+tight_infix (sign.Closing ∷ v) k h e n = omega arith
+
+-- a phrase ends where what would go on does not follow
+ended : (x : InfixCode) (u : List SignCode) → NotFirst (sign.Infix x) u → ((y : InfixCode) → strength (infix_in y) ≡ strength (infix_in x) → y ≡ x) → tight (signs_in u) ≡ strength (infix_in x) → ⊥
+ended x u n only e = tight_infix u (strength (infix_in x)) (some x) e (λ y v j s. n v (j ∙ rw (only y s)))
+  where
+    some : (x : InfixCode) → 0 < strength (infix_in x)
+    some between.Implies = omega arith
+    some between.Or = omega arith
+    some between.And = omega arith
+    some between.Until = omega arith
+    some between.Since = omega arith
+
 -- ---- `arrows`
-pub arrows_ors_falls : (left n at t : ℕ) → measure left n at 6 ≡ t → measure left n at 5 < t
-unfolding measure
-arrows_ors_falls left n at t e = omega arith
-
-implies_last : (m e u : ℕ) → u ≡ node_word (node table.Or m (e - 1)) → (u ∷ []) ≡ words (infix_last Implies m e)
-unfolding infix_last
-implies_last m e u q = rw q
-
-implies_middle : (m : ℕ) → not_words m ≡ words (infix_middle Implies m)
-unfolding infix_middle
-implies_middle m = refl
-
-implies_adds : infix_nodes Implies ≡ 2
-unfolding infix_nodes
-implies_adds = refl
+implies_only : (y : InfixCode) → strength (infix_in y) ≡ 1 → y ≡ between.Implies
+implies_only between.Implies e = refl
+implies_only between.Or e = absurd (omega arith)
+implies_only between.And e = absurd (omega arith)
+implies_only between.Until e = absurd (omega arith)
+implies_only between.Since e = absurd (omega arith)
 
 -- these do not ask at which level the operands were read
-module _ (l : Level) (b left at made a m c : ℕ) (cs out o₁ : List ℕ) (w : Ready left cs at made out) (r₁ : Read l b cs at made out a m o₁) (is : c ≡ get_or cs a 0) (there : c ≡ 8) where
-  implies_joins : Joins cs a Implies
-  implies_joins = joins cs a c Implies is (omega arith) (implies_sign c there)
+module _ {l : Level} {b left : ℕ} {s u v : List SignCode} {o o₁ : Emitted} (w : Ready left s o) (r₁ : Read l b s o u o₁) (j : u ≡ (sign.Infix between.Implies ∷ v)) where
+  implies_room : o₁.count + 2 ≤ max_rule_nodes
+  unfolding infix_nodes
+  implies_room = omega (arith, infix_room w r₁ j)
 
-  implies_room : m + 2 ≤ max_rule_nodes
-  implies_room = omega (arith, implies_adds, infix_room l b left at made a m Implies cs out o₁ w r₁ implies_joins)
+  pub arrows_not : SpaceBehind 1 o₁
+  arrows_not = record { behind = omega (arith, (going w r₁).behind); space = record { room = omega (arith, implies_room); held = (going w r₁).held } }
 
-  pub arrows_not : SpaceBehind 1 m o₁
-  arrows_not = record {
-    behind = infix_behind l b left at made a m Implies cs out o₁ w r₁ implies_joins;
-    room = omega (arith, implies_room);
-    held = infix_held l b left at made a m Implies cs out o₁ w r₁ implies_joins;
-  }
+  module _ {o₂ : Emitted} (mid : Laid (not_words o₁.count) o₁ o₂) where
+    pub arrows_ready : Ready left v o₂
+    unfolding infix_middle
+    arrows_ready = infix_ready w r₁ j mid
 
-  pub arrows_low_first : m < operand_span
-  arrows_low_first = omega (arith, implies_room)
+    pub arrows_join : {l₂ : Level} {b₂ : ℕ} {u₂ : List SignCode} {o₃ : Emitted} → Read l₂ b₂ v o₂ u₂ o₃ → {p : ℕ} → p ≡ o₂.count - 1 → SpaceOver 1 kind.Or p o₃
+    unfolding infix_middle infix_last
+    arrows_join r₂ e =
+        record { known = λ z. cc; first = omega (arith, mid.next, implies_room); space = record { behind = infix_some w r₁ j mid r₂; space = record { room = infix_after w r₁ j mid r₂; held = infix_held w r₁ j mid r₂ } } }
 
-  pub arrows_index : Fits w64 (a + 1)
-  arrows_index = infix_index l b left at made a m Implies cs out o₁ w r₁ implies_joins
+-- `arrows`, `Phrase`'s `arrow`: what is joined
+pub arrows_read : {left : ℕ} {s u v u₂ : List SignCode} {o o₁ o₂ o₃ o₄ : Emitted} → Ready left s o → Read Ors 2 s o u o₁ → u ≡ (sign.Infix between.Implies ∷ v) → Laid (not_words o₁.count) o₁ o₂ → Read Arrows 1 v o₂ u₂ o₃
+    → {p : ℕ} → p ≡ o₂.count - 1 → Laid (words (node table.Or p (o₃.count - 1) ∷ [])) o₃ o₄ → Read Arrows 1 s o u₂ o₄
+unfolding infix_middle infix_last
+arrows_read {o₁ = o₁} w r₁ j mid r₂ {p} e last =
+    let m : p ≡ o₁.count = omega (arith, mid.next) in
+    record {
+      tree = joined Implies r₁.tree r₂.tree;
+      phrase = arrow (infix_first w r₁ j mid r₂) r₂.phrase;
+      stops = r₂.stops;
+      laid = infix_laid w r₁ j mid r₂ (relaid (rw m) last);
+    }
 
-  pub arrows_falls : (t : ℕ) → measure left (length cs) at 6 ≡ t → measure left (length cs) (a + 1) 6 < t
-  arrows_falls t e = infix_falls l b left at made a m Implies cs out o₁ w r₁ implies_joins t 6 6 e (omega arith)
-
-  -- a call that wrong programs make: it falls too, so that they are refused for what they read
-  pub arrows_falls_to_ors : (t : ℕ) → measure left (length cs) at 6 ≡ t → measure left (length cs) (a + 1) 5 < t
-  arrows_falls_to_ors t e = infix_falls l b left at made a m Implies cs out o₁ w r₁ implies_joins t 6 5 e (omega arith)
-
-  module _ (n : ℕ) (o₂ : List ℕ) (mid : Laid (not_words m) o₁ m n o₂) where
-    implies_mid : Laid (words (infix_middle Implies m)) o₁ m n o₂
-    implies_mid = relaid (implies_middle m) mid
-
-    pub arrows_ready : Ready left cs (a + 1) n o₂
-    arrows_ready = infix_ready l b left at made a m Implies cs out o₁ w r₁ implies_joins n o₂ implies_mid
-
-    module _ (l₂ : Level) (b₂ a' e : ℕ) (o₃ : List ℕ) (r₂ : Read l₂ b₂ cs (a + 1) n o₂ a' e o₃) where
-      implies_room_after : e + 1 ≤ max_rule_nodes
-      unfolding infix_last
-      implies_room_after = infix_after l b left at made a m Implies cs out o₁ w r₁ implies_joins n o₂ implies_mid l₂ b₂ a' e o₃ r₂
-
-      pub arrows_some_after : 1 ≤ e
-      arrows_some_after = omega (arith, infix_order l b left at made a m Implies cs out o₁ w r₁ implies_joins n o₂ implies_mid l₂ b₂ a' e o₃ r₂)
-
-      pub arrows_low_second : e - 1 < operand_span
-      arrows_low_second = omega (arith, implies_room_after)
-
-      pub arrows_write_after : e < max_rule_nodes
-      arrows_write_after = omega (arith, implies_room_after)
-
-      implies_fits : e < length o₃
-      implies_fits = omega (arith, implies_room_after, infix_held_after l b left at made a m Implies cs out o₁ w r₁ implies_joins n o₂ implies_mid l₂ b₂ a' e o₃ r₂)
-
-      pub arrows_next_after : Fits w64 (e + 1)
-      arrows_next_after = record { fits = omega (arith, implies_room_after) }
-
-      module _ (u : ℕ) (p : u ≡ node_word (node table.Or m (e - 1))) where
-        implies_end : Laid (words (infix_last Implies m e)) o₃ e (e + 1) (set o₃ e u)
-        implies_end = relaid (implies_last m e u p) (laid_one u o₃ e implies_fits)
-
-module _ (left at made a m c : ℕ) (cs out o₁ : List ℕ) (w : Ready left cs at made out) (r₁ : Read Ors 2 cs at made out a m o₁) (is : c ≡ get_or cs a 0) where
-  -- `arrows`, `Phrase`'s `arrow`: what is joined
-  pub arrows_read : c ≡ 8 → (n : ℕ) (o₂ : List ℕ) → Laid (not_words m) o₁ m n o₂ → (a' e : ℕ) (o₃ : List ℕ) → Read Arrows 1 cs (a + 1) n o₂ a' e o₃
-      → (u : ℕ) → u ≡ node_word (node table.Or m (e - 1)) → Read Arrows 1 cs at made out a' (e + 1) (set o₃ e u)
-  arrows_read there n o₂ mid a' e o₃ r₂ u p =
-      let j = implies_joins Ors 2 left at made a m c cs out o₁ w r₁ is there in
-      let i = implies_mid Ors 2 left at made a m c cs out o₁ w r₁ is there n o₂ mid in
-      record {
-        tree = joined Implies r₁.tree r₂.tree;
-        phrase = arrow (infix_first Ors 2 left at made a m Implies cs out o₁ w r₁ j n o₂ i Arrows 1 a' e o₃ r₂) r₂.phrase;
-        stops = r₂.stops;
-        laid = infix_laid Ors 2 left at made a m Implies cs out o₁ w r₁ j n o₂ i Arrows 1 a' e o₃ r₂ (e + 1) (set o₃ e u)
-            (implies_end Ors 2 left at made a m c cs out o₁ w r₁ is there n o₂ mid Arrows 1 a' e o₃ r₂ u p);
-      }
-
-  -- `arrows`, `Phrase`'s `no_arrow`: no arrow follows
-  pub arrows_stop : (c ≡ 8 → ⊥) → Read Arrows 1 cs at made out a m o₁
-  arrows_stop no_arrow_lem = record {
-    tree = r₁.tree;
-    phrase = no_arrow r₁.phrase;
-    stops = below (tight (ahead cs a)) 1 r₁.stops (λ e. no_arrow_lem ((bound c).is_1 (sym (tight_ahead cs a c is) ∙ e)));
-    laid = r₁.laid;
-  }
-
-pub ruleset arrows_laws = (rules, arrows_some_after, arrows_next_after)
-
-pub ruleset arrows_falling = (arrows_ors_falls, arrows_falls, arrows_falls_to_ors)
-
--- ---- `untils`
-pub untils_prefixes_falls : (left n at t : ℕ) → measure left n at 3 ≡ t → measure left n at 2 < t
-unfolding measure
-untils_prefixes_falls left n at t e = omega arith
-
-until_or_since : (c : ℕ) (P : Infix → Type 0) → P Until → P Since → P (until_sign c)
-unfolding until_sign pick
-until_or_since c P u s = by_test (eqb c 11) (λ e. rw e u) (λ e. rw e s)
-
-until_phrase : (c : ℕ) (s v u : List Sign) (p q : Tree) → Phrase Prefixes s (infix_sign (until_sign c) ∷ v) p → Phrase Untils v u q → Phrase Untils s u (joined (until_sign c) p q)
-until_phrase c s v u p q =
-    until_or_since c (λ (y : Infix). Phrase Prefixes s (infix_sign y ∷ v) p → Phrase Untils v u q → Phrase Untils s u (joined y p q)) (λ f g. until f g) (λ f g. since f g)
-
-until_adds : (c : ℕ) → infix_nodes (until_sign c) ≡ 1
-unfolding infix_nodes
-until_adds c = until_or_since c (λ (y : Infix). infix_nodes y ≡ 1) refl refl
-
-until_middle : (c m : ℕ) → [] ≡ words (infix_middle (until_sign c) m)
-unfolding infix_middle
-until_middle c m = until_or_since c (λ (y : Infix). [] ≡ words (infix_middle y m)) refl refl
-
-until_last : (c m e u : ℕ) → u ≡ node_word (node (until_kind c) (m - 1) (e - 1)) → (u ∷ []) ≡ words (infix_last (until_sign c) m e)
-unfolding infix_last until_kind until_sign pick
-until_last c m e u q = by_test (eqb c 11) (λ z. rw (q, z)) (λ z. rw (q, z))
-
--- these do not ask at which level the operands were read
-module _ (l : Level) (b left at made a m c : ℕ) (cs out o₁ : List ℕ) (w : Ready left cs at made out) (r₁ : Read l b cs at made out a m o₁) (is : c ≡ get_or cs a 0) (followed : Bool) (told : followed ≡ is_until (sign_of c)) where
-  module _ (there : followed ≡ true) where
-    until_joins : Joins cs a (until_sign c)
-    until_joins = joins cs a c (until_sign c) is (until_some c (sym told ∙ there)) (until_sign_lem c (sym told ∙ there))
-
-    until_mid : Laid (words (infix_middle (until_sign c) m)) o₁ m m o₁
-    until_mid = relaid (until_middle c m) (laid_none o₁ m (omega (arith, until_adds c, infix_room l b left at made a m (until_sign c) cs out o₁ w r₁ until_joins, infix_held l b left at made a m (until_sign c) cs out o₁ w r₁ until_joins)))
-
-    pub untils_index : Fits w64 (a + 1)
-    untils_index = infix_index l b left at made a m (until_sign c) cs out o₁ w r₁ until_joins
-
-    pub untils_falls : (t : ℕ) → measure left (length cs) at 3 ≡ t → measure left (length cs) (a + 1) 3 < t
-    untils_falls t e = infix_falls l b left at made a m (until_sign c) cs out o₁ w r₁ until_joins t 3 3 e (omega arith)
-
-    -- a call that wrong programs make: it falls too, so that they are refused for what they read
-    pub untils_falls_to_prefixes : (t : ℕ) → measure left (length cs) at 3 ≡ t → measure left (length cs) (a + 1) 2 < t
-    untils_falls_to_prefixes t e = infix_falls l b left at made a m (until_sign c) cs out o₁ w r₁ until_joins t 3 2 e (omega arith)
-
-    pub untils_ready : Ready left cs (a + 1) m o₁
-    untils_ready = infix_ready l b left at made a m (until_sign c) cs out o₁ w r₁ until_joins m o₁ until_mid
-
-    pub untils_some : 1 ≤ m
-    untils_some = infix_behind l b left at made a m (until_sign c) cs out o₁ w r₁ until_joins
-
-    module _ (l₂ : Level) (b₂ a' e : ℕ) (o₃ : List ℕ) (r₂ : Read l₂ b₂ cs (a + 1) m o₁ a' e o₃) where
-      until_order : m < e
-      until_order = infix_order l b left at made a m (until_sign c) cs out o₁ w r₁ until_joins m o₁ until_mid l₂ b₂ a' e o₃ r₂
-
-      until_room_after : e + 1 ≤ max_rule_nodes
-      until_room_after =
-          omega (
-            arith,
-            infix_after l b left at made a m (until_sign c) cs out o₁ w r₁ until_joins m o₁ until_mid l₂ b₂ a' e o₃ r₂,
-            until_adds c,
-            infix_adds (until_sign c) m e,
-            words_length (infix_middle (until_sign c) m),
-            ap length (until_middle c m),
-          )
-
-      pub untils_some_after : 1 ≤ e
-      untils_some_after = omega (arith, until_order)
-
-      pub untils_low_first : m - 1 < operand_span
-      untils_low_first = omega (arith, until_order, until_room_after)
-
-      pub untils_low_second : e - 1 < operand_span
-      untils_low_second = omega (arith, until_room_after)
-
-      pub untils_write_after : e < max_rule_nodes
-      untils_write_after = omega (arith, until_room_after)
-
-      until_fits : e < length o₃
-      until_fits = omega (arith, until_room_after, infix_held_after l b left at made a m (until_sign c) cs out o₁ w r₁ until_joins m o₁ until_mid l₂ b₂ a' e o₃ r₂)
-
-      pub untils_next_after : Fits w64 (e + 1)
-      untils_next_after = record { fits = omega (arith, until_room_after) }
-
-      module _ (u : ℕ) (p : u ≡ node_word (node (until_kind c) (m - 1) (e - 1))) where
-        until_end : Laid (words (infix_last (until_sign c) m e)) o₃ e (e + 1) (set o₃ e u)
-        until_end = relaid (until_last c m e u p) (laid_one u o₃ e until_fits)
-
-module _ (left at made a m c : ℕ) (cs out o₁ : List ℕ) (w : Ready left cs at made out) (r₁ : Read Prefixes 5 cs at made out a m o₁) (is : c ≡ get_or cs a 0) (followed : Bool) (told : followed ≡ is_until (sign_of c)) where
-  -- `untils`, `Phrase`'s `no_until`: neither `U` nor `S` follows
-  pub untils_stop : followed ≡ false → Read Untils 4 cs at made out a m o₁
-  untils_stop no_until_lem = record {
-    tree = r₁.tree;
-    phrase = no_until r₁.phrase;
-    stops =
-        below (tight (ahead cs a)) 4 r₁.stops
-        (λ e. let q = (bound c).is_4 (sym (tight_ahead cs a c is) ∙ e) in false_true (sym no_until_lem ∙ (told ∙ q)));
-    laid = r₁.laid;
-  }
-
-  -- `untils`, `Phrase`'s `until` and `since`: what is joined
-  pub untils_read : followed ≡ true → (a' e : ℕ) (o₃ : List ℕ) → Read Untils 4 cs (a + 1) m o₁ a' e o₃
-      → (u : ℕ) → u ≡ node_word (node (until_kind c) (m - 1) (e - 1)) → Read Untils 4 cs at made out a' (e + 1) (set o₃ e u)
-  untils_read there a' e o₃ r₂ u p =
-      let j = until_joins Prefixes 5 left at made a m c cs out o₁ w r₁ is followed told there in
-      let mid = until_mid Prefixes 5 left at made a m c cs out o₁ w r₁ is followed told there in
-      record {
-        tree = joined (until_sign c) r₁.tree r₂.tree;
-        phrase =
-            until_phrase c (ahead cs at) (ahead cs (a + 1)) (ahead cs a') r₁.tree r₂.tree
-            (infix_first Prefixes 5 left at made a m (until_sign c) cs out o₁ w r₁ j m o₁ mid Untils 4 a' e o₃ r₂) r₂.phrase;
-        stops = r₂.stops;
-        laid = infix_laid Prefixes 5 left at made a m (until_sign c) cs out o₁ w r₁ j m o₁ mid Untils 4 a' e o₃ r₂ (e + 1) (set o₃ e u)
-            (until_end Prefixes 5 left at made a m c cs out o₁ w r₁ is followed told there Untils 4 a' e o₃ r₂ u p);
-      }
-
-pub ruleset untils_laws = (rules, untils_some, untils_some_after, untils_next_after)
-
-pub ruleset untils_falling = (untils_prefixes_falls, untils_falls, untils_falls_to_prefixes)
-
--- ---- a turn of the loops of `ors` and `ands`: whatever was lent, what was read before the loop is read on
-pub record Turn (l : Level) (b left : ℕ) (cs : List ℕ) (at made a₀ m₀ : ℕ) (o₀ : List ℕ) (a m : ℕ) (o : List ℕ) : Type 0 where
-  pub on : (out : List ℕ) → Ready left cs at made out → Read l b cs at made out a₀ m₀ o₀ → Read l b cs at made out a m o
-
-turn_start : (l : Level) (b left at made a m : ℕ) (cs o : List ℕ) → Turn l b left cs at made a m o a m o
-turn_start l b left at made a m cs o = record { on = λ out w r. r }
+-- `arrows`, `Phrase`'s `no_arrow`: no arrow follows
+pub arrows_stop : {s u : List SignCode} {o o₁ : Emitted} → Read Ors 2 s o u o₁ → NotFirst (sign.Infix between.Implies) u → Read Arrows 1 s o u o₁
+arrows_stop {u = u} r n = record {
+  tree = r.tree;
+  phrase = no_arrow r.phrase;
+  stops = below (tight (signs_in u)) 1 r.stops (ended between.Implies u n implies_only);
+  laid = r.laid;
+}
 
 -- ---- `ors`
-pub ors_ands_falls : (left n at t : ℕ) → measure left n at 5 ≡ t → measure left n at 4 < t
-unfolding measure
-ors_ands_falls left n at t e = omega arith
+
+or_only : (y : InfixCode) → strength (infix_in y) ≡ 2 → y ≡ between.Or
+or_only between.Implies e = absurd (omega arith)
+or_only between.Or e = refl
+or_only between.And e = absurd (omega arith)
+or_only between.Until e = absurd (omega arith)
+or_only between.Since e = absurd (omega arith)
 
 -- `ors`: before the first turn
-pub ors_start : (left at made a m : ℕ) (cs o : List ℕ) → Turn Ors 3 left cs at made a m o a m o
-ors_start left at made a m cs o = turn_start Ors 3 left at made a m cs o
+pub ors_start : {s u : List SignCode} {o o₁ : Emitted} → Read Ands 3 s o u o₁ → Read Ors 3 s o u o₁
+ors_start r = record { tree = r.tree; phrase = no_or r.phrase; stops = r.stops; laid = r.laid }
 
-or_up : {at made a m : ℕ} {cs out o : List ℕ} → Read Ands 3 cs at made out a m o → Read Ors 3 cs at made out a m o
-or_up r = record { tree = r.tree; phrase = no_or r.phrase; stops = r.stops; laid = r.laid }
+-- `ors`, `Phrase`'s `no_or` and `or`: no `|` follows
+pub ors_stop : {s u : List SignCode} {o o₁ : Emitted} → Read Ors 3 s o u o₁ → NotFirst (sign.Infix between.Or) u → Read Ors 2 s o u o₁
+ors_stop {u = u} r n = record {
+  tree = r.tree;
+  phrase = r.phrase;
+  stops = below (tight (signs_in u)) 2 r.stops (ended between.Or u n or_only);
+  laid = r.laid;
+}
 
-or_adds : infix_nodes Or ≡ 1
-unfolding infix_nodes
-or_adds = refl
+module _ {left : ℕ} {s u v : List SignCode} {o o₁ : Emitted} (w : Ready left s o) (r₁ : Read Ors 3 s o u o₁) (j : u ≡ (sign.Infix between.Or ∷ v)) where
+  or_room : o₁.count + 1 ≤ max_rule_nodes
+  unfolding infix_nodes
+  or_room = omega (arith, infix_room w r₁ j)
 
-or_middle : (m : ℕ) → [] ≡ words (infix_middle Or m)
-unfolding infix_middle
-or_middle m = refl
+  or_mid : Laid (words (infix_middle Or o₁.count)) o₁ o₁
+  unfolding infix_middle
+  or_mid = laid_none o₁ (omega (arith, or_room, (going w r₁).held))
 
-or_last : (m e u : ℕ) → u ≡ node_word (node table.Or (m - 1) (e - 1)) → (u ∷ []) ≡ words (infix_last Or m e)
-unfolding infix_last
-or_last m e u q = rw q
+  pub ors_ready : Ready left v o₁
+  ors_ready = infix_ready w r₁ j or_mid
 
-or_last_length : (m e : ℕ) → length (infix_last Or m e) ≡ 1
-unfolding infix_last
-or_last_length m e = refl
+  module _ {l₂ : Level} {b₂ : ℕ} {u₂ : List SignCode} {o₃ : Emitted} (r₂ : Read l₂ b₂ v o₁ u₂ o₃) where
+    pub ors_join : {p : ℕ} → p ≡ o₁.count - 1 → SpaceOver 1 kind.Or p o₃
+    unfolding infix_last
+    ors_join e =
+        record { known = λ z. cc; first = omega (arith, or_room); space = record { behind = infix_some w r₁ j or_mid r₂; space = record { room = infix_after w r₁ j or_mid r₂; held = infix_held w r₁ j or_mid r₂ } } }
 
-or_mid : (m : ℕ) (o : List ℕ) → m ≤ length o → Laid (words (infix_middle Or m)) o m m o
-or_mid m o h = relaid (or_middle m) (laid_none o m h)
-
-module _ (left at made a₀ m₀ a m : ℕ) (cs out o₀ o₁ : List ℕ) (w : Ready left cs at made out) (r₀ : Read Ands 3 cs at made out a₀ m₀ o₀) (inv : Turn Ors 3 left cs at made a₀ m₀ o₀ a m o₁) where
-  ors_so_far : Read Ors 3 cs at made out a m o₁
-  ors_so_far = inv.on out w (or_up r₀)
-
-  module _ (c : ℕ) (is : c ≡ get_or cs a 0) where
-    -- `ors`, `Phrase`'s `no_or` and `or`: no `|` follows
-    pub ors_stop : (c ≡ 9 → ⊥) → Read Ors 2 cs at made out a m o₁
-    ors_stop none_follows = record {
-      tree = ors_so_far.tree;
-      phrase = ors_so_far.phrase;
-      stops = below (tight (ahead cs a)) 2 ors_so_far.stops (λ e. none_follows ((bound c).is_2 (sym (tight_ahead cs a c is) ∙ e)));
-      laid = ors_so_far.laid;
-    }
-
-    module _ (there : c ≡ 9) where
-      or_joins : Joins cs a Or
-      or_joins = joins cs a c Or is (omega arith) (or_sign c there)
-
-      or_fits : m ≤ length o₁
-      or_fits = omega (arith, or_adds, infix_room Ors 3 left at made a m Or cs out o₁ w ors_so_far or_joins, infix_held Ors 3 left at made a m Or cs out o₁ w ors_so_far or_joins)
-
-      pub ors_index : Fits w64 (a + 1)
-      ors_index = infix_index Ors 3 left at made a m Or cs out o₁ w ors_so_far or_joins
-
-      pub ors_falls : (t : ℕ) → measure left (length cs) at 5 ≡ t → measure left (length cs) (a + 1) 4 < t
-      ors_falls t e = infix_falls Ors 3 left at made a m Or cs out o₁ w ors_so_far or_joins t 5 4 e (omega arith)
-
-      -- a call that wrong programs make: it falls too, so that they are refused for what they read
-      pub ors_falls_to_ors : (t : ℕ) → measure left (length cs) at 5 ≡ t → measure left (length cs) (a + 1) 5 < t
-      ors_falls_to_ors t e = infix_falls Ors 3 left at made a m Or cs out o₁ w ors_so_far or_joins t 5 5 e (omega arith)
-
-      pub ors_ready : Ready left cs (a + 1) m o₁
-      ors_ready = infix_ready Ors 3 left at made a m Or cs out o₁ w ors_so_far or_joins m o₁ (or_mid m o₁ or_fits)
-
-      pub ors_some : 1 ≤ m
-      ors_some = infix_behind Ors 3 left at made a m Or cs out o₁ w ors_so_far or_joins
-
-      module _ (l₂ : Level) (b₂ a' e : ℕ) (o₃ : List ℕ) (r₂ : Read l₂ b₂ cs (a + 1) m o₁ a' e o₃) where
-        or_order : m < e
-        or_order = infix_order Ors 3 left at made a m Or cs out o₁ w ors_so_far or_joins m o₁ (or_mid m o₁ or_fits) l₂ b₂ a' e o₃ r₂
-
-        or_room_after : e + 1 ≤ max_rule_nodes
-        or_room_after = omega (arith, infix_after Ors 3 left at made a m Or cs out o₁ w ors_so_far or_joins m o₁ (or_mid m o₁ or_fits) l₂ b₂ a' e o₃ r₂, or_last_length m e)
-
-        pub ors_some_after : 1 ≤ e
-        ors_some_after = omega (arith, or_order)
-
-        pub ors_low_first : m - 1 < operand_span
-        ors_low_first = omega (arith, or_order, or_room_after)
-
-        pub ors_low_second : e - 1 < operand_span
-        ors_low_second = omega (arith, or_room_after)
-
-        pub ors_write_after : e < max_rule_nodes
-        ors_write_after = omega (arith, or_room_after)
-
-        pub ors_fits : e < length o₃
-        ors_fits = omega (arith, or_room_after, infix_held_after Ors 3 left at made a m Or cs out o₁ w ors_so_far or_joins m o₁ (or_mid m o₁ or_fits) l₂ b₂ a' e o₃ r₂)
-
-        pub ors_next_after : Fits w64 (e + 1)
-        ors_next_after = record { fits = omega (arith, or_room_after) }
-
-        pub ors_less : length cs - a' < length cs - a
-        ors_less = infix_onwards Ors 3 left at made a m Or cs out o₁ w ors_so_far or_joins m o₁ (or_mid m o₁ or_fits) l₂ b₂ a' e o₃ r₂
-
-module _ (left at made a₀ m₀ a m c : ℕ) (cs o₀ o₁ : List ℕ) (inv : Turn Ors 3 left cs at made a₀ m₀ o₀ a m o₁) (is : c ≡ get_or cs a 0) (there : c ≡ 9)
-    (a' e u : ℕ) (o₃ : List ℕ) (r₂ : Read Ands 3 cs (a + 1) m o₁ a' e o₃) (fits : e < length o₃) (p : u ≡ node_word (node table.Or (m - 1) (e - 1))) where
-  or_end : Laid (words (infix_last Or m e)) o₃ e (e + 1) (set o₃ e u)
-  or_end = relaid (or_last m e u p) (laid_one u o₃ e fits)
-
-  ors_more : (out : List ℕ) → Ready left cs at made out → Read Ors 3 cs at made out a m o₁ → Read Ors 3 cs at made out a' (e + 1) (set o₃ e u)
-  ors_more out w r₁ =
-      let j : Joins cs a Or = joins cs a c Or is (omega arith) (or_sign c there) in
-      let f : m ≤ length o₁ = omega (arith, or_adds, infix_room Ors 3 left at made a m Or cs out o₁ w r₁ j, infix_held Ors 3 left at made a m Or cs out o₁ w r₁ j) in
-      record {
-        tree = joined Or r₁.tree r₂.tree;
-        phrase = or (infix_first Ors 3 left at made a m Or cs out o₁ w r₁ j m o₁ (or_mid m o₁ f) Ands 3 a' e o₃ r₂) r₂.phrase;
-        stops = r₂.stops;
-        laid = infix_laid Ors 3 left at made a m Or cs out o₁ w r₁ j m o₁ (or_mid m o₁ f) Ands 3 a' e o₃ r₂ (e + 1) (set o₃ e u) or_end;
-      }
+    pub ors_less : length u₂ < length u
+    ors_less = infix_onwards w r₁ j or_mid r₂
 
   -- `ors`, `Phrase`'s `or`: a turn, one operand more
-  pub ors_again : Turn Ors 3 left cs at made a₀ m₀ o₀ a' (e + 1) (set o₃ e u)
-  ors_again = record { on = λ out w r. ors_more out w (inv.on out w r) }
-
-pub ruleset ors_laws = (rules, ors_ands_falls, ors_start, ors_some, ors_some_after, ors_next_after)
-
-pub ruleset ors_falling = (ors_falls, ors_falls_to_ors)
+  pub ors_again : {u₂ : List SignCode} {o₃ o₄ : Emitted} → Read Ands 3 v o₁ u₂ o₃ → {p : ℕ} → p ≡ o₁.count - 1 → Laid (words (node table.Or p (o₃.count - 1) ∷ [])) o₃ o₄ → Read Ors 3 s o u₂ o₄
+  unfolding infix_last
+  ors_again r₂ e last = record {
+    tree = joined Or r₁.tree r₂.tree;
+    phrase = or (infix_first w r₁ j or_mid r₂) r₂.phrase;
+    stops = r₂.stops;
+    laid = infix_laid w r₁ j or_mid r₂ (relaid (rw e) last);
+  }
 
 -- ---- `ands`
-pub ands_untils_falls : (left n at t : ℕ) → measure left n at 4 ≡ t → measure left n at 3 < t
-unfolding measure
-ands_untils_falls left n at t e = omega arith
+
+and_only : (y : InfixCode) → strength (infix_in y) ≡ 3 → y ≡ between.And
+and_only between.Implies e = absurd (omega arith)
+and_only between.Or e = absurd (omega arith)
+and_only between.And e = refl
+and_only between.Until e = absurd (omega arith)
+and_only between.Since e = absurd (omega arith)
 
 -- `ands`: before the first turn
-pub ands_start : (left at made a m : ℕ) (cs o : List ℕ) → Turn Ands 4 left cs at made a m o a m o
-ands_start left at made a m cs o = turn_start Ands 4 left at made a m cs o
+pub ands_start : {s u : List SignCode} {o o₁ : Emitted} → Read Untils 4 s o u o₁ → Read Ands 4 s o u o₁
+ands_start r = record { tree = r.tree; phrase = no_and r.phrase; stops = r.stops; laid = r.laid }
 
-and_up : {at made a m : ℕ} {cs out o : List ℕ} → Read Untils 4 cs at made out a m o → Read Ands 4 cs at made out a m o
-and_up r = record { tree = r.tree; phrase = no_and r.phrase; stops = r.stops; laid = r.laid }
+-- `ands`, `Phrase`'s `no_and` and `and`: no `&` follows
+pub ands_stop : {s u : List SignCode} {o o₁ : Emitted} → Read Ands 4 s o u o₁ → NotFirst (sign.Infix between.And) u → Read Ands 3 s o u o₁
+ands_stop {u = u} r n = record {
+  tree = r.tree;
+  phrase = r.phrase;
+  stops = below (tight (signs_in u)) 3 r.stops (ended between.And u n and_only);
+  laid = r.laid;
+}
 
-and_adds : infix_nodes And ≡ 4
-unfolding infix_nodes
-and_adds = refl
+module _ {left : ℕ} {s u v : List SignCode} {o o₁ : Emitted} (w : Ready left s o) (r₁ : Read Ands 4 s o u o₁) (j : u ≡ (sign.Infix between.And ∷ v)) where
+  and_room : o₁.count + 4 ≤ max_rule_nodes
+  unfolding infix_nodes
+  and_room = omega (arith, infix_room w r₁ j)
 
-and_middle : (m : ℕ) → not_words m ≡ words (infix_middle And m)
-unfolding infix_middle
-and_middle m = refl
+  pub ands_not : SpaceBehind 1 o₁
+  ands_not = record { behind = omega (arith, (going w r₁).behind); space = record { room = omega (arith, and_room); held = (going w r₁).held } }
 
-and_last_length : (m e : ℕ) → length (infix_last And m e) ≡ 3
-unfolding infix_last
-and_last_length m e = refl
+  module _ {o₂ : Emitted} (mid : Laid (not_words o₁.count) o₁ o₂) where
+    pub ands_ready : Ready left v o₂
+    unfolding infix_middle
+    ands_ready = infix_ready w r₁ j mid
 
-and_last : (m e u : ℕ) → u ≡ node_word (node table.Or m e) → dual_words u e ≡ words (infix_last And m e)
-unfolding infix_last
-and_last m e u q = rw q
-
-and_mid : {m n : ℕ} {o o' : List ℕ} → Laid (not_words m) o m n o' → Laid (words (infix_middle And m)) o m n o'
-and_mid {m} mid = relaid (and_middle m) mid
-
-module _ (left at made a₀ m₀ a m : ℕ) (cs out o₀ o₁ : List ℕ) (w : Ready left cs at made out) (r₀ : Read Untils 4 cs at made out a₀ m₀ o₀) (inv : Turn Ands 4 left cs at made a₀ m₀ o₀ a m o₁) where
-  ands_so_far : Read Ands 4 cs at made out a m o₁
-  ands_so_far = inv.on out w (and_up r₀)
-
-  module _ (c : ℕ) (is : c ≡ get_or cs a 0) where
-    -- `ands`, `Phrase`'s `no_and` and `and`: no `&` follows
-    pub ands_stop : (c ≡ 10 → ⊥) → Read Ands 3 cs at made out a m o₁
-    ands_stop no_and_lem = record {
-      tree = ands_so_far.tree;
-      phrase = ands_so_far.phrase;
-      stops = below (tight (ahead cs a)) 3 ands_so_far.stops (λ e. no_and_lem ((bound c).is_3 (sym (tight_ahead cs a c is) ∙ e)));
-      laid = ands_so_far.laid;
-    }
-
-    module _ (there : c ≡ 10) where
-      and_joins : Joins cs a And
-      and_joins = joins cs a c And is (omega arith) (and_sign c there)
-
-      and_room : m + 4 ≤ max_rule_nodes
-      and_room = omega (arith, and_adds, infix_room Ands 4 left at made a m And cs out o₁ w ands_so_far and_joins)
-
-      pub ands_low_first : m < operand_span
-      ands_low_first = omega (arith, and_room)
-
-      pub ands_not : SpaceBehind 1 m o₁
-      ands_not = record {
-        behind = infix_behind Ands 4 left at made a m And cs out o₁ w ands_so_far and_joins;
-        room = omega (arith, and_room);
-        held = infix_held Ands 4 left at made a m And cs out o₁ w ands_so_far and_joins;
-      }
-
-      pub ands_index : Fits w64 (a + 1)
-      ands_index = infix_index Ands 4 left at made a m And cs out o₁ w ands_so_far and_joins
-
-      pub ands_falls : (t : ℕ) → measure left (length cs) at 4 ≡ t → measure left (length cs) (a + 1) 3 < t
-      ands_falls t e = infix_falls Ands 4 left at made a m And cs out o₁ w ands_so_far and_joins t 4 3 e (omega arith)
-
-      module _ (n : ℕ) (o₂ : List ℕ) (mid : Laid (not_words m) o₁ m n o₂) where
-        pub ands_ready : Ready left cs (a + 1) n o₂
-        ands_ready = infix_ready Ands 4 left at made a m And cs out o₁ w ands_so_far and_joins n o₂ (and_mid mid)
-
-        module _ (a' e : ℕ) (o₃ : List ℕ) (r₂ : Read Untils 4 cs (a + 1) n o₂ a' e o₃) where
-          and_order : m < e
-          and_order = infix_order Ands 4 left at made a m And cs out o₁ w ands_so_far and_joins n o₂ (and_mid mid) Untils 4 a' e o₃ r₂
-
-          and_room_after : e + 3 ≤ max_rule_nodes
-          and_room_after = omega (arith, infix_after Ands 4 left at made a m And cs out o₁ w ands_so_far and_joins n o₂ (and_mid mid) Untils 4 a' e o₃ r₂, and_last_length m e)
-
-          pub ands_low_second : e < operand_span
-          ands_low_second = omega (arith, and_room_after)
-
-          pub ands_dual : SpaceBehind 3 e o₃
-          ands_dual = record {
-            behind = omega (arith, and_order);
-            room = and_room_after;
-            held = infix_held_after Ands 4 left at made a m And cs out o₁ w ands_so_far and_joins n o₂ (and_mid mid) Untils 4 a' e o₃ r₂;
+    module _ {l₂ : Level} {b₂ : ℕ} {u₂ : List SignCode} {o₃ : Emitted} (r₂ : Read l₂ b₂ v o₂ u₂ o₃) where
+      pub ands_dual : {p : ℕ} → p ≡ o₂.count - 1 → SpaceOver 3 kind.Or p o₃
+      unfolding infix_middle infix_last
+      ands_dual e =
+          let room = infix_after w r₁ j mid r₂ in
+          record {
+            known = λ z. cc;
+            first = omega (arith, mid.next, and_room);
+            space = record { behind = infix_some w r₁ j mid r₂; space = record { room = room; held = infix_held w r₁ j mid r₂ } };
           }
 
-          pub ands_less : length cs - a' < length cs - a
-          ands_less = infix_onwards Ands 4 left at made a m And cs out o₁ w ands_so_far and_joins n o₂ (and_mid mid) Untils 4 a' e o₃ r₂
+      pub ands_less : length u₂ < length u
+      unfolding infix_middle
+      ands_less = infix_onwards w r₁ j mid r₂
 
-module _ (left at made a₀ m₀ a m c : ℕ) (cs o₀ o₁ : List ℕ) (inv : Turn Ands 4 left cs at made a₀ m₀ o₀ a m o₁) (is : c ≡ get_or cs a 0) (there : c ≡ 10) (n : ℕ) (o₂ : List ℕ)
-    (mid : Laid (not_words m) o₁ m n o₂) (a' e u f : ℕ) (o₃ o₄ : List ℕ) (r₂ : Read Untils 4 cs (a + 1) n o₂ a' e o₃)
-    (p : u ≡ node_word (node table.Or m e)) (dual : Laid (dual_words u e) o₃ e f o₄) where
-  and_end : Laid (words (infix_last And m e)) o₃ e f o₄
-  and_end = relaid (and_last m e u p) dual
+    -- `ands`, `Phrase`'s `and`: a turn, one operand more
+    pub ands_again : {u₂ : List SignCode} {o₃ o₄ : Emitted} → Read Untils 4 v o₂ u₂ o₃ → {p : ℕ} → p ≡ o₂.count - 1 → Laid (dual_words table.Or p o₃.count) o₃ o₄ → Read Ands 4 s o u₂ o₄
+    unfolding infix_middle infix_last
+    ands_again r₂ {p} e last =
+        let m : p ≡ o₁.count = omega (arith, mid.next) in
+        record {
+          tree = joined And r₁.tree r₂.tree;
+          phrase = and (infix_first w r₁ j mid r₂) r₂.phrase;
+          stops = r₂.stops;
+          laid = infix_laid w r₁ j mid r₂ (relaid (rw m) last);
+        }
 
-  ands_more : (out : List ℕ) → Ready left cs at made out → Read Ands 4 cs at made out a m o₁ → Read Ands 4 cs at made out a' f o₄
-  ands_more out w r₁ =
-      let j : Joins cs a And = joins cs a c And is (omega arith) (and_sign c there) in
+-- ---- `untils`
+
+-- `untils`, `Phrase`'s `no_until`: neither `U` nor `S` follows
+pub untils_stop : {s u : List SignCode} {o o₁ : Emitted} → Read Prefixes 5 s o u o₁ → NotFirst (sign.Infix between.Until) u × NotFirst (sign.Infix between.Since) u → Read Untils 4 s o u o₁
+untils_stop {u = u} r n = record {
+  tree = r.tree;
+  phrase = no_until r.phrase;
+  stops = below (tight (signs_in u)) 4 r.stops (λ e. tight_infix u 4 (omega arith) e go);
+  laid = r.laid;
+}
+  where
+    go : (x : InfixCode) (v : List SignCode) → u ≡ (sign.Infix x ∷ v) → strength (infix_in x) ≡ 4 → ⊥
+    go between.Implies v j e = omega arith
+    go between.Or v j e = omega arith
+    go between.And v j e = omega arith
+    go between.Until v j e = n.0 v j
+    go between.Since v j e = n.1 v j
+
+-- which of `U` and `S` follows, and what it joins
+record UntilJoins (u v : List SignCode) (k : KindCode) : Type 0 where
+  x : InfixCode
+  there : u ≡ (sign.Infix x ∷ v)
+  known : kind_in k ≡ table.Unknown → ⊥
+  adds : infix_nodes (infix_in x) ≡ 1
+  middle : (m : ℕ) → [] ≡ words (infix_middle (infix_in x) m)
+  last : (m e : ℕ) → node (kind_in k) (m - 1) (e - 1) ∷ [] ≡ infix_last (infix_in x) m e
+  phrase : {s v u : List Sign} {p q : Tree} → Phrase Prefixes s (infix_sign (infix_in x) ∷ v) p → Phrase Untils v u q → Phrase Untils s u (joined (infix_in x) p q)
+
+until_joins : {u v : List SignCode} {k : KindCode} → UntilThere u k v → UntilJoins u v k
+unfolding infix_nodes infix_middle infix_last
+until_joins (inl t) = record { x = between.Until; there = t.0; known = λ z. let y = rw t.1 at z in cc; adds = refl; middle = λ m. refl; last = λ m e. rw t.1; phrase = λ f g. until f g }
+until_joins (inr t) = record { x = between.Since; there = t.0; known = λ z. let y = rw t.1 at z in cc; adds = refl; middle = λ m. refl; last = λ m e. rw t.1; phrase = λ f g. since f g }
+
+module _ {left : ℕ} {s u v : List SignCode} {k : KindCode} {o o₁ : Emitted} (w : Ready left s o) where
+  module _ {l : Level} {b : ℕ} (r₁ : Read l b s o u o₁) (h : UntilThere u k v) where
+    abbrev t : UntilJoins u v k
+    t = until_joins h
+
+    until_room : o₁.count + 1 ≤ max_rule_nodes
+    until_room = omega (arith, infix_room w r₁ t.there, t.adds)
+
+    until_mid : Laid (words (infix_middle (infix_in t.x) o₁.count)) o₁ o₁
+    until_mid = relaid (t.middle o₁.count) (laid_none o₁ (omega (arith, until_room, (going w r₁).held)))
+
+    -- a call after the sign, at whatever level
+    pub falls_after_until : (t k i : ℕ) → measure left (length s) k ≡ t → i < k + 8 → measure left (length v) i < t
+    falls_after_until = falls_after w r₁ (until_joins h).there
+
+    pub untils_ready : Ready left v o₁
+    untils_ready = infix_ready w r₁ t.there until_mid
+
+    pub untils_join : {l₂ : Level} {b₂ : ℕ} {u₂ : List SignCode} {o₃ : Emitted} → Read l₂ b₂ v o₁ u₂ o₃ → {p : ℕ} → p ≡ o₁.count - 1 → SpaceOver 1 k p o₃
+    untils_join {o₃ = o₃} r₂ e =
+        let room : o₃.count + 1 ≤ max_rule_nodes = omega (arith, infix_after w r₁ t.there until_mid r₂, ap (λ (ns : List Node). length ns) (t.last o₁.count o₃.count)) in
+        record { known = t.known; first = omega (arith, until_room); space = record { behind = infix_some w r₁ t.there until_mid r₂; space = record { room = room; held = infix_held w r₁ t.there until_mid r₂ } } }
+
+  -- `untils`, `Phrase`'s `until` and `since`: what is joined
+  pub untils_read : Read Prefixes 5 s o u o₁ → UntilThere u k v → {u₂ : List SignCode} {o₃ o₄ : Emitted} → Read Untils 4 v o₁ u₂ o₃ → {p : ℕ} → p ≡ o₁.count - 1
+      → Laid (words (node (kind_in k) p (o₃.count - 1) ∷ [])) o₃ o₄ → Read Untils 4 s o u₂ o₄
+  untils_read r₁ h {o₃ = o₃} r₂ e last =
+      let j = until_joins h in
+      let mid = until_mid r₁ h in
       record {
-        tree = joined And r₁.tree r₂.tree;
-        phrase = and (infix_first Ands 4 left at made a m And cs out o₁ w r₁ j n o₂ (and_mid mid) Untils 4 a' e o₃ r₂) r₂.phrase;
+        tree = joined (infix_in j.x) r₁.tree r₂.tree;
+        phrase = j.phrase (infix_first w r₁ j.there mid r₂) r₂.phrase;
         stops = r₂.stops;
-        laid = infix_laid Ands 4 left at made a m And cs out o₁ w r₁ j n o₂ (and_mid mid) Untils 4 a' e o₃ r₂ f o₄ and_end;
+        laid = infix_laid w r₁ j.there mid r₂ (relaid (rw e (ap words (j.last o₁.count o₃.count))) last);
       }
-
-  -- `ands`, `Phrase`'s `and`: a turn, one operand more
-  pub ands_again : Turn Ands 4 left cs at made a₀ m₀ o₀ a' f o₄
-  ands_again = record { on = λ out w r. ands_more out w (inv.on out w r) }
-
-pub ruleset ands_laws = (rules, ands_untils_falls, ands_start)
 
 -- ---- `prefixes`
 weight_prefix : (x : Prefix) (s : List Sign) → weight (prefix_sign x ∷ s) ≡ prefix_nodes x + weight s
@@ -813,89 +495,57 @@ most_prefix : (x : Prefix) (s : List Sign) (most k : ℕ) → most_open most k (
 unfolding most_open
 most_prefix x s most k = refl
 
-pub prefixes_primaries_falls : (left n at t : ℕ) → measure left n at 2 ≡ t → measure left n at 1 < t
-unfolding measure
-prefixes_primaries_falls left n at t e = omega arith
+pub prefixes_primed : {left : ℕ} {s : List SignCode} {o : Emitted} → Ready left s o → NoPrefix s → Primed left s o
+prefixes_primed w n = record { ready = w; plain = n }
 
-module _ (left at made c : ℕ) (cs out : List ℕ) (w : Ready left cs at made out) (is : c ≡ get_or cs at 0) (before_it : Bool) (told : before_it ≡ is_prefix (sign_of c)) where
-  pub primed : before_it ≡ false → Primed left cs at made out
-  primed h = record { ready = w; plain = rw (← is) (sym told ∙ h) }
+module _ {left : ℕ} {s v : List SignCode} {x : PrefixCode} {o : Emitted} (w : Ready left s o) (j : s ≡ (sign.Prefix x ∷ v)) where
+  prefix_room : o.count + (prefix_nodes (prefix_in x) + weight (signs_in v)) ≤ max_rule_nodes
+  prefix_room = omega (arith, w.room, ap (λ (s : List SignCode). weight (signs_in s)) j ∙ weight_prefix (prefix_in x) (signs_in v))
 
-  module _ (there : before_it ≡ true) where
-    prefix_from : 3 ≤ c
-    prefix_from = prefix_low c (sym told ∙ there)
+  pub prefixes_open : Space (length (prefix_first (prefix_in x))) o
+  prefixes_open = record { room = omega (arith, prefix_room, prefix_adds (prefix_in x) o.count o.count); held = w.held }
 
-    prefix_to : c ≤ 7
-    prefix_to = prefix_high c (sym told ∙ there)
+  -- a call after the prefix, at whatever level
+  pub falls_after_prefix : (t k i : ℕ) → measure left (length s) k ≡ t → i < k + 8 → measure left (length v) i < t
+  unfolding measure
+  falls_after_prefix t k i e h = omega (arith, ap length j)
 
-    prefix_inside : at < length cs
-    prefix_inside = code_inside cs at c is (omega (arith, prefix_from))
+  module _ {o₁ : Emitted} (first : Laid (words (prefix_first (prefix_in x))) o o₁) where
+    pub prefixes_ready : Ready left v o₁
+    prefixes_ready = record {
+      opened = w.opened;
+      most = w.most;
+      due = sym (flat_prefix (prefix_in x) (signs_in v) w.opened) ∙ (ap (λ (s : List SignCode). flat (signs_in s) operand w.opened) (sym j) ∙ w.due);
+      deep = omega (arith, w.deep, ap (λ (s : List SignCode). most_open w.most w.opened (signs_in s)) j ∙ most_prefix (prefix_in x) (signs_in v) w.most w.opened);
+      room = omega (arith, prefix_room, prefix_adds (prefix_in x) o.count o.count, first.next, length-map (prefix_first (prefix_in x)) node_word);
+      held = omega (arith, w.held, first.kept);
+    }
 
-    prefix_ahead : ahead cs at ≡ (prefix_sign (prefix_of c) ∷ ahead cs (at + 1))
-    prefix_ahead = ahead_cons cs at prefix_inside ∙ ap (λ (x : Sign). x ∷ ahead cs (at + 1)) (ap sign_of (sym is) ∙ prefix_sign_lem c (sym told ∙ there))
+    pub prefixes_close : {l : Level} {b : ℕ} {u : List SignCode} {o₂ : Emitted} → Read l b v o₁ u o₂ → {n : ℕ} → n ≡ o.count → SpaceLast (prefix_in x) n o₂
+    prefixes_close {o₂ = o₂} r {n} e =
+        let room : o₂.count + length (prefix_last (prefix_in x) n o₂.count) ≤ max_rule_nodes
+        = omega (arith, prefix_room, prefix_adds (prefix_in x) n o₂.count, first.next, length-map (prefix_first (prefix_in x)) node_word, read_size r, phrase_weight r.phrase) in
+        record { order = omega (arith, first.next, (going prefixes_ready r).behind); space = record { room = room; held = (going prefixes_ready r).held } }
 
-    prefix_room : made + (prefix_nodes (prefix_of c) + weight (ahead cs (at + 1))) ≤ max_rule_nodes
-    prefix_room = omega (arith, w.room, ap weight prefix_ahead ∙ weight_prefix (prefix_of c) (ahead cs (at + 1)))
-
-    pub prefixes_first : SpaceFirst c made out
-    prefixes_first = record { low = prefix_from; high = prefix_to; room = omega (arith, prefix_room, prefix_adds (prefix_of c) made made); held = w.held }
-
-    pub prefixes_index : Fits w64 (at + 1)
-    prefixes_index = record { fits = omega (arith, prefix_inside, w.short) }
-
-    pub prefixes_falls : (t : ℕ) → measure left (length cs) at 2 ≡ t → measure left (length cs) (at + 1) 2 < t
-    unfolding measure
-    prefixes_falls t e = omega (arith, prefix_inside)
-
-    -- a call that wrong programs make: it falls too, so that they are refused for what they read
-    pub prefixes_falls_to_untils : (t : ℕ) → measure left (length cs) at 2 ≡ t → measure left (length cs) (at + 1) 3 < t
-    unfolding measure
-    prefixes_falls_to_untils t e = omega (arith, prefix_inside)
-
-    module _ (n : ℕ) (o₁ : List ℕ) (first : Laid (words (prefix_first (prefix_of c))) out made n o₁) where
-      pub prefixes_ready : Ready left cs (at + 1) n o₁
-      prefixes_ready = record {
-        opened = w.opened;
-        most = w.most;
-        due = sym (flat_prefix (prefix_of c) (ahead cs (at + 1)) w.opened) ∙ (ap (λ (s : List Sign). flat s operand w.opened) (sym prefix_ahead) ∙ w.due);
-        deep = omega (arith, w.deep, ap (λ (s : List Sign). most_open w.most w.opened s) prefix_ahead ∙ most_prefix (prefix_of c) (ahead cs (at + 1)) w.most w.opened);
-        room = omega (arith, prefix_room, prefix_adds (prefix_of c) made made, first.next, words_length (prefix_first (prefix_of c)));
-        held = omega (arith, w.held, first.kept);
-        low = w.low;
-        short = w.short;
-      }
-
-      module _ (l : Level) (b a e : ℕ) (o₂ : List ℕ) (r : Read l b cs (at + 1) n o₁ a e o₂) where
-        pub prefixes_last : SpaceLast c made e o₂
-        prefixes_last = record {
-          low = prefix_from;
-          high = prefix_to;
-          order = omega (arith, first.next, (going prefixes_ready r).behind);
-          room = omega (arith, prefix_room, prefix_adds (prefix_of c) made e, first.next, words_length (prefix_first (prefix_of c)), read_size r, phrase_weight r.phrase);
-          held = (going prefixes_ready r).held;
-        }
-
-      -- `prefixes`, `Phrase`'s `prefix`: a prefix and its operand
-      pub prefixes_read : (a e : ℕ) (o₂ : List ℕ) → Read Prefixes 5 cs (at + 1) n o₁ a e o₂ → (f : ℕ) (o₃ : List ℕ) → Laid (words (prefix_last (prefix_of c) made e)) o₂ e f o₃ → Read Prefixes 5 cs at made out a f o₃
-      prefixes_read a e o₂ r f o₃ last = record {
-        tree = prefixed (prefix_of c) r.tree;
-        phrase = rw prefix_ahead (prefix (prefix_of c) r.phrase);
-        stops = r.stops;
-        laid = relaid (prefix_words (prefix_of c) r.tree made n e first.next (read_size r)) (laid_seq first (laid_seq r.laid last));
-      }
+    -- `prefixes`, `Phrase`'s `prefix`: a prefix and its operand
+    pub prefixes_read : {u : List SignCode} {o₂ o₃ : Emitted} → Read Prefixes 5 v o₁ u o₂ → {n : ℕ} → n ≡ o.count → Laid (words (prefix_last (prefix_in x) n o₂.count)) o₂ o₃ → Read Prefixes 5 s o u o₃
+    prefixes_read {o₂ = o₂} r e last = record {
+      tree = prefixed (prefix_in x) r.tree;
+      phrase = rw j (prefix (prefix_in x) r.phrase);
+      stops = r.stops;
+      laid =
+          relaid (prefix_words (prefix_in x) r.tree o.count o₁.count o₂.count first.next (read_size r))
+          (laid_seq first (laid_seq r.laid (relaid (rw e) last)));
+    }
 
 -- `prefixes`, `Phrase`'s `no_prefix`: no prefix
-pub prefixes_primary : (at made a m : ℕ) (cs out o : List ℕ) → Read Primaries 5 cs at made out a m o → Read Prefixes 5 cs at made out a m o
-prefixes_primary at made a m cs out o r = record { tree = r.tree; phrase = no_prefix r.phrase; stops = r.stops; laid = r.laid }
-
-pub ruleset prefixes_laws = (rules, prefixes_primaries_falls, primed, prefixes_first, prefixes_index)
-
-pub ruleset prefixes_falling = (prefixes_falls, prefixes_falls_to_untils)
+pub prefixes_primary : {s u : List SignCode} {o o₁ : Emitted} → Read Primaries 5 s o u o₁ → Read Prefixes 5 s o u o₁
+prefixes_primary r = record { tree = r.tree; phrase = no_prefix r.phrase; stops = r.stops; laid = r.laid }
 
 -- ---- `primaries`
 flat_none : (k : ℕ) → flat [] operand k ≡ true → ⊥
 unfolding flat
-flat_none k e = false_true e
+flat_none k e = cc
 
 flat_open : (s : List Sign) (k : ℕ) → flat (open_bracket ∷ s) operand k ≡ flat s operand (suc k)
 unfolding flat
@@ -914,164 +564,127 @@ unfolding weight
 weight_one x s e = rw e
 
 -- after a bracketed rule comes its end
-closes : (u : List Sign) (k : ℕ) → flat u operator (suc k) ≡ true → tight u < 1 → (v : List Sign) × (u ≡ (close_bracket ∷ v))
+closes : (u : List SignCode) (k : ℕ) → flat (signs_in u) operator (suc k) ≡ true → tight (signs_in u) < 1 → u ≡ (sign.Closing ∷ drop 1 u)
 unfolding flat
-closes [] k e h = false_true e
-closes (true_sign ∷ u) k e h = false_true e
-closes (atom_sign n ∷ u) k e h = false_true e
-closes (prefix_sign x ∷ u) k e h = false_true e
-closes (infix_sign Implies ∷ u) k e h = absurd (omega arith)
-closes (infix_sign Or ∷ u) k e h = absurd (omega arith)
-closes (infix_sign And ∷ u) k e h = absurd (omega arith)
-closes (infix_sign Until ∷ u) k e h = absurd (omega arith)
-closes (infix_sign Since ∷ u) k e h = absurd (omega arith)
-closes (open_bracket ∷ u) k e h = false_true e
-closes (close_bracket ∷ u) k e h = (u, refl)
+closes [] k e h = cc
+closes (sign.True ∷ u) k e h = cc
+closes (sign.Atom n ∷ u) k e h = cc
+closes (sign.Prefix x ∷ u) k e h = cc
+closes (sign.Infix between.Implies ∷ u) k e h = absurd (omega arith)
+closes (sign.Infix between.Or ∷ u) k e h = absurd (omega arith)
+closes (sign.Infix between.And ∷ u) k e h = absurd (omega arith)
+closes (sign.Infix between.Until ∷ u) k e h = absurd (omega arith)
+closes (sign.Infix between.Since ∷ u) k e h = absurd (omega arith)
+closes (sign.Opening ∷ u) k e h = cc
+closes (sign.Closing ∷ u) k e h = refl
 
--- neither a bracket nor `true` nor a prefix, where an operand is due
-atom_code_lem : (c k : ℕ) (s : List Sign) → flat (sign_of c ∷ s) operand k ≡ true → is_prefix (sign_of c) ≡ false → (c ≡ 1 → ⊥) → (c ≡ 2 → ⊥) → 13 ≤ c
-unfolding flat sign_of
-atom_code_lem =
-    by_code (λ c. (k : ℕ) (s : List Sign) → flat (sign_of c ∷ s) operand k ≡ true → is_prefix (sign_of c) ≡ false → (c ≡ 1 → ⊥) → (c ≡ 2 → ⊥) → 13 ≤ c)
-    (λ k s e p n m. false_true e) (λ k s e p n m. absurd (n refl)) (λ k s e p n m. absurd (m refl))
-    (λ k s e p n m. false_true (sym p)) (λ k s e p n m. false_true (sym p)) (λ k s e p n m. false_true (sym p)) (λ k s e p n m. false_true (sym p)) (λ k s e p n m. false_true (sym p))
-    (λ k s e p n m. false_true e) (λ k s e p n m. false_true e) (λ k s e p n m. false_true e) (λ k s e p n m. false_true e) (λ k s e p n m. false_true e)
-    (λ i k s e p n m. omega arith)
+-- where an operand is due, a sign stands
+pub primaries_some : {left : ℕ} {s : List SignCode} {o : Emitted} → Primed left s o → 0 < length s
+primaries_some {s = s} pr = go s pr.ready.due
+  where
+    go : (s : List SignCode) → flat (signs_in s) operand pr.ready.opened ≡ true → 0 < length s
+    go [] e = absurd (flat_none pr.ready.opened e)
+    go (x ∷ s) e = omega arith
 
-module _ (left at made c : ℕ) (cs out : List ℕ) (pr : Primed left cs at made out) (is : c ≡ get_or cs at 0) where
-  primary_inside : at < length cs
-  primary_inside = go (dec_lt at (length cs))
-    where
-      go : Dec (at < length cs) → at < length cs
-      go (yes h) = h
-      go (no h) = absurd (flat_none pr.ready.opened (rw (ahead_none cs at (omega arith)) at pr.ready.due))
+-- it is a bracket that opens, `true`, an atom or a prefix
+pub primaries_known : {left : ℕ} {s : List SignCode} {o : Emitted} → Primed left s o → (none : SignCode)
+    → (get_or s 0 none ≡ sign.Opening → ⊥) → (get_or s 0 none ≡ sign.True → ⊥) → ((n : ℕ) → get_or s 0 none ≡ sign.Atom n → ⊥) → ⊥
+unfolding flat
+primaries_known {s = s} pr none = go s pr.ready.due pr.plain
+  where
+    go : (s : List SignCode) → flat (signs_in s) operand pr.ready.opened ≡ true → NoPrefix s
+        → (get_or s 0 none ≡ sign.Opening → ⊥) → (get_or s 0 none ≡ sign.True → ⊥) → ((n : ℕ) → get_or s 0 none ≡ sign.Atom n → ⊥) → ⊥
+    go [] e p a b c = cc
+    go (sign.True ∷ s) e p a b c = b refl
+    go (sign.Atom n ∷ s) e p a b c = c n refl
+    go (sign.Prefix y ∷ s) e p a b c = p y s refl
+    go (sign.Infix y ∷ s) e p a b c = cc
+    go (sign.Opening ∷ s) e p a b c = a refl
+    go (sign.Closing ∷ s) e p a b c = cc
 
-  primary_ahead : ahead cs at ≡ (sign_of c ∷ ahead cs (at + 1))
-  primary_ahead = rw is (ahead_cons cs at primary_inside)
+module _ {left : ℕ} {s : List SignCode} {o : Emitted} (pr : Primed left s o) where
+  -- the sign that stands there, and what follows it
+  primary : (none x : SignCode) (v : List SignCode) → get_or s 0 none ≡ x → v ≡ drop 1 s → s ≡ (x ∷ v)
+  primary none x v e d = drop-cons s 0 none (primaries_some pr) ∙ rw (e, d)
 
-  primary_due : flat (sign_of c ∷ ahead cs (at + 1)) operand pr.ready.opened ≡ true
-  primary_due = rw primary_ahead at pr.ready.due
+  module _ (none : SignCode) (v : List SignCode) (there : get_or s 0 none ≡ sign.Opening) (d : v ≡ drop 1 s) where
+    open_ahead : s ≡ (sign.Opening ∷ v)
+    open_ahead = primary none sign.Opening v there d
 
-  pub primaries_index : Fits w64 (at + 1)
-  primaries_index = record { fits = omega (arith, primary_inside, pr.ready.short) }
-
-  module _ (there : c ≡ 1) where
-    open_ahead : ahead cs at ≡ (open_bracket ∷ ahead cs (at + 1))
-    unfolding sign_of
-    open_ahead = primary_ahead ∙ rw there
-
-    open_deep : most_open (larger pr.ready.most (suc pr.ready.opened)) (suc pr.ready.opened) (ahead cs (at + 1)) ≤ left + pr.ready.opened
+    open_deep : most_open (larger pr.ready.most (suc pr.ready.opened)) (suc pr.ready.opened) (signs_in v) ≤ left + pr.ready.opened
     open_deep =
         omega (
           arith,
           pr.ready.deep,
-          ap (λ (s : List Sign). most_open pr.ready.most pr.ready.opened s) open_ahead ∙ most_open_lem (ahead cs (at + 1)) pr.ready.most pr.ready.opened,
+          ap (λ (s : List SignCode). most_open pr.ready.most pr.ready.opened (signs_in s)) open_ahead ∙ most_open_lem (signs_in v) pr.ready.most pr.ready.opened,
         )
 
     pub primaries_depth : 1 ≤ left
     primaries_depth =
         let k = pr.ready.opened in
         let m = larger pr.ready.most (suc k) in
-        omega (arith, open_deep, larger_second pr.ready.most (suc k), most_grows m (suc k) (ahead cs (at + 1)))
+        omega (arith, open_deep, larger_second pr.ready.most (suc k), most_grows m (suc k) (signs_in v))
 
     -- what falls where a bracket is opened: the brackets that may still be, and the signs that are left
-    pub primaries_falls : (t : ℕ) → measure left (length cs) at 1 ≡ t → measure (left - 1) (length cs) (at + 1) 6 < t
+    pub primaries_falls : (t : ℕ) → measure left (length s) 1 ≡ t → measure (left - 1) (length v) 6 < t
     unfolding measure
-    primaries_falls t e = omega (arith, primary_inside, primaries_depth)
+    primaries_falls t e = omega (arith, ap length open_ahead, primaries_depth)
 
-    open_due : flat (ahead cs (at + 1)) operand (suc pr.ready.opened) ≡ true
-    open_due = sym (flat_open (ahead cs (at + 1)) pr.ready.opened) ∙ (ap (λ (s : List Sign). flat s operand pr.ready.opened) (sym open_ahead) ∙ pr.ready.due)
+    open_due : flat (signs_in v) operand (suc pr.ready.opened) ≡ true
+    open_due = sym (flat_open (signs_in v) pr.ready.opened) ∙ (ap (λ (s : List SignCode). flat (signs_in s) operand pr.ready.opened) (sym open_ahead) ∙ pr.ready.due)
 
-    pub primaries_ready : Ready (left - 1) cs (at + 1) made out
+    pub primaries_ready : Ready (left - 1) v o
     primaries_ready = record {
       opened = suc pr.ready.opened;
       most = larger pr.ready.most (suc pr.ready.opened);
       due = open_due;
       deep = omega (arith, open_deep, primaries_depth);
-      room = omega (arith, pr.ready.room, ap weight open_ahead ∙ weight_open (ahead cs (at + 1)));
+      room = omega (arith, pr.ready.room, ap (λ (s : List SignCode). weight (signs_in s)) open_ahead ∙ weight_open (signs_in v));
       held = pr.ready.held;
-      low = pr.ready.low;
-      short = pr.ready.short;
     }
 
-    module _ (a m : ℕ) (o : List ℕ) (r : Read Arrows 1 cs (at + 1) made out a m o) where
-      close_there : (v : List Sign) × (ahead cs a ≡ (close_bracket ∷ v))
-      close_there = closes (ahead cs a) pr.ready.opened (sym (phrase_flat r.phrase (suc pr.ready.opened)) ∙ open_due) r.stops
+    module _ {u : List SignCode} {o₁ : Emitted} (r : Read Arrows 1 (v) o u o₁) where
+      close_ahead : u ≡ (sign.Closing ∷ drop 1 u)
+      close_ahead = closes u pr.ready.opened (sym (phrase_flat r.phrase (suc pr.ready.opened)) ∙ open_due) r.stops
 
-      close_inside : a < length cs
-      close_inside = go (dec_lt a (length cs))
-        where
-          go : Dec (a < length cs) → a < length cs
-          go (yes h) = h
-          go (no h) = let z : ◌≡◌ {A = ℕ} 0 (suc (length close_there.0)) = ap length (sym (ahead_none cs a (omega arith)) ∙ close_there.1) in absurd (omega arith)
-
-      pub primaries_after : Fits w64 (a + 1)
-      primaries_after = record { fits = omega (arith, close_inside, pr.ready.short) }
-
-      close_ahead : ahead cs a ≡ (close_bracket ∷ ahead cs (a + 1))
-      close_ahead = heads (ahead cs a) (sign_of (get_or cs a 0)) (ahead cs (a + 1)) close_there.0 (ahead_cons cs a close_inside) close_there.1
-        where
-          heads : (l : List Sign) (x : Sign) (s v : List Sign) → l ≡ (x ∷ s) → l ≡ (close_bracket ∷ v) → l ≡ (close_bracket ∷ s)
-          heads l x s v e f = let g : x ≡ close_bracket = cc in e ∙ rw g
+      pub primaries_closed : 0 < length u
+      primaries_closed = omega (arith, ap length close_ahead)
 
       -- `primaries`, `Phrase`'s `bracketed`: a bracketed rule
-      pub primaries_bracket : Read Primaries 5 cs at made out (a + 1) m o
-      primaries_bracket = record {
+      pub primaries_bracket : (end : List SignCode) → end ≡ drop 1 u → Read Primaries 5 s o end o₁
+      primaries_bracket end q = rw q (record {
         tree = r.tree;
         phrase = rw open_ahead (bracketed (rw close_ahead at r.phrase));
-        stops = tight_most (ahead cs (a + 1));
+        stops = tight_most (signs_in (drop 1 u));
         laid = r.laid;
-      }
+      })
 
-  module _ (there : c ≡ 2) where
-    true_ahead : ahead cs at ≡ (true_sign ∷ ahead cs (at + 1))
-    unfolding sign_of
-    true_ahead = primary_ahead ∙ rw there
+  module _ (none : SignCode) (v : List SignCode) (there : get_or s 0 none ≡ sign.True) (d : v ≡ drop 1 s) where
+    true_ahead : s ≡ (sign.True ∷ v)
+    true_ahead = primary none sign.True v there d
 
-    true_room : made + 1 ≤ max_rule_nodes
+    pub primaries_true_put : SpaceFor kind.True 0 0 o
     unfolding sign_nodes
-    true_room = omega (arith, pr.ready.room, ap weight true_ahead ∙ weight_one true_sign (ahead cs (at + 1)) refl)
-
-    pub primaries_true_write : made < max_rule_nodes
-    primaries_true_write = omega (arith, true_room)
-
-    pub primaries_true_next : Fits w64 (made + 1)
-    primaries_true_next = record { fits = omega (arith, true_room) }
+    primaries_true_put =
+        let room : o.count + 1 ≤ max_rule_nodes = omega (arith, pr.ready.room, ap (λ (s : List SignCode). weight (signs_in s)) true_ahead ∙ weight_one true_sign (signs_in v) refl) in
+        record { known = λ z. cc; first = omega arith; second = omega arith; space = record { room = room; held = pr.ready.held } }
 
     -- `primaries`, `Phrase`'s `truth_alone`: `true`
-    pub primaries_true : (w : ℕ) → w ≡ node_word (node table.True 0 0) → Read Primaries 5 cs at made out (at + 1) (made + 1) (set out made w)
+    pub primaries_true : {o₁ : Emitted} → Laid (words (node table.True 0 0 ∷ [])) o o₁ → Read Primaries 5 s o (v) o₁
     unfolding nodes_from rule_tree_of
-    primaries_true w e = record { tree = truth; phrase = rw true_ahead truth_alone; stops = tight_most (ahead cs (at + 1)); laid = relaid (rw e) (laid_one w out made (omega (arith, true_room, pr.ready.held))) }
+    primaries_true last = record { tree = truth; phrase = rw true_ahead truth_alone; stops = tight_most (signs_in v); laid = last }
 
-  module _ (n1 : c ≡ 1 → ⊥) (n2 : c ≡ 2 → ⊥) where
-    pub primaries_atom_code : 13 ≤ c
-    primaries_atom_code = atom_code_lem c pr.ready.opened (ahead cs (at + 1)) primary_due (rw is pr.plain) n1 n2
+  module _ (none : SignCode) (n : ℕ) (v : List SignCode) (there : get_or s 0 none ≡ sign.Atom n) (d : v ≡ drop 1 s) where
+    atom_ahead : s ≡ (sign.Atom n ∷ v)
+    atom_ahead = primary none (sign.Atom n) v there d
 
-    atom_low : c < 45
-    atom_low = rw is (pr.ready.low at)
-
-    pub primaries_atom_low : c - 13 < operand_span
-    primaries_atom_low = omega (arith, atom_low)
-
-    pub primaries_atom_cast : Fits w64 (c - 13)
-    primaries_atom_cast = record { fits = omega (arith, atom_low) }
-
-    atom_ahead : ahead cs at ≡ (atom_sign (c - 13) ∷ ahead cs (at + 1))
-    atom_ahead = primary_ahead ∙ rw (atom_sign_lem c primaries_atom_code)
-
-    atom_room : made + 1 ≤ max_rule_nodes
+    pub primaries_atom_put : n < operand_span → SpaceFor kind.Atom n 0 o
     unfolding sign_nodes
-    atom_room = omega (arith, pr.ready.room, ap weight atom_ahead ∙ weight_one (atom_sign (c - 13)) (ahead cs (at + 1)) refl)
-
-    pub primaries_atom_write : made < max_rule_nodes
-    primaries_atom_write = omega (arith, atom_room)
-
-    pub primaries_atom_next : Fits w64 (made + 1)
-    primaries_atom_next = record { fits = omega (arith, atom_room) }
+    primaries_atom_put h =
+        let room : o.count + 1 ≤ max_rule_nodes = omega (arith, pr.ready.room, ap (λ (s : List SignCode). weight (signs_in s)) atom_ahead ∙ weight_one (atom_sign n) (signs_in v) refl) in
+        record { known = λ z. cc; first = h; second = omega arith; space = record { room = room; held = pr.ready.held } }
 
     -- `primaries`, `Phrase`'s `is_atom`: an atom
-    pub primaries_atom : (w : ℕ) → w ≡ node_word (node table.Atom (c - 13) 0) → Read Primaries 5 cs at made out (at + 1) (made + 1) (set out made w)
+    pub primaries_atom : {o₁ : Emitted} → Laid (words (node table.Atom n 0 ∷ [])) o o₁ → Read Primaries 5 s o (v) o₁
     unfolding nodes_from rule_tree_of
-    primaries_atom w e = record { tree = atom (c - 13); phrase = rw atom_ahead (atom_alone (c - 13)); stops = tight_most (ahead cs (at + 1)); laid = relaid (rw e) (laid_one w out made (omega (arith, atom_room, pr.ready.held))) }
-
-pub ruleset primaries_laws = (rules, primaries_index, primaries_depth, primaries_falls, primaries_ready, primaries_after, primaries_bracket, primaries_true_write, primaries_true_next, primaries_true, primaries_atom_code, primaries_atom_low, primaries_atom_cast, primaries_atom_write, primaries_atom_next, primaries_atom)
+    primaries_atom last = record { tree = atom n; phrase = rw atom_ahead (atom_alone n); stops = tight_most (signs_in v); laid = last }

@@ -1,6 +1,5 @@
 -- The nodes of a prefix or of a sign between two operands, as they come out around the operands.
-use Rattle.std.specs.Prelude.{ℕ, ◌+◌, ◌-◌, List, [], ◌∷◌, map, eqb}
-use Rattle.definitions.specs.Bounded.{pick}
+use Rattle.std.specs.Prelude.{ℕ, ◌+◌, ◌-◌, List, [], ◌∷◌, map}
 use Rattle.definitions.specs.Nodes as table
 use Rattle.definitions.specs.Nodes.{Kind, Node, node, node_word}
 use Rattle.definitions.specs.OneLineSigns.{Prefix, Not, Next, Prev, Future, Always, Infix, Implies, Or, And, Until, Since}
@@ -8,17 +7,6 @@ use Rattle.definitions.specs.OneLineSigns.{Prefix, Not, Next, Prev, Future, Alwa
 -- the words of nodes
 abbrev pub words : List Node → List ℕ
 words ns = map node_word ns
-
--- the prefix of a code
-unfoldable pub prefix_of : ℕ → Prefix
-prefix_of c = pick (eqb c 3) Not (pick (eqb c 4) Next (pick (eqb c 5) Prev (pick (eqb c 6) Future Always)))
-
--- `U`, or else `S`
-unfoldable pub until_sign : ℕ → Infix
-until_sign c = pick (eqb c 11) Until Since
-
-unfoldable pub until_kind : ℕ → Kind
-until_kind c = pick (eqb c 11) table.Until table.Since
 
 -- the nodes before a prefix's operand
 unfoldable pub prefix_first : Prefix → List Node
@@ -35,13 +23,6 @@ prefix_last Next b e = node table.Next (e - 1) 0 ∷ []
 prefix_last Prev b e = node table.Prev (e - 1) 0 ∷ []
 prefix_last Future b e = node table.Until b (e - 1) ∷ []
 prefix_last Always b e = node table.Not (e - 1) 0 ∷ node table.Until b e ∷ node table.Not (e + 1) 0 ∷ []
-
--- the one node after the operand of a prefix but `G`, by the prefix's code
-unfoldable pub prefix_node : ℕ → ℕ → ℕ → Node
-prefix_node c b e =
-    pick (eqb c 3) (node table.Not (e - 1) 0)
-    (pick (eqb c 4) (node table.Next (e - 1) 0)
-    (pick (eqb c 5) (node table.Prev (e - 1) 0) (node table.Until b (e - 1))))
 
 -- the nodes between the operands of a sign, the first of which ends before node m
 unfoldable pub infix_middle : Infix → ℕ → List Node
@@ -61,8 +42,8 @@ infix_last Since m e = node table.Since (m - 1) (e - 1) ∷ []
 
 -- not of the node before e
 abbrev pub not_words : ℕ → List ℕ
-not_words e = node_word (node table.Not (e - 1) 0) ∷ []
+not_words e = words (node table.Not (e - 1) 0 ∷ [])
 
--- not of the node before e, an operator, not of that
-abbrev pub dual_words : ℕ → ℕ → List ℕ
-dual_words w e = node_word (node table.Not (e - 1) 0) ∷ w ∷ node_word (node table.Not (e + 1) 0) ∷ []
+-- not of the node before e, an operator over it, not of that
+abbrev pub dual_words : Kind → ℕ → ℕ → List ℕ
+dual_words k a e = words (node table.Not (e - 1) 0 ∷ node k a e ∷ node table.Not (e + 1) 0 ∷ [])

@@ -1,4 +1,4 @@
-pub mod CodeLaws
+pub mod SignLaws
 pub mod TokenLaws
 pub mod ScanLaws
 pub mod TallyLaws

@@ -1,370 +1,200 @@
--- Laws of the reader of one sign: one for each return.
+-- Laws of the reader of one sign.
 use mathlib.Core.Path.{◌≡◌, refl, sym, ap, ◌∙◌}
-use Prim.Native.Nat.{ℕ, suc, ◌+◌, ◌-◌, ◌<◌, ◌≤◌}
+use Prim.Native.Nat.{ℕ, ◌≤◌}
 use native.Mathlib.Omega.{arith}
+use native.Mathlib.Nat.{add_comm}
 use native.Mathlib.Numerals.{add-one}
-use mathlib.Core.Bool.{Bool, true, false, true≢false}
-use mathlib.Core.List.{List, [], ◌∷◌}
-use lib.ListN.{length, take, drop, get_or, length-drop, drop_of_length-le}
-use lib.Seq.{drop-cons, drop-drop}
 use lib.Dec.{eqb, ltb}
 use borrow.Author.Rules.{rules}
-use borrow.Author.Tests.{eq-eqb, ne_eqb, eqb-true, eqb-false, le-leb, lt-leb, ltb-true}
-use Rattle.definitions.specs.Limits.{atom_count}
-use Rattle.definitions.specs.Bounded.{pick, within}
-use Rattle.definitions.specs.Lines.{Parsed, formed, malformed, on_parsed, decimal, same}
-use Rattle.definitions.specs.OneLineSigns.{true_sign, atom_sign, infix_sign, Implies, space}
+use borrow.Author.Tests.{eq-eqb, ne_eqb, ltb-true}
+use mathlib.Core.Bool.{Bool, true, false}
+use mathlib.Core.List.{List, [], ◌∷◌, ◌++◌}
+use lib.ListN.{length, take, drop, length-drop}
+use lib.Pointwise.{pointwise}
+use lib.Seq.{take_at}
+use Rattle.std.specs.Borrow.{Bor}
+use Rattle.std.specs.Prelude.{nat_eq, Option, Some, None, MatchOption, min}
+use Rattle.std.specs.List.{prefix_len, take_while}
+use Rattle.std.specs.Char.{is_ascii_digit}
+use Rattle.std.specs.Cmp.Lexicographic.{other_text}
+use Rattle.definitions.specs.Bounded.{pick}
+use Rattle.definitions.specs.Lines.{Parsed, formed, malformed, on_parsed, decimal}
+use Rattle.definitions.specs.OneLineSigns.{true_sign, atom_sign, prefix_sign, infix_sign, open_bracket, close_bracket, Not, Next, Prev, Future, Always, Implies, Or, And, Until, Since, sign_bytes}
 use Rattle.definitions.specs.OneLineReading as reading
 use Rattle.definitions.specs.OneLineReading.{past, taken, word_signs, sign_among, digits_ahead, atom_first, sign_first, after_space}
 use Rattle.theorems.proofs.Choice.{by_test, pick_true, pick_false}
 use Rattle.theorems.proofs.SignSpelling.{past_begins}
-use Rattle.fields.specs.Fields.{largest, cap, capped as capped_field}
-use Rattle.fields.specs.declared.number.Field.{Field}
-use Rattle.fields.specs.declared.number.Field.TheVariants.{Number, Malformed}
-use Rattle.fields.proofs.FieldLaws.{capped_read, capped_malformed}
-use Rattle.one_line_signs.specs.Codes.{sign_of, cap_atom, atom_code, capped}
-use Rattle.one_line_signs.specs.Tokens.{NoSingle, Single, Begun, DigitsEnd, Took, TakenAs, AtomAt, SignAt, AfterSpace}
-use Rattle.one_line_signs.specs.declared.token.Token.{Token}
-use Rattle.one_line_signs.specs.declared.token.Token.TheVariants as token
-use Rattle.one_line_signs.proofs.CodeLaws.{atom_sign_lem, cap_low, cap_high}
+use Rattle.fields.specs.Fields.{largest, cap}
+use Rattle.definitions.specs.Limits.{atom_count}
+use Rattle.fields.specs.Fields.{capped as field}
+use Rattle.fields.proofs.FieldLaws.{taken_none, capped_read}
+use Rattle.one_line_signs.specs.Signs.{sign_in, cap_atom, capped}
+use Rattle.one_line_signs.specs.Tokens.{Took, Takes}
+use Rattle.one_line_signs.specs.declared.sign.Sign.{Sign}
+use Rattle.one_line_signs.specs.declared.sign.Sign.TheVariants as code
+use Rattle.one_line_signs.specs.declared.sign.Prefix.TheVariants as before
+use Rattle.one_line_signs.specs.declared.sign.Infix.TheVariants as between
 
-line_cons : (line : List ℕ) (i : ℕ) → i < length line → drop i line ≡ (get_or line i 0 ∷ drop (i + 1) line)
-line_cons line i h = rw (add-one, drop-cons line i 0 h)
+-- `digits`, `digits_ahead`: how many bytes are digits
+pub digits_told : (t : List ℕ) → length (take_while is_ascii_digit t) ≡ digits_ahead t
+unfolding digits_ahead pick
+digits_told [] = refl
+digits_told (x ∷ t) = by_test (is_ascii_digit x) (λ e. rw (e, add_comm 1 (prefix_len is_ascii_digit t), add-one) (rw (digits_told t))) (λ e. rw e)
 
--- ---- `after_space`
-module _ (line : List ℕ) (at : ℕ) (h : at < length line) where
-  -- `after_space`, `after_space`: a space stands there
-  pub space_there : get_or line at 0 ≡ 32 → AfterSpace line at (at + 1)
-  unfolding after_space
-  space_there e = record {
-    read = rw (line_cons line at h) (sym (pick_true (eqb (get_or line at 0) space) (drop (at + 1) line) _ (eq-eqb (get_or line at 0) space e)));
-    order = omega arith;
-    within = omega arith;
-  }
+pub digits_within : (t : List ℕ) → digits_ahead t ≤ length t
+unfolding digits_ahead pick
+digits_within [] = omega arith
+digits_within (x ∷ t) = by_test (is_ascii_digit x) (λ e. rw e (omega (arith, digits_within t))) (λ e. rw e (omega arith))
 
-  -- `after_space`, `after_space`: none does
-  pub space_none : (get_or line at 0 ≡ 32 → ⊥) → AfterSpace line at at
-  unfolding after_space
-  space_none n = record {
-    read = rw (line_cons line at h) (sym (pick_false (eqb (get_or line at 0) space) (drop (at + 1) line) _ (ne_eqb (get_or line at 0) space n)));
-    order = omega arith;
-    within = omega arith;
-  }
+-- no atom
+abbrev pub is_word : Sign → Bool
+is_word code.True = true
+is_word (code.Atom n) = false
+is_word (code.Prefix x) = true
+is_word (code.Infix x) = true
+is_word code.Opening = true
+is_word code.Closing = true
 
-pub ruleset space_laws = (rules, space_there, space_none)
+word_first : (x : Sign) (u : List ℕ) → is_word x ≡ true → Took sign_first (sign_bytes (sign_in x) ++ u) x u
+unfolding sign_first sign_among atom_first past pick on_parsed capped
+word_first code.True u e = record { named = true_sign; read = refl; told = refl; shorter = omega arith }
+word_first (code.Atom n) u e = cc
+word_first (code.Prefix before.Not) u e = record { named = prefix_sign Not; read = refl; told = refl; shorter = omega arith }
+word_first (code.Prefix before.Next) u e = record { named = prefix_sign Next; read = refl; told = refl; shorter = omega arith }
+word_first (code.Prefix before.Prev) u e = record { named = prefix_sign Prev; read = refl; told = refl; shorter = omega arith }
+word_first (code.Prefix before.Future) u e = record { named = prefix_sign Future; read = refl; told = refl; shorter = omega arith }
+word_first (code.Prefix before.Always) u e = record { named = prefix_sign Always; read = refl; told = refl; shorter = omega arith }
+word_first (code.Infix between.Implies) u e = record { named = infix_sign Implies; read = refl; told = refl; shorter = omega arith }
+word_first (code.Infix between.Or) u e = record { named = infix_sign Or; read = refl; told = refl; shorter = omega arith }
+word_first (code.Infix between.And) u e = record { named = infix_sign And; read = refl; told = refl; shorter = omega arith }
+word_first (code.Infix between.Until) u e = record { named = infix_sign Until; read = refl; told = refl; shorter = omega arith }
+word_first (code.Infix between.Since) u e = record { named = infix_sign Since; read = refl; told = refl; shorter = omega arith }
+word_first code.Opening u e = record { named = open_bracket; read = refl; told = refl; shorter = omega arith }
+word_first code.Closing u e = record { named = close_bracket; read = refl; told = refl; shorter = omega arith }
 
--- ---- `atom`
--- `atom`, `atom_code`: an atom below the limit
-pub atom_low : (n : ℕ) → n < atom_count → 13 + n ≡ atom_code n
-atom_low n h = ap (λ (m : ℕ). 13 + m) (cap_low n h)
+-- `first_sign`, `sign_first`: a sign that is no atom
+pub first_word : (x : Sign) (text rest : List ℕ) → text ≡ sign_bytes (sign_in x) ++ rest → is_word x ≡ true → Took sign_first text x rest
+first_word x text rest t e = rw t (word_first x rest e)
 
--- `atom`, `atom_code`: the limit, and above
-pub atom_high : (n : ℕ) → atom_count ≤ n → 45 ≡ atom_code n
-atom_high n h = omega (arith, cap_high n h)
+-- ---- no sign
 
-pub ruleset atom_laws = (rules, atom_low, atom_high)
+pub none_told : {T P : Type 0} (Q : T → Type 0) {r : Option T} → r ≡ None → P → MatchOption r P Q
+none_told Q e p = rw e p
 
--- ---- `digits_end`
-digit_goes_on : (x : ℕ) (t : List ℕ) → 48 ≤ x → x ≤ 57 → digits_ahead (x ∷ t) ≡ suc (digits_ahead t)
-unfolding digits_ahead
-digit_goes_on x t l h = pick_true (within 48 57 x) (suc (digits_ahead t)) 0 (rw (le-leb 48 x l, le-leb x 57 h))
+-- `first_sign`, `sign_first`: nothing is there
+pub first_of_none : (text : List ℕ) → length text ≡ 0 → sign_first text ≡ malformed
+unfolding sign_first sign_among atom_first past on_parsed
+first_of_none [] e = refl
+first_of_none (b ∷ u) e = absurd (omega arith)
 
-low_ends : (x : ℕ) (t : List ℕ) → x < 48 → digits_ahead (x ∷ t) ≡ 0
-unfolding digits_ahead
-low_ends x t h = pick_false (within 48 57 x) (suc (digits_ahead t)) 0 (rw (lt-leb 48 x h))
-
-high_ends : (x : ℕ) (t : List ℕ) → 57 < x → digits_ahead (x ∷ t) ≡ 0
-unfolding digits_ahead
-high_ends x t h = pick_false (within 48 57 x) (suc (digits_ahead t)) 0 (rw (le-leb 48 x (omega arith), lt-leb x 57 h))
-
-none_ends : digits_ahead [] ≡ 0
-unfolding digits_ahead
-none_ends = refl
-
--- the digits passed so far
-pub record Passed (line : List ℕ) (at i : ℕ) : Type 0 where
-  pub count : at + digits_ahead (drop at line) ≡ i + digits_ahead (drop i line)
-  pub within : i ≤ length line
-
--- `digits_end`, `digits_ahead`: before the first turn
-pub digits_start : (line : List ℕ) (at : ℕ) → at ≤ length line → Passed line at at
-digits_start line at h = record { count = refl; within = h }
-
-module _ (line : List ℕ) (at i : ℕ) (p : Passed line at i) where
-  -- `digits_end`, `digits_ahead`: the end of the line
-  pub digits_stop : length line ≤ i → DigitsEnd line at i
-  digits_stop h =
-      let e : digits_ahead (drop i line) ≡ 0 = rw (drop_of_length-le line {i = i} h) none_ends in
-      record { place = omega (arith, p.count); within = p.within }
-
-  module _ (h : i < length line) where
-    -- `digits_end`, `digits_ahead`: a byte below `0`
-    pub digits_low : get_or line i 0 < 48 → DigitsEnd line at i
-    digits_low k =
-        let e : digits_ahead (drop i line) ≡ 0 = rw (line_cons line i h) (low_ends (get_or line i 0) (drop (i + 1) line) k) in
-        record { place = omega (arith, p.count); within = p.within }
-
-    -- `digits_end`, `digits_ahead`: a byte above `9`
-    pub digits_high : 57 < get_or line i 0 → DigitsEnd line at i
-    digits_high k =
-        let e : digits_ahead (drop i line) ≡ 0 = rw (line_cons line i h) (high_ends (get_or line i 0) (drop (i + 1) line) k) in
-        record { place = omega (arith, p.count); within = p.within }
-
-    -- `digits_end`, `digits_ahead`: a turn, past a digit
-    pub digits_next : 48 ≤ get_or line i 0 → get_or line i 0 ≤ 57 → Passed line at (i + 1)
-    digits_next l k =
-        let e : digits_ahead (drop i line) ≡ suc (digits_ahead (drop (i + 1) line))
-        = rw (line_cons line i h) (digit_goes_on (get_or line i 0) (drop (i + 1) line) l k) in
-        record { count = omega (arith, p.count); within = omega arith }
-
-pub ruleset digits_laws = (rules, digits_start, digits_stop, digits_low, digits_high, digits_next)
-
--- ---- `begins`
-past_short : (w t : List ℕ) → length t < length w → past w t ≡ malformed
-unfolding past pick
-past_short [] t h = absurd (omega arith)
-past_short (x ∷ w) [] h = refl
-past_short (x ∷ w) (y ∷ t) h = by_test (eqb x y) (λ e. rw e (past_short w t (omega arith))) (λ e. rw e)
-
-eqb_swap : (x y : ℕ) → eqb x y ≡ eqb y x
-eqb_swap x y = by_test (eqb x y) (λ e. e ∙ sym (eq-eqb y x (sym (eqb-true x y e)))) (λ e. e ∙ sym (ne_eqb y x (λ q. eqb-false x y e (sym q))))
-
-past_same : (w t : List ℕ) → length w ≤ length t → past w t ≡ pick (same (take (length w) t) w) (formed (drop (length w) t)) malformed
-unfolding past same pick
-past_same [] t h = refl
-past_same (x ∷ w) [] h = absurd (omega arith)
-past_same (x ∷ w) (y ∷ t) h =
-    by_test (eqb x y)
-    (λ e. rw (e, sym (eqb_swap x y) ∙ e) (past_same w t (omega arith)))
-    (λ e. rw (e, sym (eqb_swap x y) ∙ e))
-
-module _ (line : List ℕ) (at : ℕ) (word : List ℕ) (h : at ≤ length line) where
-  -- `begins`, `past`: the line is too short
-  pub begins_short : length line - at < length word → Begun line at word false
-  unfolding pick
-  begins_short k = record { read = past_short word (drop at line) (rw length-drop k); fits = λ e. absurd (true≢false (sym e)) }
-
-  -- `begins`, `past`: the bytes are compared
-  pub begins_same : (end : ℕ) (r : Bool) → end ≡ at + length word → length word ≤ length line - at → r ≡ same (take (end - at) (drop at line)) word → Begun line at word r
-  begins_same end r e k s =
-      let d : end - at ≡ length word = omega arith in
-      let f : r ≡ same (take (length word) (drop at line)) word = rw d at s in
-      let g : drop (length word) (drop at line) ≡ drop (at + length word) line = drop-drop (length word) at line in
-      record {
-        read = past_same word (drop at line) (rw length-drop k) ∙ rw (← f, g);
-        fits = λ q. omega arith;
-      }
-
-pub ruleset begins_laws = (rules, begins_short, begins_same)
-
--- ---- `single`
-module _ (b : ℕ) where
-  -- `single`, `sign_first`: `(`
-  pub single_opening : b ≡ 40 → Single b 1
-  unfolding sign_first sign_among atom_first past pick on_parsed sign_of capped
-  single_opening e = record { there = λ h u. rw e; code = λ h. refl; none = λ h. absurd (omega arith) }
-
-  -- `single`, `sign_first`: `)`
-  pub single_closing : b ≡ 41 → Single b 0
-  unfolding sign_first sign_among atom_first past pick on_parsed sign_of capped
-  single_closing e = record { there = λ h u. rw e; code = λ h. refl; none = λ h. absurd (omega arith) }
-
-  -- `single`, `sign_first`: `!`
-  pub single_not : b ≡ 33 → Single b 3
-  unfolding sign_first sign_among atom_first past pick on_parsed sign_of capped
-  single_not e = record { there = λ h u. rw e; code = λ h. refl; none = λ h. absurd (omega arith) }
-
-  -- `single`, `sign_first`: `X`
-  pub single_next : b ≡ 88 → Single b 4
-  unfolding sign_first sign_among atom_first past pick on_parsed sign_of capped
-  single_next e = record { there = λ h u. rw e; code = λ h. refl; none = λ h. absurd (omega arith) }
-
-  -- `single`, `sign_first`: `Y`
-  pub single_prev : b ≡ 89 → Single b 5
-  unfolding sign_first sign_among atom_first past pick on_parsed sign_of capped
-  single_prev e = record { there = λ h u. rw e; code = λ h. refl; none = λ h. absurd (omega arith) }
-
-  -- `single`, `sign_first`: `F`
-  pub single_future : b ≡ 70 → Single b 6
-  unfolding sign_first sign_among atom_first past pick on_parsed sign_of capped
-  single_future e = record { there = λ h u. rw e; code = λ h. refl; none = λ h. absurd (omega arith) }
-
-  -- `single`, `sign_first`: `G`
-  pub single_always : b ≡ 71 → Single b 7
-  unfolding sign_first sign_among atom_first past pick on_parsed sign_of capped
-  single_always e = record { there = λ h u. rw e; code = λ h. refl; none = λ h. absurd (omega arith) }
-
-  -- `single`, `sign_first`: `|`
-  pub single_or : b ≡ 124 → Single b 9
-  unfolding sign_first sign_among atom_first past pick on_parsed sign_of capped
-  single_or e = record { there = λ h u. rw e; code = λ h. refl; none = λ h. absurd (omega arith) }
-
-  -- `single`, `sign_first`: `&`
-  pub single_and : b ≡ 38 → Single b 10
-  unfolding sign_first sign_among atom_first past pick on_parsed sign_of capped
-  single_and e = record { there = λ h u. rw e; code = λ h. refl; none = λ h. absurd (omega arith) }
-
-  -- `single`, `sign_first`: `U`
-  pub single_until : b ≡ 85 → Single b 11
-  unfolding sign_first sign_among atom_first past pick on_parsed sign_of capped
-  single_until e = record { there = λ h u. rw e; code = λ h. refl; none = λ h. absurd (omega arith) }
-
-  -- `single`, `sign_first`: `S`
-  pub single_since : b ≡ 83 → Single b 12
-  unfolding sign_first sign_among atom_first past pick on_parsed sign_of capped
-  single_since e = record { there = λ h u. rw e; code = λ h. refl; none = λ h. absurd (omega arith) }
-
-  -- `single`: no sign of one byte
-  pub single_none : (b ≡ 40 → ⊥) → (b ≡ 41 → ⊥) → (b ≡ 33 → ⊥) → (b ≡ 88 → ⊥) → (b ≡ 89 → ⊥) → (b ≡ 70 → ⊥) → (b ≡ 71 → ⊥) → (b ≡ 124 → ⊥) → (b ≡ 38 → ⊥) → (b ≡ 85 → ⊥) → (b ≡ 83 → ⊥) → Single b 13
-  single_none n40 n41 n33 n88 n89 n70 n71 n124 n38 n85 n83 = record {
-    there = λ h. absurd (omega arith);
-    code = λ h. absurd (omega arith);
-    none = λ h. record { not40 = n40; not41 = n41; not33 = n33; not88 = n88; not89 = n89; not70 = n70; not71 = n71; not124 = n124; not38 = n38; not85 = n85; not83 = n83 };
-  }
-
--- ---- `atom_at`
-sign_same : (c next c' next' : ℕ) → token.Sign c next ≡ token.Sign c' next' → (c ≡ c') × (next ≡ next')
-sign_same c next c' next' e = (cc, cc)
-
-sign_some : {A : Type 0} (c next : ℕ) → token.Sign c next ≡ token.Nothing → A
-sign_some c next e = let z : ◌≡◌ {A = ℕ} 0 1 = cc in absurd (omega arith)
-
-none_some : {A : Type 0} (c next : ℕ) → token.Nothing ≡ token.Sign c next → A
-none_some c next e = let z : ◌≡◌ {A = ℕ} 0 1 = cc in absurd (omega arith)
-
-module _ (first : Parsed reading.Taken) (line : List ℕ) (at : ℕ) where
-  took : (c next : ℕ) → Took first line at c next → TakenAs first line at (token.Sign c next)
-  took c next t = record {
-    there = λ c' next' e. let q = sign_same c next c' next' e in rw (← q.0, ← q.1) t;
-    none = λ e. sign_some c next e;
-  }
-
-  took_none : first ≡ malformed → TakenAs first line at token.Nothing
-  took_none e = record { there = λ c next q. none_some c next q; none = λ q. e }
-
--- a number that a field tells up to its largest is told up to the limit all the same
-cap_cap : (n : ℕ) → cap_atom (cap n) ≡ cap_atom n
-unfolding cap
-cap_cap n =
-    by_test (ltb largest n)
-    (λ e.
-    let h = ltb-true largest n e in
-    ap cap_atom (pick_true (ltb largest n) largest n e) ∙ (sym (cap_high largest (omega arith)) ∙ cap_high n (omega arith)))
-    (λ e. ap cap_atom (pick_false (ltb largest n) largest n e))
-
-module _ (line : List ℕ) (at end : ℕ) (h : at < length line) (d : DigitsEnd line (at + 1) end) (f : Field)
-    (e : f ≡ capped_field (decimal (take (end - (at + 1)) (drop (at + 1) line)))) where
-  digits_there : take (end - (at + 1)) (drop (at + 1) line) ≡ take (digits_ahead (drop (at + 1) line)) (drop (at + 1) line)
-  digits_there = let z : end - (at + 1) ≡ digits_ahead (drop (at + 1) line) = omega (arith, d.place) in rw z
-
-  read_number : f ≡ capped_field (decimal (take (digits_ahead (drop (at + 1) line)) (drop (at + 1) line)))
-  read_number = rw digits_there at e
-
-  -- `atom_at`, `atom_first`: no number stands there
-  pub atom_none : f ≡ Malformed → AtomAt line at token.Nothing
-  unfolding atom_first past pick on_parsed
-  atom_none x =
-      let z = capped_malformed (decimal (take (digits_ahead (drop (at + 1) line)) (drop (at + 1) line))) f read_number x in
-      took_none _ line at (rw z)
-
-  told : (c n m : ℕ) → c ≡ atom_code n → n ≡ cap m → sign_of c ≡ capped (atom_sign m)
-  unfolding capped
-  told c n m i j =
-      let z : c - 13 ≡ cap_atom n = omega arith in
-      atom_sign_lem c (omega arith) ∙ ap atom_sign (z ∙ (ap cap_atom j ∙ cap_cap m))
-
-  atom_read : (u rest : List ℕ) (m : ℕ) → decimal (take (digits_ahead u) u) ≡ formed m → drop (digits_ahead u) u ≡ rest → atom_first (97 ∷ u) ≡ formed (taken (atom_sign m) rest)
-  unfolding atom_first past pick on_parsed
-  atom_read u rest m e f = rw (e, f)
-
-  -- `atom_at`, `atom_first`: the atom with its number
-  pub atom_there : (n c : ℕ) → f ≡ Number n → c ≡ atom_code n → AtomAt line at (token.Sign c end)
-  atom_there n c x i =
-      let u = drop (at + 1) line in
-      let z = capped_read (decimal (take (digits_ahead u) u)) f n read_number x in
-      let rest : drop (digits_ahead u) u ≡ drop end line = drop-drop (digits_ahead u) (at + 1) line ∙ ap (λ (k : ℕ). drop k line) (sym d.place) in
-      took _ line at c end (record {
-        named = atom_sign z.number;
-        read = atom_read u (drop end line) z.number z.is rest;
-        code = told c n z.number i z.answered;
-        order = omega (arith, d.place);
-        within = d.within;
-      })
-
-pub ruleset atom_at_laws = (rules, atom_none, atom_there)
-
--- ---- `sign_at`
--- the sign of one byte is none of them
-past_other : (x b : ℕ) (u : List ℕ) → (b ≡ x → ⊥) → past (x ∷ []) (b ∷ u) ≡ malformed
+past_other : (x b : ℕ) (w u : List ℕ) → (b ≡ x → ⊥) → past (x ∷ w) (b ∷ u) ≡ malformed
 unfolding past
-past_other x b u n = pick_false (eqb x b) (past [] u) malformed (ne_eqb x b (λ e. n (sym e)))
+past_other x b w u n = pick_false (eqb x b) (past w u) malformed (ne_eqb x b (λ e. n (sym e)))
 
-atom_or_none : (u : List ℕ) (p : Parsed reading.Taken) → on_parsed p (sign_among word_signs (97 ∷ u)) formed ≡ p
-unfolding sign_among past pick on_parsed
-atom_or_none u (formed t) = refl
-atom_or_none u malformed = refl
+past_stripped : (w t : List ℕ) → pointwise nat_eq (take (length w) t) w ≡ false → past w t ≡ malformed
+past_stripped w t e = go (past w t) refl
+  where
+    go : (p : Parsed (List ℕ)) → past w t ≡ p → p ≡ malformed
+    go (formed u) q = let same : take (length w) t ≡ w = rw (past_begins w t u q) (take_at w u (length w) refl) in absurd (other_text (take (length w) t) w (sym e) same)
+    go malformed q = refl
 
-first_atom : (u : List ℕ) → sign_first (97 ∷ u) ≡ atom_first (97 ∷ u)
-unfolding sign_first
-first_atom u = atom_or_none u (atom_first (97 ∷ u))
+past_after : (x : ℕ) (w u : List ℕ) → pointwise nat_eq (take (length w) u) w ≡ false → past (x ∷ w) (x ∷ u) ≡ malformed
+unfolding past
+past_after x w u e = pick_true (eqb x x) (past w u) malformed (eq-eqb x x refl) ∙ past_stripped w u e
 
-first_none : (b : ℕ) (u : List ℕ) → NoSingle b → (b ≡ 97 → ⊥) → past (45 ∷ 62 ∷ []) (b ∷ u) ≡ malformed → past (116 ∷ 114 ∷ 117 ∷ 101 ∷ []) (b ∷ u) ≡ malformed → sign_first (b ∷ u) ≡ malformed
+no_sign : (b : ℕ) (u : List ℕ) → (b ≡ 97 → ⊥) → past (116 ∷ 114 ∷ 117 ∷ 101 ∷ []) (b ∷ u) ≡ malformed → (b ≡ 40 → ⊥) → (b ≡ 41 → ⊥) → (b ≡ 33 → ⊥) → (b ≡ 88 → ⊥) → (b ≡ 89 → ⊥) → (b ≡ 70 → ⊥) → (b ≡ 71 → ⊥)
+    → past (45 ∷ 62 ∷ []) (b ∷ u) ≡ malformed → (b ≡ 124 → ⊥) → (b ≡ 38 → ⊥) → (b ≡ 85 → ⊥) → (b ≡ 83 → ⊥) → sign_first (b ∷ u) ≡ malformed
 unfolding sign_first sign_among atom_first on_parsed
-first_none b u n a i t =
+no_sign b u n97 t n40 n41 n33 n88 n89 n70 n71 i n124 n38 n85 n83 =
     rw (
-      past_other 97 b u a,
+      past_other 97 b [] u n97,
       t,
-      past_other 40 b u n.not40,
-      past_other 41 b u n.not41,
-      past_other 33 b u n.not33,
-      past_other 88 b u n.not88,
-      past_other 89 b u n.not89,
-      past_other 70 b u n.not70,
-      past_other 71 b u n.not71,
+      past_other 40 b [] u n40,
+      past_other 41 b [] u n41,
+      past_other 33 b [] u n33,
+      past_other 88 b [] u n88,
+      past_other 89 b [] u n89,
+      past_other 70 b [] u n70,
+      past_other 71 b [] u n71,
       i,
-      past_other 124 b u n.not124,
-      past_other 38 b u n.not38,
-      past_other 85 b u n.not85,
-      past_other 83 b u n.not83,
+      past_other 124 b [] u n124,
+      past_other 38 b [] u n38,
+      past_other 85 b [] u n85,
+      past_other 83 b [] u n83,
     )
 
-module _ (line : List ℕ) (at : ℕ) (h : at < length line) where
-  -- `sign_at`, `sign_first`: a sign of one byte
-  pub sign_single : (c : ℕ) → Single (get_or line at 0) c → c < 13 → SignAt line at (token.Sign c (at + 1))
-  sign_single c s k =
-      took _ line at c (at + 1) (record {
-        named = sign_of c;
-        read = rw (line_cons line at h) (s.there k (drop (at + 1) line));
-        code = s.code k;
-        order = omega arith;
-        within = omega arith;
-      })
+atom_same : (u : List ℕ) → sign_first (97 ∷ u) ≡ atom_first (97 ∷ u)
+unfolding sign_first sign_among past pick on_parsed
+atom_same u = go (atom_first (97 ∷ u))
+  where
+    go : (p : Parsed reading.Taken) → on_parsed p (sign_among word_signs (97 ∷ u)) formed ≡ p
+    go (formed t) = refl
+    go malformed = refl
 
-  -- `sign_at`, `sign_first`: `a` and what follows
-  pub sign_atom : (r : Token) → get_or line at 0 ≡ 97 → AtomAt line at r → SignAt line at r
-  sign_atom r e a = rw (line_cons line at h, e, first_atom (drop (at + 1) line)) a
+module _ (text u : List ℕ) (b : ℕ) (t : text ≡ (b ∷ u)) where
+  -- `first_sign`, `sign_first`: no `>` follows
+  pub first_no_arrow : b ≡ 45 → pointwise nat_eq (take 1 u) (62 ∷ []) ≡ false → sign_first text ≡ malformed
+  first_no_arrow q e =
+      rw (t, q) (no_sign 45 u (omega arith) (past_other 116 45 (114 ∷ 117 ∷ 101 ∷ []) u (omega arith)) (omega arith) (omega arith) (omega arith) (omega arith) (omega arith) (omega arith) (omega arith)
+      (past_after 45 (62 ∷ []) u e) (omega arith) (omega arith) (omega arith) (omega arith))
 
-  -- `sign_at`, `sign_first`: `->`
-  pub sign_implies : (r : Bool) → Begun line at (45 ∷ 62 ∷ []) r → r ≡ true → SignAt line at (token.Sign 8 (at + 2))
-  unfolding pick sign_first sign_among atom_first past on_parsed sign_of capped
-  sign_implies r b e =
-      let d = past_begins (45 ∷ 62 ∷ []) (drop at line) (drop (at + 2) line) (b.read ∙ rw e) in
-      took _ line at 8 (at + 2) (record { named = infix_sign Implies; read = rw d; code = refl; order = omega arith; within = b.fits e })
+  -- `first_sign`, `sign_first`: no `rue` follows
+  pub first_no_true : b ≡ 116 → pointwise nat_eq (take 3 u) (114 ∷ 117 ∷ 101 ∷ []) ≡ false → sign_first text ≡ malformed
+  first_no_true q e =
+      rw (t, q) (no_sign 116 u (omega arith) (past_after 116 (114 ∷ 117 ∷ 101 ∷ []) u e) (omega arith) (omega arith) (omega arith) (omega arith) (omega arith) (omega arith) (omega arith)
+      (past_other 45 116 (62 ∷ []) u (omega arith)) (omega arith) (omega arith) (omega arith) (omega arith))
 
-  -- `sign_at`, `sign_first`: `true`
-  pub sign_true : (r : Bool) → Begun line at (116 ∷ 114 ∷ 117 ∷ 101 ∷ []) r → r ≡ true → SignAt line at (token.Sign 2 (at + 4))
-  unfolding pick sign_first sign_among atom_first past on_parsed sign_of capped
-  sign_true r b e =
-      let d = past_begins (116 ∷ 114 ∷ 117 ∷ 101 ∷ []) (drop at line) (drop (at + 4) line) (b.read ∙ rw e) in
-      took _ line at 2 (at + 4) (record { named = true_sign; read = rw d; code = refl; order = omega arith; within = b.fits e })
+  -- `first_sign`, `sign_first`: no sign begins with the byte
+  pub first_no_sign : (b ≡ 40 → ⊥) → (b ≡ 41 → ⊥) → (b ≡ 33 → ⊥) → (b ≡ 88 → ⊥) → (b ≡ 89 → ⊥) → (b ≡ 70 → ⊥) → (b ≡ 71 → ⊥)
+      → (b ≡ 124 → ⊥) → (b ≡ 38 → ⊥) → (b ≡ 85 → ⊥) → (b ≡ 83 → ⊥) → (b ≡ 45 → ⊥) → (b ≡ 116 → ⊥) → (b ≡ 97 → ⊥) → sign_first text ≡ malformed
+  first_no_sign n40 n41 n33 n88 n89 n70 n71 n124 n38 n85 n83 n45 n116 n97 =
+      rw t (no_sign b u n97 (past_other 116 b (114 ∷ 117 ∷ 101 ∷ []) u n116) n40 n41 n33 n88 n89 n70 n71 (past_other 45 b (62 ∷ []) u n45) n124 n38 n85 n83)
 
-  -- `sign_at`, `sign_first`: no sign
-  pub sign_none : (c : ℕ) (i t : Bool) → Single (get_or line at 0) c → 13 ≤ c → (get_or line at 0 ≡ 97 → ⊥) → Begun line at (45 ∷ 62 ∷ []) i → i ≡ false
-      → Begun line at (116 ∷ 114 ∷ 117 ∷ 101 ∷ []) t → t ≡ false → SignAt line at token.Nothing
-  unfolding pick
-  sign_none c i t s k a b e d f =
-      let arrow : past (45 ∷ 62 ∷ []) (get_or line at 0 ∷ drop (at + 1) line) ≡ malformed = rw (← (line_cons line at h)) (b.read ∙ rw e) in
-      let word : past (116 ∷ 114 ∷ 117 ∷ 101 ∷ []) (get_or line at 0 ∷ drop (at + 1) line) ≡ malformed = rw (← (line_cons line at h)) (d.read ∙ rw f) in
-      took_none _ line at (rw (line_cons line at h) (first_none (get_or line at 0) (drop (at + 1) line) (s.none k) a arrow word))
+  -- `first_sign`, `sign_first`: an atom
+  pub first_atom : (r : Option (Sign × Bor (List ℕ))) → b ≡ 97 → Takes atom_first (97 ∷ u) r → Takes sign_first text r
+  first_atom r q = rw (t, q) (go r)
+    where
+      go : (r : Option (Sign × Bor (List ℕ))) → Takes atom_first (97 ∷ u) r → Takes sign_first (97 ∷ u) r
+      go None h = atom_same u ∙ h
+      go (Some t) h = record { named = h.named; read = atom_same u ∙ h.read; told = h.told; shorter = h.shorter }
 
-pub ruleset sign_at_laws = (rules, sign_single, sign_atom, sign_implies, sign_true, sign_none)
+pub ruleset first_laws = (first_word, none_told, first_of_none, first_no_sign, first_no_arrow, first_no_true, first_atom)
+
+-- ---- an atom
+
+-- a number that a field tells up to its largest is told up to the limit all the same
+cap_cap : (m : ℕ) → min (cap m) atom_count ≡ cap_atom m
+unfolding cap
+cap_cap m =
+    by_test (ltb largest m)
+    (λ e. rw (pick_true (ltb largest m) largest m e) (omega (arith, ltb-true largest m e)))
+    (λ e. rw (pick_false (ltb largest m) largest m e))
+
+atom_read : (t digits rest : List ℕ) (m : ℕ) → take (digits_ahead t) t ≡ digits → decimal digits ≡ formed m → drop (digits_ahead t) t ≡ rest → atom_first (97 ∷ t) ≡ formed (taken (atom_sign m) rest)
+unfolding atom_first past pick on_parsed
+atom_read t digits rest m e f g = rw (e, f, g)
+
+module _ (t digits rest : List ℕ) (d : ℕ) (r : Option ℕ) (i : d ≡ length (take_while is_ascii_digit t)) (j : digits ≡ take d t) (k : r ≡ field (decimal digits)) where
+  digits_there : take (digits_ahead t) t ≡ digits
+  digits_there = sym (j ∙ rw (i, digits_told t))
+
+  -- `atom`, `atom_first`: no number stands there
+  pub atom_none : r ≡ None → atom_first (97 ∷ t) ≡ malformed
+  unfolding atom_first past pick on_parsed
+  atom_none n = rw (digits_there, taken_none cap (decimal digits) (sym n ∙ k))
+
+  -- `atom`, `atom_first`: the atom with its number
+  pub atom_some : (n m : ℕ) → r ≡ Some n → m ≡ min n atom_count → rest ≡ drop d t → Took atom_first (97 ∷ t) (code.Atom m) rest
+  unfolding capped
+  atom_some n m e f g =
+      let z = capped_read (decimal digits) n (sym e ∙ k) in
+      let q : d ≡ digits_ahead t = i ∙ digits_told t in
+      let after : drop (digits_ahead t) t ≡ rest = sym (g ∙ rw q) in
+      record {
+        named = atom_sign z.number;
+        read = atom_read t digits rest z.number digits_there z.is after;
+        told = ap atom_sign (f ∙ (ap (λ (n : ℕ). min n atom_count) z.answered ∙ cap_cap z.number));
+        shorter = omega (arith, ap length g, length-drop d t);
+      }
+
+pub ruleset atom_laws = (rules, digits_told, digits_within, none_told, atom_none, atom_some)

@@ -1,4 +1,4 @@
-pub mod Codes
+pub mod Signs
 pub mod Tokens
 pub mod Scanning
 pub mod Tallies

@@ -1,36 +1,25 @@
-// Which number refuses the signs of a line.
+// What refuses the signs of a line.
 ghost use Rattle.std.specs.Prelude.{◌≡◌, ◌≤◌, length};
 ghost use Rattle.definitions.specs.Limits.{max_line_bytes};
 ghost use Rattle.theorems.proofs.FlatRefusal.{flat_refusal};
-ghost use Rattle.one_line_signs.specs.Codes.{signs};
-ghost use Rattle.one_line_signs.specs.Tallies.{tally_refusal};
+ghost use Rattle.rules.specs.Refusals.{refusal_in};
+ghost use Rattle.one_line_signs.specs.Signs.{signs_in};
 
-use super::tally;
-use super::tally::Tally;
-use rules::choice::pick;
-use rules::limits::{Limits, Refusal};
+use super::sign::Sign;
+use super::tally::count;
+use rules::limits::Limits;
+use rules::refusal::{Refusal, unless};
 
 // 15, then 16, then 2; 15 of a line that is too long or spells no signs is given before there are signs to count (`one_line`).
-fn of_tally(controller: usize, t: Tally) -> u8
-    ensures { result ≡ tally_refusal controller t }
+#[tactic(auto, using(crate::proofs::TallyLaws::check_laws))]
+pub fn check(controller: usize, signs: &[Sign]) -> Result<(), Refusal>
+    requires { length signs.now ≤ max_line_bytes }
+    ensures { refusal_in result ≡ flat_refusal controller (signs_in signs.now) }
 {
+    let t = count(signs);
     let sentence = t.placed & !t.due & (t.opened == 0);
-    let outside = (Limits::RULE_NODES < t.nodes)
-        | !t.low_atoms
-        | (Limits::CONTROLLERS <= controller);
-    let limits = pick(outside, Refusal::RULE_LIMITS, Refusal::NONE);
-    let depth = pick(
-        Limits::OPEN_BRACKETS < t.most,
-        Refusal::BRACKETS_DEEP,
-        limits,
-    );
-    pick(sentence, depth, Refusal::LINE_FORM)
-}
-
-// The first number that refuses the signs, 0 for none.
-pub fn refusal(controller: usize, codes: &[u8]) -> u8
-    requires { length codes.now ≤ max_line_bytes }
-    ensures { result ≡ flat_refusal controller (signs codes.now) }
-{
-    of_tally(controller, tally::count(codes))
+    unless(Refusal::LineForm, sentence)?;
+    unless(Refusal::BracketsDeep, t.most <= Limits::OPEN_BRACKETS)?;
+    let within = (t.nodes <= Limits::RULE_NODES) & t.low_atoms & (controller < Limits::CONTROLLERS);
+    unless(Refusal::RuleLimits, within)
 }

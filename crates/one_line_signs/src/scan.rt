@@ -1,38 +1,25 @@
 // The signs of a line.
-ghost use Rattle.std.specs.Prelude.{◌≤◌, length};
-ghost use Rattle.one_line_signs.specs.Scanning.{Scanned};
+ghost use Rattle.std.specs.Prelude.{◌≡◌, ◌≤◌, length, MatchOption};
+ghost use Rattle.definitions.specs.Lines.{malformed};
+ghost use Rattle.definitions.specs.OneLineReading.{signs_of};
+ghost use Rattle.one_line_signs.specs.Scanning.{Spelt};
 
-use super::token;
-use super::token::Token;
+use super::sign::Sign;
+use super::token::{after_space, first_sign};
 
-// How many signs the line spells, where it spells any.
-#[derive(Clone, Copy)]
-pub enum Signs {
-    Count(usize),
-    Nothing,
-}
-
-// The signs of the line, as codes from the first entry on.
-pub fn scan(line: &[u8], codes: &mut [u8]) -> Signs
-    requires { length line.now ≤ length codes.old }
-    ensures { Scanned line.now result codes.new }
+// How many signs the line spells, where it spells any; they lie in `signs` from the first entry on.
+pub fn scan(line: &[u8], signs: &mut [Sign]) -> Option<usize>
+    requires { length line.now ≤ length signs.old }
+    ensures { MatchOption result (signs_of line.now ≡ malformed) (λ n. Spelt line.now n signs.new) }
 {
-    let mut at = 0;
-    let mut n = 0;
-    while at < line.len() {
-        match token::sign_at(line, at) {
-            Token::Sign(code, next) => {
-                codes[n] = code;
-                n += 1;
-                if next == line.len() {
-                    return Signs::Count(n);
-                }
-                at = token::after_space(line, next);
-            }
-            Token::Nothing => {
-                return Signs::Nothing;
-            }
+    let mut text = line;
+    for (i, place) in signs.iter_mut().enumerate() {
+        let (sign, rest) = first_sign(text)?;
+        *place = sign;
+        if rest.is_empty() {
+            return Some(i + 1);
         }
+        text = after_space(rest);
     }
-    Signs::Nothing
+    None
 }

@@ -1,12 +1,11 @@
 // What one pass counts.
 ghost use Rattle.std.specs.Prelude.{◌≡◌, ◌≤◌, length};
 ghost use Rattle.definitions.specs.Limits.{max_line_bytes};
-ghost use Rattle.theorems.proofs.Phrases.{sign_nodes};
-ghost use Rattle.one_line_signs.specs.Codes.{sign_of};
+ghost use Rattle.theorems.proofs.Phrases.{sign_nodes, sign_low};
+ghost use Rattle.one_line_signs.specs.Signs.{sign_in};
 ghost use Rattle.one_line_signs.specs.Tallies.{may_stand, due_after, open_after, Few, Stepped, Tallied};
 
-use super::sign::Sign;
-use rules::choice::pick_index;
+use super::sign::{Infix, Prefix, Sign};
 use rules::limits::Limits;
 
 // The signs so far: whether each stands where it may, whether an operand is due, the brackets that are open, the most that were, the
@@ -22,96 +21,63 @@ pub struct Tally {
 }
 
 // Whether a sign may stand where an operand is due, or else an operator.
-fn may_stand(c: u8, due: bool, opened: usize) -> bool
-    ensures { result ≡ may_stand (sign_of c) due opened }
+fn may_stand(sign: Sign, due: bool, opened: usize) -> bool
+    ensures { result ≡ may_stand (sign_in sign) due opened }
 {
-    if c == Sign::CLOSING {
-        return !due & (0 < opened);
+    match sign {
+        Sign::True | Sign::Atom(_) | Sign::Prefix(_) | Sign::Opening => due,
+        Sign::Infix(_) => !due,
+        Sign::Closing => !due & (0 < opened),
     }
-    if c < Sign::IMPLIES {
-        return due;
-    }
-    if c < Sign::ATOM {
-        return !due;
-    }
-    due
 }
 
 // Whether an operand is due after a sign.
-fn due_after(c: u8) -> bool
-    ensures { result ≡ due_after (sign_of c) }
+fn due_after(sign: Sign) -> bool
+    ensures { result ≡ due_after (sign_in sign) }
 {
-    if c == Sign::OPENING {
-        return true;
-    }
-    if c < Sign::NOT {
-        return false;
-    }
-    c < Sign::ATOM
+    matches!(sign, Sign::Prefix(_) | Sign::Infix(_) | Sign::Opening)
 }
 
 // How many brackets are open after a sign.
-fn open_after(c: u8, opened: usize) -> usize
+fn open_after(sign: Sign, opened: usize) -> usize
     requires { opened ≤ max_line_bytes }
-    ensures { result ≡ open_after (sign_of c) opened }
+    ensures { result ≡ open_after (sign_in sign) opened }
 {
-    if c == Sign::OPENING {
-        return opened + 1;
+    match sign {
+        Sign::Opening => opened + 1,
+        Sign::Closing => opened.saturating_sub(1),
+        _ => opened,
     }
-    if c == Sign::CLOSING {
-        if opened == 0 {
-            return 0;
-        }
-        return opened - 1;
-    }
-    opened
 }
 
 // How many nodes a sign adds.
-fn nodes_of(c: u8) -> usize
-    ensures { result ≡ sign_nodes (sign_of c) }
+#[tactic(auto, unfolding(theorems::proofs::Phrases::sign_nodes, theorems::proofs::Phrases::prefix_nodes, theorems::proofs::Phrases::infix_nodes))]
+fn nodes_of(sign: Sign) -> usize
+    ensures { result ≡ sign_nodes (sign_in sign) }
 {
-    if c < Sign::TRUTH {
-        return 0;
-    }
-    if c == Sign::FUTURE {
-        return 2;
-    }
-    if c == Sign::ALWAYS {
-        return 4;
-    }
-    if c == Sign::IMPLIES {
-        return 2;
-    }
-    if c == Sign::AND {
-        return 4;
-    }
-    1
-}
-
-// One sign more.
-fn step(t: Tally, c: u8) -> Tally
-    requires { Few t }
-    ensures { Stepped t c result }
-{
-    let stands = may_stand(c, t.due, t.opened);
-    let opened = open_after(c, t.opened);
-    Tally {
-        placed: t.placed & stands,
-        due: due_after(c),
-        opened: opened,
-        most: pick_index(t.most < opened, opened, t.most),
-        nodes: t.nodes + nodes_of(c),
-        low_atoms: t.low_atoms & (c < Sign::ATOM + Limits::ATOMS as u8),
+    match sign {
+        Sign::Opening | Sign::Closing => 0,
+        Sign::Prefix(Prefix::Future) | Sign::Infix(Infix::Implies) => 2,
+        Sign::Prefix(Prefix::Always) => 4,
+        Sign::Infix(Infix::And) => 4,
+        _ => 1,
     }
 }
 
-// All signs.
-pub fn count(codes: &[u8]) -> Tally
-    requires { length codes.now ≤ max_line_bytes }
-    ensures { Tallied codes.now result }
+// Whether a sign is no atom above the limit.
+#[tactic(auto, unfolding(theorems::proofs::Phrases::sign_low))]
+fn is_low(sign: Sign) -> bool
+    ensures { result ≡ sign_low (sign_in sign) }
 {
-    let mut t = Tally {
+    match sign {
+        Sign::Atom(n) => n < Limits::ATOMS as u8,
+        _ => true,
+    }
+}
+
+impl Tally {
+    // Before the first sign.
+    const START: Tally = Tally {
         placed: true,
         due: true,
         opened: 0,
@@ -119,10 +85,34 @@ pub fn count(codes: &[u8]) -> Tally
         nodes: 0,
         low_atoms: true,
     };
-    let mut i = 0;
-    while i < codes.len() {
-        t = step(t, codes[i]);
-        i += 1;
+
+    // One sign more.
+    #[tactic(auto, using(crate::proofs::TallyLaws::with_laws))]
+    fn with(self, sign: Sign) -> Tally
+        requires { Few self }
+        ensures { Stepped self sign result }
+    {
+        let opened = open_after(sign, self.opened);
+        Tally {
+            placed: self.placed & may_stand(sign, self.due, self.opened),
+            due: due_after(sign),
+            opened,
+            most: self.most.max(opened),
+            nodes: self.nodes + nodes_of(sign),
+            low_atoms: self.low_atoms & is_low(sign),
+        }
+    }
+}
+
+// All signs.
+#[tactic(auto, using(crate::proofs::TallyLaws::count_laws))]
+pub fn count(signs: &[Sign]) -> Tally
+    requires { length signs.now ≤ max_line_bytes }
+    ensures { Tallied signs.now result }
+{
+    let mut t = Tally::START;
+    for sign in signs {
+        t = t.with(*sign);
     }
     t
 }

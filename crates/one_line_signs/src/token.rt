@@ -1,147 +1,63 @@
 // One sign of a line.
-ghost use Rattle.std.specs.Prelude.{◌≡◌, ◌+◌, ◌≤◌, ◌<◌, length};
-ghost use Rattle.one_line_signs.specs.Codes.{atom_code};
-ghost use Rattle.one_line_signs.specs.Tokens.{Single, Begun, DigitsEnd, AtomAt, SignAt, AfterSpace};
+ghost use Rattle.std.specs.Prelude.{◌≡◌, ◌∷◌, length};
+ghost use Rattle.std.specs.List.{take_while};
+ghost use Rattle.std.specs.Char.{is_ascii_digit};
+ghost use Rattle.definitions.specs.OneLineReading.{atom_first, sign_first, after_space};
+ghost use Rattle.one_line_signs.specs.Tokens.{Takes};
 
-use super::sign::Sign;
-use fields::number;
-use fields::number::Field;
-use lines::scan;
+use super::sign::{Infix, Prefix, Sign};
+use fields::number::decimal;
 use rules::limits::Limits;
 
-// The code of a sign and the place after it, where one stands there.
-#[derive(Clone, Copy)]
-pub enum Token {
-    Sign(u8, usize),
-    Nothing,
+// How many digits a text begins with.
+fn digits(text: &[u8]) -> usize
+    ensures { result ≡ length (take_while is_ascii_digit text.now) }
+{
+    text.iter().take_while(|b| b.is_ascii_digit()).count()
 }
 
-// The code of a sign of one byte, or ATOM.
-fn single(b: u8) -> u8
-    ensures { Single b result }
+// The atom whose number a text begins with, where `a` stands before it, and what follows it.
+#[tactic(auto, using(crate::proofs::TokenLaws::atom_laws))]
+fn atom(text: &[u8]) -> Option<(Sign, &[u8])>
+    ensures { Takes atom_first (97 ∷ text.now) result }
 {
-    if b == b'(' {
-        return Sign::OPENING;
-    }
-    if b == b')' {
-        return Sign::CLOSING;
-    }
-    if b == b'!' {
-        return Sign::NOT;
-    }
-    if b == b'X' {
-        return Sign::NEXT;
-    }
-    if b == b'Y' {
-        return Sign::PREV;
-    }
-    if b == b'F' {
-        return Sign::FUTURE;
-    }
-    if b == b'G' {
-        return Sign::ALWAYS;
-    }
-    if b == b'|' {
-        return Sign::OR;
-    }
-    if b == b'&' {
-        return Sign::AND;
-    }
-    if b == b'U' {
-        return Sign::UNTIL;
-    }
-    if b == b'S' {
-        return Sign::SINCE;
-    }
-    Sign::ATOM
+    let (digits, rest) = text.split_at(digits(text));
+    let n = decimal(digits)?;
+    Some((Sign::Atom(n.min(Limits::ATOMS as u32) as u8), rest))
 }
 
-// Whether the line goes on with `word` from `at` on.
-fn begins(line: &[u8], at: usize, word: &[u8]) -> bool
-    requires { at ≤ length line.now }
-    ensures { Begun line.now at word.now result }
+// What follows the space that a text begins with, where it begins with one.
+#[tactic(auto, unfolding(definitions::specs::OneLineReading::after_space, definitions::specs::Bounded::pick))]
+pub fn after_space(text: &[u8]) -> &[u8]
+    ensures { result.now ≡ after_space text.now }
 {
-    let n = word.len();
-    if line.len() - at < n {
-        return false;
+    match text {
+        [b' ', rest @ ..] => rest,
+        _ => text,
     }
-    let end = at + n;
-    scan::same(&line[at..end], word)
 }
 
-// The place after the digits from `at` on.
-fn digits_end(line: &[u8], at: usize) -> usize
-    requires { at ≤ length line.now }
-    ensures { DigitsEnd line.now at result }
+// The sign that a text begins with, and what follows it.
+#[tactic(auto, using(crate::proofs::TokenLaws::first_laws))]
+pub fn first_sign(text: &[u8]) -> Option<(Sign, &[u8])>
+    ensures { Takes sign_first text.now result }
 {
-    let mut i = at;
-    while i < line.len() {
-        let b = line[i];
-        if b < b'0' {
-            return i;
-        }
-        if b'9' < b {
-            return i;
-        }
-        i += 1;
+    let (first, rest) = text.split_first()?;
+    match first {
+        b't' => Some((Sign::True, rest.strip_prefix(b"rue")?)),
+        b'a' => atom(rest),
+        b'!' => Some((Sign::Prefix(Prefix::Not), rest)),
+        b'X' => Some((Sign::Prefix(Prefix::Next), rest)),
+        b'Y' => Some((Sign::Prefix(Prefix::Prev), rest)),
+        b'F' => Some((Sign::Prefix(Prefix::Future), rest)),
+        b'G' => Some((Sign::Prefix(Prefix::Always), rest)),
+        b'-' => Some((Sign::Infix(Infix::Implies), rest.strip_prefix(b">")?)),
+        b'|' => Some((Sign::Infix(Infix::Or), rest)),
+        b'&' => Some((Sign::Infix(Infix::And), rest)),
+        b'U' => Some((Sign::Infix(Infix::Until), rest)),
+        b'S' => Some((Sign::Infix(Infix::Since), rest)),
+        b'(' => Some((Sign::Opening, rest)),
+        b')' => Some((Sign::Closing, rest)),
+        _ => None,
     }
-    i
-}
-
-// The code of an atom: one above the limit counts as the limit.
-fn atom(n: u32) -> u8
-    ensures { result ≡ atom_code n }
-{
-    if n < Limits::ATOMS as u32 {
-        return Sign::ATOM + n as u8;
-    }
-    Sign::ATOM + Limits::ATOMS as u8
-}
-
-// The atom at `at`, where `a` stands.
-fn atom_at(line: &[u8], at: usize) -> Token
-    requires { at < length line.now }
-    ensures { AtomAt line.now at result }
-{
-    let from = at + 1;
-    let end = digits_end(line, from);
-    let Field::Number(n) = number::decimal(&line[from..end]) else {
-        return Token::Nothing;
-    };
-    Token::Sign(atom(n), end)
-}
-
-const SPACE: u8 = b' ';
-
-// The place after the space at `at`, where one stands.
-pub fn after_space(line: &[u8], at: usize) -> usize
-    requires { at < length line.now }
-    ensures { AfterSpace line.now at result }
-{
-    if line[at] == SPACE {
-        return at + 1;
-    }
-    at
-}
-
-// The sign at `at`.
-pub fn sign_at(line: &[u8], at: usize) -> Token
-    requires { at < length line.now }
-    ensures { SignAt line.now at result }
-{
-    let b = line[at];
-    let code = single(b);
-    if code < Sign::ATOM {
-        return Token::Sign(code, at + 1);
-    }
-    if b == b'a' {
-        return atom_at(line, at);
-    }
-    if begins(line, at, b"->") {
-        return Token::Sign(Sign::IMPLIES, at + 2);
-    }
-    if begins(line, at, b"true") {
-        return Token::Sign(Sign::TRUTH, at + 4);
-    }
-    Token::Nothing
 }

@@ -22,19 +22,18 @@ pub fn print(n: u64, at: usize, text: &mut [u8]) -> usize
 }
 
 // Writes `word` from `at` on. The place after it.
+#[tactic(auto, using(crate::proofs::PrintLaws::word_laid))]
 pub fn put(word: &[u8], at: usize, text: &mut [u8]) -> usize
     requires { at + length word.now ≤ length text.old }
     ensures { Printed word.now text.old at result text.new }
 {
-    let mut i = 0;
-    while i < word.len() {
-        text[at + i] = word[i];
-        i += 1;
-    }
-    at + i
+    let end = at + word.len();
+    text[at..end].copy_from_slice(word);
+    end
 }
 
 // Writes the byte `b` at `at`. The place after it.
+#[tactic(auto, using(crate::proofs::PrintLaws::printed_byte))]
 pub fn put_byte(b: u8, at: usize, text: &mut [u8]) -> usize
     requires { at < length text.old }
     ensures { Printed (b ∷ []) text.old at result text.new }

@@ -5,14 +5,13 @@ use mathlib.Core.List.{List}
 use Prim.Native.Nat.{ℕ, suc, ◌+◌, ◌-◌, ◌^◌, ◌<◌, ◌≤◌}
 use native.Mathlib.Omega.{arith}
 use lib.ListN.{length, take, drop, length-take, length-drop}
-use lib.Seq.{length-take-le}
 use mir.Syntax.{w64}
 use mir.Val.{Fits}
 use borrow.Author.Rules.{rules}
 use borrow.Author.Tests.{ltb-true}
 use Rattle.definitions.specs.Limits.{max_input_bytes}
 use Rattle.definitions.specs.Lines.{newline, before, line_length, line_of, is_closed, rest_at, rest_of, same}
-use Rattle.definitions.specs.Program.{split_line, rule_length, rule_text_in, recording_text_in}
+use Rattle.definitions.specs.Program.{split_line, rule_length}
 use Rattle.theorems.proofs.InputSplit.{split_open, split_here, split_later, split_enough, split_inside, empty_open, rest_length}
 use Rattle.lines.proofs.PartLaws.{part_to_end}
 use Rattle.lines.specs.Reading.{FirstLine}
@@ -20,7 +19,7 @@ use Rattle.lines.specs.declared.Line.{Line}
 use Rattle.program_input.specs.declared.Parts.{Parts}
 use Rattle.lines.proofs.NextLaws.{line_part, line_part_laws, short_closed, whole_open}
 use Rattle.lines.proofs.LoopLaws.{after_line, line_inside}
-use Rattle.program_input.specs.Splitting.{SplitAt, Texts}
+use Rattle.program_input.specs.Splitting.{SplitIs, Texts}
 
 -- ---- `is_split`
 -- `is_split`: the line is compared with `split_line`
@@ -110,34 +109,22 @@ module _ (s : List ℕ) (r : ℕ) (is : r ≡ rule_length (length s) s) where
     line : FirstLine (drop r s) l
     line = rw (part_to_end s r) at first
 
-    recording_inside_lem : r + l.next ≤ length s
-    recording_inside_lem = line_inside s r l line split_start
-
-    pub split_fits : length s < 2 ^ 64 → Fits w64 (r + l.next)
-    split_fits h = record { fits = omega (arith, recording_inside_lem) }
+    pub recording_start : r + l.next ≤ length s
+    recording_start = line_inside s r l line split_start
 
     -- `split`: the bytes before the line and behind it are `rule_text_in` and `recording_text_in`
-    pub split_some : SplitAt s (record { rule_end = r; recording_at = r + l.next })
-    split_some = record {
-      rule_inside = split_start;
-      recording_inside = recording_inside_lem;
-      rule = rw is;
-      recording = sym (after_line s r l line) ∙ ap (λ (k : ℕ). rest_of (drop k s)) is;
-    }
+    pub split_some : (p : Parts) → p.rule.now ≡ take r s → p.recording.now ≡ take (length s - (r + l.next)) (drop (r + l.next) s) → SplitIs s p
+    split_some p rule recording =
+        let at : p.recording.now ≡ drop (r + l.next) s = recording ∙ part_to_end s (r + l.next) in
+        record {
+          rule = rule ∙ rw is;
+          recording = at ∙ (sym (after_line s r l line) ∙ ap (λ (k : ℕ). rest_of (drop k s)) is);
+          rule_inside = rw (rule, length-take) (omega arith);
+          recording_inside = rw (at, length-drop) (omega arith);
+        }
 
-pub ruleset split_laws = (rules, split_start, split_fits, split_some)
+pub ruleset split_laws = (rules, split_start, recording_start, split_some)
 
 -- ---- what a caller has
-module _ (input : List ℕ) (s : Parts) (is : SplitAt input s) where
-  pub rule_counted : s.rule_end ≡ length (take s.rule_end input)
-  rule_counted = sym (length-take-le s.rule_end input is.rule_inside)
-
-  pub texts_fit : length input ≤ max_input_bytes → Texts (take s.rule_end input) (take (length input - s.recording_at) (drop s.recording_at input))
-  texts_fit short = record {
-    rule_fits = rw length-take (omega arith);
-    recording_fits = rw (part_to_end input s.recording_at, length-drop) (omega arith);
-  }
-
-  -- the two texts are those of the input
-  pub texts_of : (P : List ℕ → List ℕ → Type 0) → P (take s.rule_end input) (take (length input - s.recording_at) (drop s.recording_at input)) → P (rule_text_in input) (recording_text_in input)
-  texts_of P p = rw (← is.rule, ← is.recording, ← part_to_end input s.recording_at) p
+pub texts_fit : (input : List ℕ) (p : Parts) → SplitIs input p → length input ≤ max_input_bytes → Texts p.rule.now p.recording.now
+texts_fit input p is short = record { rule_fits = omega (arith, is.rule_inside); recording_fits = omega (arith, is.recording_inside) }

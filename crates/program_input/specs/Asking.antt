@@ -1,23 +1,18 @@
 -- What the first line of the input asks for.
-use Rattle.std.specs.Prelude.{◌≡◌, true, false, List, ℕ, ◌≤◌, length}
+use Rattle.std.specs.Prelude.{Bool, true, false, List, ℕ, Result, Ok, Err}
+use Rattle.std.specs.Borrow.{Bor}
 use Rattle.definitions.specs.Bounded.{pick}
-use Rattle.definitions.specs.Lines.{line_length, rest_at}
+use Rattle.definitions.specs.Lines.{line_of, rest_of}
 use Rattle.definitions.specs.Why.{asks}
 use Rattle.program_input.specs.declared.asked.Asked.{Asked}
-use Rattle.program_input.specs.declared.asked.Asked.TheVariants.{Reading, Nothing}
 
--- a reading of the texts after that line, or nothing
-unfoldable pub asked_in : List ℕ → Asked
+-- a reading, weak or strong, and the texts after that line; or the line, which asks for nothing
+unfoldable pub asked_in : List ℕ → Result (Bool × List ℕ) (List ℕ)
 asked_in input =
-    pick (asks true input) (Reading true (rest_at input))
-    (pick (asks false input) (Reading false (rest_at input)) (Nothing (line_length input)))
+    pick (asks true input) (Ok (true, rest_of input))
+    (pick (asks false input) (Ok (false, rest_of input)) (Err (line_of input)))
 
--- where the texts begin, or how long the line is
-abbrev pub place_of : Asked → ℕ
-place_of (Reading weak at) = at
-place_of (Nothing len) = len
-
--- r is what is asked for
-pub record AskedIs (input : List ℕ) (r : Asked) : Type 0 where
-  pub is : r ≡ asked_in input
-  pub inside : place_of r ≤ length input
+-- an answer of the code, by what its parts of the input read
+abbrev pub told : Result Asked (Bor (List ℕ)) → Result (Bool × List ℕ) (List ℕ)
+told (Ok asked) = Ok (asked.weak, asked.texts.now)
+told (Err line) = Err line.now

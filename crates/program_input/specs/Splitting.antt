@@ -1,15 +1,15 @@
--- Where the input is split.
-use Rattle.std.specs.Prelude.{◌≡◌, ℕ, ◌≤◌, List, length, take, drop}
+-- The two texts that an input is split into.
+use Rattle.std.specs.Prelude.{◌≡◌, ℕ, ◌≤◌, List, length}
 use Rattle.definitions.specs.Limits.{max_input_bytes}
 use Rattle.definitions.specs.Program.{rule_text_in, recording_text_in}
 use Rattle.program_input.specs.declared.Parts.{Parts}
 
--- the two texts of the input, as its parts
-pub record SplitAt (input : List ℕ) (s : Parts) : Type 0 where
-  pub rule_inside : s.rule_end ≤ length input
-  pub recording_inside : s.recording_at ≤ length input
-  pub rule : take s.rule_end input ≡ rule_text_in input
-  pub recording : drop s.recording_at input ≡ recording_text_in input
+-- the parts of the input are its two texts
+pub record SplitIs (input : List ℕ) (p : Parts) : Type 0 where
+  pub rule : p.rule.now ≡ rule_text_in input
+  pub recording : p.recording.now ≡ recording_text_in input
+  pub rule_inside : length p.rule.now ≤ length input
+  pub recording_inside : length p.recording.now ≤ length input
 
 -- two texts of one input that is not too long
 pub record Texts (rule recording : List ℕ) : Type 0 where

@@ -6,15 +6,15 @@ pub mod asked;
 ghost use Rattle.std.specs.Prelude.{◌≡◌, length};
 ghost use Rattle.definitions.specs.Lines.{line_length, line_of, same};
 ghost use Rattle.definitions.specs.Program.{split_line, rule_length};
-ghost use Rattle.program_input.specs.Splitting.{SplitAt};
+ghost use Rattle.program_input.specs.Splitting.{SplitIs};
 
 use lines::{first_line, scan};
 
-// Where the rule text ends and where the recording text begins.
+// The two texts of an input.
 #[derive(Clone, Copy)]
-pub struct Parts {
-    pub rule_end: usize,
-    pub recording_at: usize,
+pub struct Parts<'a> {
+    pub rule: &'a [u8],
+    pub recording: &'a [u8],
 }
 
 // Whether the first line of `t`, of `len` bytes, is `-`.
@@ -45,13 +45,13 @@ fn rule_length(input: &[u8]) -> usize
 }
 
 // Splits the input; without a line `-` the recording text is its empty end.
-pub fn split(input: &[u8]) -> Parts
-    ensures { SplitAt input.now result }
+pub fn split(input: &[u8]) -> Parts<'_>
+    ensures { SplitIs input.now result }
 {
-    let rule_end = rule_length(input);
-    let line = first_line(&input[rule_end..]);
+    let end = rule_length(input);
+    let line = first_line(&input[end..]);
     Parts {
-        rule_end: rule_end,
-        recording_at: rule_end + line.next,
+        rule: &input[..end],
+        recording: &input[end + line.next..],
     }
 }

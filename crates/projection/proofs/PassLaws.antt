@@ -1,14 +1,9 @@
 -- One law for each return and each turn of the pass.
-use mathlib.Core.Path.{◌≡◌, refl, sym, ap, ◌∙◌}
-use Prim.Native.Nat.{ℕ, suc, ◌+◌, ◌-◌, ◌≤◌, ◌<◌}
-use native.Mathlib.Omega.{arith}
-use native.Mathlib.Numerals.{add-one}
-use mathlib.Core.Bool.{Bool, true, false}
-use mathlib.Core.List.{List, [], ◌∷◌, ◌++◌, append_assoc}
-use lib.Bits.{bit_and}
-use lib.ListN.{length, take, drop, get_or, set, replicate, get_or-replicate}
-use lib.Seq.{length-take-le, get_or-take, take_at, set_split, take-suc-set, take-set-le, drop-set-lt, drop-drop}
-use borrow.Author.Rules.{rules}
+use Rattle.std.proofs.Common.{rules, ℕ, suc, ◌+◌, ◌-◌, ◌≤◌, ◌<◌, ◌≡◌, refl, sym, ap, ◌∙◌, Bool, true, false, List, [], ◌∷◌, ◌++◌, append_assoc, length, take, drop, get_or, set, replicate, length-take, length-drop, length-take-le, get_or-take, take_at, take-suc-set, drop-set-lt, drop-drop, arith, add-one}
+use Rattle.std.specs.Int.Bits.{bit_and}
+use Rattle.std.proofs.lemmas.Grind.{get_or_after_one}
+use lib.ListN.{get_or-replicate}
+use lib.Seq.{set_split, take-set-le}
 use Rattle.definitions.specs.Bounded.{pick, bit, tabulate}
 use Rattle.definitions.specs.Recordings.{Recording, recording_of, first_states, atoms_of, marked, mask_of, state_at, runs_at}
 use Rattle.definitions.specs.Projection.{local_trace}
@@ -142,7 +137,6 @@ First mask s r = (S : Recording) (c : ℕ) (places : List ℕ) → S.count ≡ 1
 
 -- before state k is taken: of every recording with these states, and this mask of c, the pass holds the local trace of the first k
 pub record Passing (N mask c : ℕ) (states entry places : List ℕ) (held : Pass) (k : ℕ) : Type 0 where
-  pub low : 1 ≤ k
   pub high : k ≤ N
   pub kept : length places ≡ length entry
   pub holds : (R : Recording) → R.states ≡ states → mask_of R c ≡ mask → Holds (first_states k R) c entry held places
@@ -158,48 +152,54 @@ module _ (N mask c : ℕ) (states entry : List ℕ) (P : Projectable N c states 
   -- `pass_over`, before state 1: the local trace of the first state is held (`Passing`)
   pub passing_start : (held : Pass) → First mask (get_or states 0 0) held → Passing N mask c states entry entry held 1
   passing_start held f = record {
-    low = omega arith;
     high = P.some_state;
     kept = refl;
     holds = λ R e m. f (first_states 1 R) c entry refl (get_or-take 1 R.states 0 0 (omega arith) ∙ ap (λ (l : List ℕ). get_or l 0 0) e) m;
   }
 
-  module _ (places : List ℕ) (held : Pass) (k : ℕ) (G : Passing N mask c states entry places held k) where
-    pub passing_kept : length places ≡ length entry
-    passing_kept = G.kept
+  -- the states after the first, of N
+  abbrev after_first : List ℕ
+  after_first = take (N - 1) (drop 1 states)
 
-    held_sole : Holds (first_states k (sole mask c states)) c entry held places
+  after_count : length after_first ≡ N - 1
+  after_count = omega (arith, length-take (N - 1) (drop 1 states), length-drop 1 states, P.all_there)
+
+  module _ (places : List ℕ) (held : Pass) (i : ℕ) (G : Passing N mask c states entry places held (i + 1)) where
+    held_sole : Holds (first_states (i + 1) (sole mask c states)) c entry held places
     held_sole = G.holds (sole mask c states) refl (sole_mask mask c states)
 
-    pub passing_ready : k < N → Ready c held places
+    pub passing_ready : i < length after_first → Ready c held places
     passing_ready h = record {
       controller = P.controller;
       whole = held_sole.row.whole;
-      more = omega (arith, held_sole.row.count, P.few_states);
-      few = held_few (first_states k (sole mask c states)) c entry held places held_sole;
+      more = omega (arith, held_sole.row.count, P.few_states, after_count);
+      few = held_few (first_states (i + 1) (sole mask c states)) c entry held places held_sole;
       room = omega (arith, G.kept, P.room);
     }
 
-    -- `pass_over`, a turn: with state k taken, the local trace of k + 1 states is held (`Passing`)
-    pub passing_next : k < N → (next : Pass) (places' : List ℕ) → length places' ≡ length places → Taken c mask (get_or states k 0) held places next places'
-        → Passing N mask c states entry places' next (k + 1)
+    -- `pass_over`, a turn: with one state more taken, the local trace of these is held (`Passing`)
+    pub passing_next : i < length after_first → (next : Pass) (places' : List ℕ) → length places' ≡ length places → Taken c mask (get_or after_first i 0) held places next places'
+        → Passing N mask c states entry places' next (i + 1 + 1)
     passing_next h next places' l t = record {
-      low = omega arith;
-      high = omega arith;
+      high = omega (arith, after_count);
       kept = l ∙ G.kept;
       holds = λ R e m.
-          let o : OneMore (first_states k R) (first_states (k + 1) R) (get_or states k 0) = rw (← e) (first_states_more R k (omega (arith, G.low))) in
-          t (first_states k R) (first_states (k + 1) R) entry o m (G.holds R e m);
+          let low : i < N - 1 = omega (arith, after_count) in
+          let next_one : 1 + i ≡ i + 1 = omega arith in
+          let here : get_or after_first i 0 ≡ get_or states (i + 1) 0
+          = get_or-take (N - 1) (drop 1 states) i 0 low ∙ get_or_after_one states i 0 ∙ ap (λ (k : ℕ). get_or states k 0) next_one in
+          let o : OneMore (first_states (i + 1) R) (first_states (i + 1 + 1) R) (get_or after_first i 0) = rw (here, ← e) (first_states_more R (i + 1) (omega arith)) in
+          t (first_states (i + 1) R) (first_states (i + 1 + 1) R) entry o m (G.holds R e m);
     }
 
     -- `pass_over`, no state is left: the local trace of all N states is held (`Passed`)
-    pub passing_end : N ≤ k → Passed N mask c states entry held places
+    pub passing_end : length after_first ≤ i → Passed N mask c states entry held places
     passing_end h =
-        let n : N ≡ k = omega (arith, G.high) in
+        let n : N ≡ i + 1 = omega (arith, G.high, after_count, P.some_state) in
         record {
           whole = held_sole.row.whole;
-          below = omega (arith, held_below (first_states k (sole mask c states)) c entry held places held_sole, G.kept, P.few_states, P.room);
+          below = omega (arith, held_below (first_states (i + 1) (sole mask c states)) c entry held places held_sole, G.kept, P.few_states, P.room);
           holds = λ R e m. rw n (G.holds R e m);
         }
 
-pub ruleset pass_bounds = (rules, passing_kept, passing_ready)
+pub ruleset pass_laws = (rules, passing_start, passing_ready, passing_next, passing_end)

@@ -15,7 +15,7 @@ use Rattle.projection.specs.declared.pass.Pass.{Pass}
 use Rattle.projection.specs.Passes.{Holds, Passed, Closed, Counted}
 use Rattle.projection.specs.Places.{states_only, runs_in, places_in, Projectable, Countable}
 use Rattle.projection.proofs.LengthLaws.{length_of}
-use Rattle.projection.proofs.PassLaws.{sole, sole_mask, held_length}
+use Rattle.projection.proofs.PassLaws.{sole, sole_mask}
 
 module _ (N mask c : ℕ) (states entry : List ℕ) (held : Pass) (places : List ℕ) (H : Passed N mask c states entry held places) where
   abbrev R : Recording
@@ -36,14 +36,9 @@ module _ (N mask c : ℕ) (states entry : List ℕ) (held : Pass) (places : List
   pub into_counted : (r : ℕ) → Counted held r → r ≡ length (runs_in N c states) + 1
   into_counted r f = f.long R c entry places whole ∙ runs_are
 
-  pub into_placed : held.placed ≡ length (runs_in N c states)
-  into_placed = omega (arith, held_length R c entry held places whole, runs_are)
-
   -- `project_counted`, the lent places: the local trace (`places_in`) is laid over their start
   pub into_laid : (exit : List ℕ) → Closed held places exit → exit ≡ laid (places_in N mask c states) entry
   into_laid exit f = f.places R c entry whole ∙ ap (λ (l : List ℕ). laid l entry) content
-
-pub ruleset into_laws = (into_placed, into_laid)
 
 pub ruleset counted_laws = (into_counted, into_laid)
 

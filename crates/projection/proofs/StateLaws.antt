@@ -1,17 +1,8 @@
 -- Laws of the state of a place: one for each turn of the loop and each return, and how large it is.
-use mathlib.Core.Path.{◌≡◌, refl, sym, ap, ◌∙◌}
-use mathlib.Core.Bool.{Bool, true, false, ◌&&◌}
-use mathlib.Core.List.{List, [], ◌∷◌, ◌++◌, append-nil}
-use Prim.Native.Nat.{ℕ, zero, suc, ◌+◌, ◌-◌, ◌<◌, ◌≤◌}
-use native.Mathlib.Omega.{arith}
-use native.Mathlib.Numerals.{add-one}
-use lib.Dec.{eqb}
-use lib.ListN.{length, get_or, length-append, get_or-append, get_or-eq_default}
-use lib.Seq.{get_or-take, get_or_at}
-use mir.Syntax.{w64}
-use mir.Val.{Fits}
-use borrow.Author.Rules.{rules}
-use borrow.Author.Tests.{lt-ltb, eqb-true, eqb-false}
+use Rattle.std.proofs.Common.{rules, ℕ, zero, suc, ◌+◌, ◌-◌, ◌<◌, ◌≤◌, ◌≡◌, refl, sym, ap, ◌∙◌, Bool, true, false, ◌&&◌, List, [], ◌∷◌, ◌++◌, append-nil, length, take, get_or, length-append, length-take, get_or-take, arith, add-one, eqb, lt-ltb, eqb-true, Fits, w64}
+use borrow.Author.Tests.{eqb-false}
+use lib.ListN.{get_or-append, get_or-eq_default}
+use lib.Seq.{get_or_at}
 use Rattle.definitions.specs.Bounded.{pick}
 use Rattle.definitions.specs.Recordings.{Recording, marked, runs_at}
 use Rattle.definitions.specs.Projection.{run_states, after_last}
@@ -75,26 +66,25 @@ pub record Counted (N c k : ℕ) (states : List ℕ) (here after s : ℕ) : Type
   pub count : here ≡ length (run_states (run_in N c states) s)
   pub next : after ≡ after_last (run_states (run_in N c states) s)
 
--- `state_of_place`, before state 0: no run is counted (`Counted`)
-pub counted_none : (N c k : ℕ) (states : List ℕ) → Countable N c states → Counted N c k states 0 0 0
-counted_none N c k states C = record { within = C.some_state; few = omega arith; count = refl; next = refl }
-
 module _ (N c k : ℕ) (states : List ℕ) (C : Countable N c states) (here after s : ℕ) (so : Counted N c k states here after s) where
-  module _ (h : s < N - 1) (ran : Bool) (is : ran ≡ marked c (get_or states s 0)) where
+  module _ (h : s < length (take (N - 1) states)) (ran : Bool) (is : ran ≡ marked c (get_or (take (N - 1) states) s 0)) where
+    low : s < N - 1
+    low = omega (arith, length-take (N - 1) states)
+
     run_is : ran ≡ run_in N c states s
-    run_is = rw (lt-ltb (suc s) N (omega arith)) (is ∙ ap (marked c) (sym (get_or-take N states s 0 (omega arith))))
+    run_is = rw (lt-ltb (suc s) N (omega (arith, low))) (is ∙ ap (marked c) (get_or-take (N - 1) states s 0 low ∙ sym (get_or-take N states s 0 (omega (arith, low)))))
 
     counted_idle : ran ≡ false → Counted N c k states here after (s + 1)
     counted_idle z =
         let e : run_states (run_in N c states) (s + 1) ≡ run_states (run_in N c states) s = runs_off (run_in N c states) s (sym run_is ∙ z) in
-        record { within = omega arith; few = so.few; count = so.count ∙ ap length (sym e); next = so.next ∙ ap after_last (sym e) }
+        record { within = omega (arith, low); few = so.few; count = so.count ∙ ap length (sym e); next = so.next ∙ ap after_last (sym e) }
 
     one_more_lem : ran ≡ true → run_states (run_in N c states) (s + 1) ≡ run_states (run_in N c states) s ++ (s ∷ [])
     one_more_lem z = runs_on (run_in N c states) s (sym run_is ∙ z)
 
     counted_run : ran ≡ true → (here ≡ k → ⊥) → Counted N c k states (here + 1) (s + 1) (s + 1)
     counted_run z n = record {
-      within = omega arith;
+      within = omega (arith, low);
       few = omega (arith, so.few);
       count = rw (one_more_lem z) (omega (arith, so.count, length-append (run_states (run_in N c states) s) (s ∷ [])));
       next = rw (one_more_lem z) (add-one s ∙ sym (after_snoc (run_states (run_in N c states) s) s));
@@ -120,19 +110,19 @@ module _ (N c k : ℕ) (states : List ℕ) (C : Countable N c states) (here afte
         let d : ℕ = after_last (run_states run N) in
         let more : length (run_states run (s + 1)) ≡ length (run_states run s) + 1 = ap length (one_more_lem z) ∙ length-append (run_states run s) (s ∷ []) in
         let at : get_or (run_states run (s + 1)) k d ≡ s = rw (one_more_lem z) (get_or_at (run_states run s) s [] d k (sym so.count ∙ e)) in
-        sym (runs_kept run k d (s + 1) N (omega arith) (omega (arith, so.count)) ∙ at)
+        sym (runs_kept run k d (s + 1) N (omega (arith, low)) (omega (arith, so.count)) ∙ at)
 
     pub counted_fits : Fits w64 (here + 1)
     counted_fits = record { fits = omega (arith, so.count, few_runs (run_in N c states) s, C.few_states) }
 
   -- place k is the one after all runs
   -- `state_of_place`, no run is place k: the state after the last run is `state_of_place`
-  pub place_last : N - 1 ≤ s → after ≡ state_of_place (states_only N states) c k
+  pub place_last : length (take (N - 1) states) ≤ s → after ≡ state_of_place (states_only N states) c k
   unfolding state_of_place
   place_last h =
       let run : ℕ → Bool = run_in N c states in
-      let e : s ≡ N - 1 = omega (arith, so.within) in
+      let e : s ≡ N - 1 = omega (arith, so.within, C.all_there, length-take (N - 1) states) in
       let whole : run_states run N ≡ run_states run s = last_adds_none (states_only N states) c C.some_state ∙ ap (λ (x : ℕ). run_states run x) (sym e) in
       rw whole (so.next ∙ sym (get_or-eq_default (run_states run s) (after_last (run_states run s)) {n = k} (omega (arith, so.few, so.count))))
 
-pub ruleset state_laws = (rules, counted_none, counted_next, counted_fits, place_run, place_last)
+pub ruleset state_laws = (rules, counted_next, counted_fits, place_run, place_last)

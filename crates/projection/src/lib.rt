@@ -6,45 +6,30 @@ pub mod pass;
 pub mod place_state;
 pub mod places;
 
-ghost use Rattle.definitions.specs.Recordings.{recording_of};
+ghost use Rattle.recordings.specs.Heading.{recording_in};
 ghost use Rattle.projection.specs.Answers.{ProjectIs};
 
-use lent::clear_u32;
+use lent::clear;
 use places::project_counted;
-use recordings::check::joined_refusal;
+use recordings::check::check_joined;
+use recordings::heading::Recording;
 use recordings::masks::mask_at;
-use rules::choice::{or_else, pick, pick_index};
-use rules::limits::{Limits, Refusal};
+use rules::limits::Limits;
+use rules::refusal::Refusal;
 
-#[derive(Clone, Copy)]
-pub enum Projection {
-    Places(usize),
-    Refused(u8),
-}
-
-// 13 leaves the lent places alone, another refusal zeroes them.
-pub fn project(
-    controllers: usize,
-    count: usize,
-    masks: &[u32],
-    states: &[u64],
-    c: usize,
-    places: &mut [u32],
-) -> Projection
-    ensures { ProjectIs (recording_of controllers count masks.now states.now) c places.old result places.new }
+// 13 leaves the lent places alone, another refusal zeroes them; else the answer is the local length.
+pub fn project(recording: Recording<'_>, c: usize, places: &mut [u32]) -> Result<usize, Refusal>
+    ensures { ProjectIs (recording_in recording.entry) c places.old result places.new }
 {
-    let short = pick(
-        places.len() < Limits::STATES,
-        Refusal::LENT_SHORT,
-        Refusal::NONE,
-    );
-    let refusal = or_else(short, joined_refusal(controllers, count, masks, states, c));
-    if refusal != Refusal::NONE {
-        let zeroed = pick_index(refusal == Refusal::LENT_SHORT, 0, Limits::STATES);
-        clear_u32(places, 0, zeroed);
-        return Projection::Refused(refusal);
+    if places.len() < Limits::STATES {
+        return Err(Refusal::LentShort);
     }
-    let length = project_counted(count, mask_at(masks, c), c, states, places);
-    clear_u32(places, length, Limits::STATES);
-    Projection::Places(length)
+    if let Err(refusal) = check_joined(recording, c) {
+        clear(places, 0, Limits::STATES);
+        return Err(refusal);
+    }
+    let mask = mask_at(recording.masks, c);
+    let length = project_counted(recording.count, mask, c, recording.states, places);
+    clear(places, length, Limits::STATES);
+    Ok(length)
 }

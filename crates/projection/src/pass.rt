@@ -8,7 +8,7 @@ ghost use Rattle.projection.specs.Places.{Projectable};
 
 use recordings::state::{atoms_of, marked};
 use rows::Row;
-use rules::choice::{pick_index, pick_word};
+use rules::choice::pick;
 
 // What is held beside the lent places: the run marks of all states but the last, how many places stand before the last place, the word
 // of the last place, and the state taken last. Whether that one is a run is told by the next.
@@ -42,11 +42,10 @@ impl Pass {
         let ran = marked(c, self.last);
         let at = self.placed;
         places[at] = atoms_of(self.last);
-        let marks = self.run;
         Pass {
-            run: marks.push(ran),
-            placed: pick_index(ran, at + 1, at),
-            own: pick_word(ran, atoms_of(state) & mask, self.own),
+            run: self.run.push(ran),
+            placed: pick(ran, at + 1, at),
+            own: pick(ran, atoms_of(state) & mask, self.own),
             last: state,
         }
     }
@@ -56,8 +55,7 @@ impl Pass {
         requires { self.placed < length places.old }
         ensures { Closed self places.old places.new }
     {
-        let at = self.placed;
-        places[at] = self.own;
+        places[self.placed] = self.own;
     }
 
     // "one more than the number of run marks of that controller": they form a row, whose ones are counted.
@@ -65,8 +63,7 @@ impl Pass {
         requires { Whole self.run }
         ensures { Counted self result }
     {
-        let marks = self.run;
-        marks.total() as usize + 1
+        self.run.total() as usize + 1
     }
 }
 
@@ -76,9 +73,8 @@ pub fn pass_over(count: usize, mask: u32, c: usize, states: &[u64], places: &mut
     ensures { Passed count mask c states.now places.old result places.new }
 {
     let mut held = Pass::begin(mask, states[0]);
-    for k in 1..count {
-        let next = held.take(c, mask, states[k], places);
-        held = next;
+    for state in &states[1..count] {
+        held = held.take(c, mask, *state, places);
     }
     held
 }

@@ -13,15 +13,16 @@ use Rattle.theorems.proofs.SplitLaws.{Without}
 use Rattle.theorems.proofs.EndingLaws.{plain_same}
 use Rattle.theorems.proofs.ArchiveRoundTrips as theorem
 use Rattle.archives.specs.Converting.{text_answer, ToArchive, FromArchive}
-use Rattle.archives.specs.declared.TextWritten.{TextWritten}
-use Rattle.archives.specs.declared.TextWritten.TheVariants.{Length, Refused}
+use Rattle.std.specs.Prelude.{Ok, Err}
+use Rattle.rules.proofs.RefusalLaws.{number_some}
+use Rattle.ragyvosin.specs.Results.{TextWritten}
 
 -- an accepted answer: its number is 0, and its value the length of the text
 record Answered (number n : ℕ) (text : List ℕ) : Type 0 where
   fine : number ≡ 0
   long : n ≡ length text
 
-accepted_is : (number n : ℕ) (text : List ℕ) → text_answer (Length n) ≡ answer number (length text ∷ []) → Answered number n text
+accepted_is : (number n : ℕ) (text : List ℕ) → text_answer (Ok n) ≡ answer number (length text ∷ []) → Answered number n text
 unfolding answer pick
 accepted_is number n text e =
     let z : 0 ≡ number = ap (λ (x : Answer). x.number) e in
@@ -32,21 +33,21 @@ accepted_is number n text e =
 empty_cons : {P : Type 0} (x : ℕ) (l : List ℕ) → [] ≡ x ∷ l → P
 empty_cons x l e = let z : ◌≡◌ {A = ℕ} 0 1 = cc in absurd (omega arith)
 
-is_length : (w : TextWritten) (n : ℕ) → text_answer w ≡ answer 0 (n ∷ []) → w ≡ Length n
+is_length : (w : TextWritten) (n : ℕ) → text_answer w ≡ answer 0 (n ∷ []) → w ≡ Ok n
 unfolding answer pick
-is_length (Length m) n e =
+is_length (Ok m) n e =
     let v : m ∷ [] ≡ n ∷ [] = ap (λ (x : Answer). x.values) e in
     let q : m ≡ n = cc in
-    ap Length q
-is_length (Refused k) n e = empty_cons n [] (ap (λ (x : Answer). x.values) e)
+    ap Ok q
+is_length (Err refusal) n e = absurd (number_some refusal (ap (λ (x : Answer). x.number) e))
 
 -- a text is handed back: its length is answered, lent space holds it, then zeros, then what was lent past its full size
 pub record TextBack (text buffer : List ℕ) (w : TextWritten) (buffer' : List ℕ) : Type 0 where
-  pub length_is : w ≡ Length (length text)
+  pub length_is : w ≡ Ok (length text)
   pub holds : buffer' ≡ text ++ (replicate (max_archive_bytes - length text) 0 ++ drop max_archive_bytes buffer)
 
 -- "the inverse gives the recording text back": the archive text that was left, restored
-pub recording_back : (text archive archive' buffer buffer' : List ℕ) (n : ℕ) (w : TextWritten) → ToArchive text archive (Length n) archive'
+pub recording_back : (text archive archive' buffer buffer' : List ℕ) (n : ℕ) (w : TextWritten) → ToArchive text archive (Ok n) archive'
     → max_archive_bytes ≤ length buffer → FromArchive (take n archive') buffer w buffer' → TextBack (with_newlines text) buffer w buffer'
 unfolding to_archive_answer
 recording_back text archive archive' buffer buffer' n w a h b =
@@ -59,13 +60,13 @@ recording_back text archive archive' buffer buffer' n w a h b =
     }
 
 -- "byte for byte", where the recording text has no byte 13
-pub plain_recording_back : (text archive archive' buffer buffer' : List ℕ) (n : ℕ) (w : TextWritten) → Without carriage_return text → ToArchive text archive (Length n) archive'
+pub plain_recording_back : (text archive archive' buffer buffer' : List ℕ) (n : ℕ) (w : TextWritten) → Without carriage_return text → ToArchive text archive (Ok n) archive'
     → max_archive_bytes ≤ length buffer → FromArchive (take n archive') buffer w buffer' → TextBack text buffer w buffer'
 plain_recording_back text archive archive' buffer buffer' n w p a h b =
     subst (λ (t : List ℕ). TextBack t buffer w buffer') (plain_same text p) (recording_back text archive archive' buffer buffer' n w a h b)
 
 -- and the other composition: the recording text that was left, archived
-pub archive_back : (text archive archive' buffer buffer' : List ℕ) (n : ℕ) (w : TextWritten) → FromArchive text archive (Length n) archive'
+pub archive_back : (text archive archive' buffer buffer' : List ℕ) (n : ℕ) (w : TextWritten) → FromArchive text archive (Ok n) archive'
     → max_archive_bytes ≤ length buffer → ToArchive (take n archive') buffer w buffer' → TextBack (with_newlines text) buffer w buffer'
 unfolding from_archive_answer
 archive_back text archive archive' buffer buffer' n w a h b =
@@ -77,7 +78,7 @@ archive_back text archive archive' buffer buffer' n w a h b =
       holds = b.archive_left ∙ (ap (λ (x : List ℕ). to_archive_text x buffer) t ∙ l.holds);
     }
 
-pub plain_archive_back : (text archive archive' buffer buffer' : List ℕ) (n : ℕ) (w : TextWritten) → Without carriage_return text → FromArchive text archive (Length n) archive'
+pub plain_archive_back : (text archive archive' buffer buffer' : List ℕ) (n : ℕ) (w : TextWritten) → Without carriage_return text → FromArchive text archive (Ok n) archive'
     → max_archive_bytes ≤ length buffer → ToArchive (take n archive') buffer w buffer' → TextBack text buffer w buffer'
 plain_archive_back text archive archive' buffer buffer' n w p a h b =
     subst (λ (t : List ℕ). TextBack t buffer w buffer') (plain_same text p) (archive_back text archive archive' buffer buffer' n w a h b)

@@ -14,16 +14,15 @@ use Rattle.theorems.proofs.EvidencePromise.{promise_longer}
 use Rattle.theorems.proofs.EvidenceJudged.{nodes_some, places_some}
 use Rattle.theorems.proofs.EarlyJudged.{announced_stays}
 use Rattle.judges.specs.Verdicts.{meant}
-use Rattle.judges.specs.declared.verdicts.Judgement.{Judgement}
-use Rattle.judges.specs.declared.verdicts.Judgement.TheVariants.{Judged, Refused}
-use Rattle.evidence.specs.declared.Explanation.{Explanation}
+use Rattle.std.specs.Prelude.{Ok, Err}
+use Rattle.ragyvosin.specs.Results.{Judgement, Explanation}
 use Rattle.ragyvosin.proofs.SameVerdicts.{JudgedWhole, JudgedLocally, own_verdicts, judged_is, judged_whole_lem, judged_locally_lem}
 use Rattle.ragyvosin.proofs.SameEvidence.{Explained, count_by, BitsAt, bits_of, own_verdict, Gets, gets}
 
 -- a judge answered verdicts that may be announced: a strong yes or a weak no
 abbrev pub may_announce : Judgement → Bool
-may_announce (Judged v) = announced (meant v)
-may_announce (Refused number) = false
+may_announce (Ok v) = announced (meant v)
+may_announce (Err refusal) = false
 
 -- what a judge answered is what every call answers over another recording
 pub record StaysOver (answered local_b plain_b short_b : Judgement) : Type 0 where
@@ -40,7 +39,7 @@ pub announced_verdicts_stay : (r : Rule) (A B : Recording) → Accepted r A → 
     StaysOver answered local_b plain_b short_b
 announced_verdicts_stay r A B good_a good_b b answered a may local_b plain_b short_b l p s =
     let own = own_verdicts r (mask_of A r.controller) (local_trace A r.controller) in
-    let is : answered ≡ Judged own = judged_locally_lem r A answered good_a a in
+    let is : answered ≡ Ok own = judged_locally_lem r A answered good_a a in
     let same = announced_stays r A B good_a good_b b (sym (ap may_announce is) ∙ may) ∙ local_judging r A good_a in
     let other : (v : Judgement) → JudgedLocally r B v → v ≡ answered = λ v e. judged_is v own (e ∙ same) ∙ sym is in
     record {

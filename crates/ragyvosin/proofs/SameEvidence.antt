@@ -20,10 +20,9 @@ use Rattle.theorems.proofs.EvidencePairs.{each_word}
 use Rattle.theorems.proofs.EvidencePromise.{SameBit, SameBits}
 use Rattle.theorems.proofs.EvidenceJudged.{pairs_low, trace_promise}
 use Rattle.judges.specs.declared.verdicts.Verdicts.{Verdicts}
-use Rattle.judges.specs.declared.verdicts.Judgement.{Judgement}
-use Rattle.judges.specs.declared.verdicts.Judgement.TheVariants.{Judged}
-use Rattle.evidence.specs.Answers.{answer_of as explained}
-use Rattle.evidence.specs.declared.Explanation.{Explanation}
+use Rattle.std.specs.Prelude.{Ok}
+use Rattle.ragyvosin.specs.Results.{Judgement, Explanation}
+use Rattle.evidence.specs.Answers.{pairs_answer as explained}
 use Rattle.ragyvosin.proofs.SameVerdicts.{JudgedWhole, JudgedLocally, own_verdicts, judged_whole_lem, judged_locally_lem}
 
 -- the readings behind a verdict, by one call in lent space of full size, with what the contract of `evidence` says of its answer e and of the pairs
@@ -58,7 +57,7 @@ chosen_of false v = v.strong
 -- a judge answered verdicts, and the chosen one is `value`
 pub record Gets (weak value : Bool) (j : Judgement) : Type 0 where
   pub verdicts : Verdicts
-  pub judged : j ≡ Judged verdicts
+  pub judged : j ≡ Ok verdicts
   pub chosen : chosen_of weak verdicts ≡ value
 
 -- the chosen verdict, by every call

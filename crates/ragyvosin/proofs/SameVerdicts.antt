@@ -3,7 +3,6 @@ use mathlib.Core.Path.{◌≡◌, sym, ap, ap₂, ◌∙◌}
 use mathlib.Core.Bool.{Bool, true, false}
 use mathlib.Core.List.{List, [], ◌∷◌}
 use Prim.Native.Nat.{ℕ, ◌-◌, ◌≤◌}
-use native.Mathlib.Omega.{arith}
 use lib.ListN.{length, get_or}
 use Rattle.definitions.specs.Limits.{accepted, max_table_nodes, max_row_words}
 use Rattle.definitions.specs.Bounded.{pick, bit}
@@ -16,10 +15,10 @@ use Rattle.theorems.proofs.Choice.{bit_injective}
 use Rattle.theorems.proofs.ScheduleIndependence.{Accepted, rewritten_judging, local_judging, local_judging_same}
 use Rattle.judges.specs.Verdicts.{answer_of as judged}
 use Rattle.judges.specs.declared.verdicts.Verdicts.{Verdicts}
-use Rattle.judges.specs.declared.verdicts.Judgement.{Judgement}
-use Rattle.judges.specs.declared.verdicts.Judgement.TheVariants.{Judged, Refused}
-use Rattle.rewriting.specs.Answers.{answer_of as rewritten}
-use Rattle.rewriting.specs.declared.Rewriting.{Rewriting}
+use Rattle.std.specs.Prelude.{Ok, Err}
+use Rattle.rules.proofs.RefusalLaws.{number_some}
+use Rattle.ragyvosin.specs.Results.{Judgement, Rewriting}
+use Rattle.ragyvosin.specs.Results.{rewritten}
 
 -- "the table, count and tops that a rewriting answered"
 abbrev pub table_by : Rewriting → List ℕ → Table
@@ -44,12 +43,12 @@ JudgedLocally r R v = judged v ≡ judge_local_answer r R
 
 -- the two verdicts, by every call
 pub record SameVerdicts (verdicts : Verdicts) (plain_r short_r plain_s short_s local_r local_s : Judgement) : Type 0 where
-  pub plain_over_first : plain_r ≡ Judged verdicts
-  pub short_over_first : short_r ≡ Judged verdicts
-  pub plain_over_second : plain_s ≡ Judged verdicts
-  pub short_over_second : short_s ≡ Judged verdicts
-  pub local_of_first : local_r ≡ Judged verdicts
-  pub local_of_second : local_s ≡ Judged verdicts
+  pub plain_over_first : plain_r ≡ Ok verdicts
+  pub short_over_first : short_r ≡ Ok verdicts
+  pub plain_over_second : plain_s ≡ Ok verdicts
+  pub short_over_second : short_s ≡ Ok verdicts
+  pub local_of_first : local_r ≡ Ok verdicts
+  pub local_of_second : local_s ≡ Ok verdicts
 
 -- the verdicts of a rule itself on a local trace, for a mask of own atoms
 abbrev pub own_verdicts : Rule → ℕ → List ℕ → Verdicts
@@ -59,15 +58,13 @@ own_verdicts r mask places = record {
 }
 
 -- ---- an answer of two verdicts is the case of them
-pub judged_is : (v : Judgement) (u : Verdicts) → judged v ≡ answer accepted (bit u.weak ∷ bit u.strong ∷ []) → v ≡ Judged u
-unfolding judged answer pick
-judged_is (Judged v) u e =
-    ap Judged (ap₂ (λ (weak strong : Bool). record { weak = weak; strong = strong })
+pub judged_is : (v : Judgement) (u : Verdicts) → judged v ≡ answer accepted (bit u.weak ∷ bit u.strong ∷ []) → v ≡ Ok u
+unfolding answer pick
+judged_is (Ok v) u e =
+    ap Ok (ap₂ (λ (weak strong : Bool). record { weak = weak; strong = strong })
     (bit_injective v.weak u.weak (ap (λ (a : Answer). get_or a.values 0 0) e))
     (bit_injective v.strong u.strong (ap (λ (a : Answer). get_or a.values 1 0) e)))
-judged_is (Refused number) u e =
-    let none : number ≡ 0 = ap (λ (a : Answer). a.number) e in
-    absurd (omega (arith, ap (λ (a : Answer). length a.values) (rw none at e)))
+judged_is (Err refusal) u e = absurd (number_some refusal (ap (λ (a : Answer). a.number) e))
 
 -- ---- judging over the whole recording answers what judging on the local trace answers
 pub judged_whole_lem : (short : Bool) (r : Rule) (R : Recording) (v : Judgement) → Accepted r R → JudgedWhole short r R v → JudgedLocally r R v
@@ -75,7 +72,7 @@ judged_whole_lem short r R v A j =
     rw (j.rewrites, j.tables) at j.judges ∙ rewritten_judging short r R j.table j.rows A j.full_table j.full_rows
 
 pub judged_locally_lem : (r : Rule) (R : Recording) (v : Judgement) → Accepted r R → JudgedLocally r R v →
-    v ≡ Judged (own_verdicts r (mask_of R r.controller) (local_trace R r.controller))
+    v ≡ Ok (own_verdicts r (mask_of R r.controller) (local_trace R r.controller))
 judged_locally_lem r R v A e = judged_is v (own_verdicts r (mask_of R r.controller) (local_trace R r.controller)) (e ∙ local_judging r R A)
 
 -- Take any accepted rule and any two accepted recordings R and S that both have its controller, with the same local trace and the same mask of own

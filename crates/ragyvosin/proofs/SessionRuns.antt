@@ -21,13 +21,10 @@ use Rattle.theorems.proofs.SessionCalls.{arrival_unlent, withdrawal_unlent, repl
 use Rattle.theorems.proofs.SessionVerdicts.{in_force, remaining, remaining_recording, Running, the_rack_as_it_runs}
 use Rattle.theorems.proofs.MadeSessions.{replaced_from_there}
 use Rattle.theorems.proofs.SessionEarly.{NeverBelow, announced_in_a_session_stays}
-use Rattle.judges.specs.Verdicts.{answer_of as judged}
 use Rattle.judges.specs.declared.verdicts.Verdicts.{Verdicts}
-use Rattle.judges.specs.declared.verdicts.Judgement.{Judgement}
-use Rattle.judges.specs.declared.verdicts.Judgement.TheVariants as judgement
-use Rattle.sessions.specs.Answers.{answer_of as session_judged, says_none}
-use Rattle.sessions.specs.declared.query.SessionVerdicts.{SessionVerdicts}
-use Rattle.sessions.specs.declared.query.SessionVerdicts.TheVariants.{NoState, Judged, Refused}
+use Rattle.std.specs.Prelude.{Some, None, Ok, Err}
+use Rattle.ragyvosin.specs.Results.{Judgement, SessionVerdicts}
+use Rattle.sessions.specs.Answers.{session_answer as session_judged, says_none}
 use Rattle.ragyvosin.proofs.SameVerdicts.{JudgedWhole, JudgedLocally, own_verdicts, judged_is, judged_whole_lem, judged_locally_lem}
 
 -- ---- a call of the face in the space h leaves the space g: what its contract says of each place that it is lent; it is lent no other
@@ -98,35 +95,33 @@ pub record Queried (g : Space) (v : SessionVerdicts) : Type 0 where
 
 -- the case of a judge's answer
 abbrev same_case : Judgement → SessionVerdicts
-same_case (judgement.Judged v) = Judged v
-same_case (judgement.Refused number) = Refused number
+same_case (Ok v) = Ok (Some v)
+same_case (Err number) = Err number
 
-none_is : (v : SessionVerdicts) → says_none v ≡ true → v ≡ NoState
-unfolding says_none
-none_is NoState e = refl
-none_is (Judged u) e = absurd (true≢false (sym e))
-none_is (Refused number) e = absurd (true≢false (sym e))
+none_is : (v : SessionVerdicts) → says_none v ≡ true → v ≡ Ok None
+none_is (Ok None) e = refl
+none_is (Ok (Some u)) e = absurd (true≢false (sym e))
+none_is (Err number) e = absurd (true≢false (sym e))
 
 -- an answer of two verdicts is the case of them
-judged_case : (v : SessionVerdicts) (u : Verdicts) → says_none v ≡ false → session_judged v ≡ answer accepted (bit u.weak ∷ bit u.strong ∷ []) → v ≡ Judged u
-unfolding says_none session_judged judged
-judged_case NoState u n e = absurd (true≢false n)
-judged_case (Judged w) u n e = ap same_case (judged_is (judgement.Judged w) u e)
-judged_case (Refused number) u n e = ap same_case (judged_is (judgement.Refused number) u e)
+judged_case : (v : SessionVerdicts) (u : Verdicts) → says_none v ≡ false → session_judged v ≡ answer accepted (bit u.weak ∷ bit u.strong ∷ []) → v ≡ Ok (Some u)
+judged_case (Ok None) u n e = absurd (true≢false n)
+judged_case (Ok (Some w)) u n e = ap same_case (judged_is (Ok w) u e)
+judged_case (Err number) u n e = ap same_case (judged_is (Err number) u e)
 
 -- ---- "After every list of arrivals and withdrawals from an empty session, refused ones included, both verdicts equal those of judging the remaining
 -- states from the start": on the local trace, plain and short, and by the rule in force where new rules are among them. "An empty session has no verdict,
 -- and its answer says so"
 pub record AsFromTheStart (r : Rule) (R : Recording) (v : SessionVerdicts) : Type 0 where
   pub accepted : Accepted r R
-  pub session : v ≡ Judged (own_verdicts r (mask_of R r.controller) (local_trace R r.controller))
-  pub locally : (j : Judgement) → JudgedLocally r R j → j ≡ judgement.Judged (own_verdicts r (mask_of R r.controller) (local_trace R r.controller))
-  pub plain : (j : Judgement) → JudgedWhole false r R j → j ≡ judgement.Judged (own_verdicts r (mask_of R r.controller) (local_trace R r.controller))
-  pub short : (j : Judgement) → JudgedWhole true r R j → j ≡ judgement.Judged (own_verdicts r (mask_of R r.controller) (local_trace R r.controller))
+  pub session : v ≡ Ok (Some (own_verdicts r (mask_of R r.controller) (local_trace R r.controller)))
+  pub locally : (j : Judgement) → JudgedLocally r R j → j ≡ Ok (own_verdicts r (mask_of R r.controller) (local_trace R r.controller))
+  pub plain : (j : Judgement) → JudgedWhole false r R j → j ≡ Ok (own_verdicts r (mask_of R r.controller) (local_trace R r.controller))
+  pub short : (j : Judgement) → JudgedWhole true r R j → j ≡ Ok (own_verdicts r (mask_of R r.controller) (local_trace R r.controller))
 
 pub record RunsOn (C : ℕ) (masks : List ℕ) (r : Rule) (cs : List Call) (v : SessionVerdicts) : Type 0 where
   pub some : 0 < length (remaining C masks r cs) → AsFromTheStart (in_force C r cs) (remaining_recording C masks r cs) v
-  pub none : length (remaining C masks r cs) ≡ 0 → v ≡ NoState
+  pub none : length (remaining C masks r cs) ≡ 0 → v ≡ Ok None
 
 pub runs_as_from_the_start : (C : ℕ) (masks : List ℕ) (r : Rule) (h g : Space) → open_number C masks r h ≡ 0 → (cs : List Call) → Unopened cs →
     CalledAll (Open C masks r ∷ cs) h g → (v : SessionVerdicts) → Queried g v → RunsOn C masks r cs v

@@ -14,32 +14,28 @@ ghost use Rattle.definitions.specs.Operations.{evidence_answer, evidence_pairs, 
 ghost use Rattle.definitions.specs.Operations.{to_archive_answer, to_archive_text, from_archive_answer, from_archive_text};
 ghost use Rattle.definitions.specs.OneLine.{read_line_answer, read_line_nodes};
 ghost use Rattle.definitions.specs.Sessions.{lent_space, open_number, arrive_number, withdraw_number, replace_number, leaves, Open, Arrive, Withdraw, Replace, verdicts_answer};
+ghost use Rattle.rules.specs.Refusals.{refusal_in};
 ghost use Rattle.rule_reader.specs.Reading.{read_answer as rule_read};
 ghost use Rattle.rule_writer.specs.Writing.{write_answer as rule_written};
 ghost use Rattle.recording_reader.specs.Reading.{read_answer as recording_read};
 ghost use Rattle.projection.specs.Answers.{answer_of as projected};
 ghost use Rattle.judges.specs.Verdicts.{answer_of as judged};
-ghost use Rattle.sessions.specs.Answers.{answer_of as session_judged, says_none};
-ghost use Rattle.evidence.specs.Answers.{answer_of as explained};
-ghost use Rattle.rewriting.specs.Answers.{answer_of as rewritten};
+ghost use Rattle.sessions.specs.Answers.{session_answer as session_judged, says_none};
+ghost use Rattle.evidence.specs.Answers.{pairs_answer as explained};
+ghost use Rattle.ragyvosin.specs.Results.{rewritten};
 ghost use Rattle.archives.specs.Converting.{text_answer as text_written};
 ghost use Rattle.ragyvosin.specs.Parts.{place_in, bytes_in};
 
-pub use archives::TextWritten;
-pub use evidence::Explanation;
-pub use judges::verdicts::{Judgement, Verdicts};
-pub use projection::Projection;
-pub use recording_reader::RecordingRead;
-use recordings::heading::RecordingHeading;
-pub use rewriting::Rewriting;
-pub use rule_reader::RuleRead;
-pub use rule_writer::RuleWritten;
-use rules::headings::{RuleHeading, TableHeading};
-use sessions::opening::Opening;
-pub use sessions::query::SessionVerdicts;
+pub use images::Tops;
+pub use judges::verdicts::Verdicts;
+use recordings::heading::Recording;
+pub use recordings::heading::RecordingHeading;
+pub use rules::refusal::Refusal;
+pub use rules::rule::RuleHeading;
+use rules::rule::{Rule, Table};
 
 // "read a rule (controller, count, nodes)"
-pub fn read_rule(text: &[u8], nodes: &mut [u32]) -> RuleRead
+pub fn read_rule(text: &[u8], nodes: &mut [u32]) -> Result<RuleHeading, Refusal>
     ensures result_value { rule_read result ≡ read_rule_answer text.now nodes.old }
     ensures nodes_after { nodes.new ≡ read_rule_nodes text.now nodes.old }
 {
@@ -47,7 +43,7 @@ pub fn read_rule(text: &[u8], nodes: &mut [u32]) -> RuleRead
 }
 
 // "Rules in one line": "the controller is given beside the line"; answers as reading a rule does
-pub fn read_line(controller: usize, line: &[u8], nodes: &mut [u32]) -> RuleRead
+pub fn read_line(controller: usize, line: &[u8], nodes: &mut [u32]) -> Result<RuleHeading, Refusal>
     ensures result_value { rule_read result ≡ read_line_answer controller line.now nodes.old }
     ensures nodes_after { nodes.new ≡ read_line_nodes controller line.now nodes.old }
 {
@@ -55,15 +51,29 @@ pub fn read_line(controller: usize, line: &[u8], nodes: &mut [u32]) -> RuleRead
 }
 
 // "write one (length, text)"
-pub fn write_rule(controller: usize, count: usize, nodes: &[u32], text: &mut [u8]) -> RuleWritten
+pub fn write_rule(
+    controller: usize,
+    count: usize,
+    nodes: &[u32],
+    text: &mut [u8],
+) -> Result<usize, Refusal>
     ensures result_value { rule_written result ≡ write_rule_answer (rule_of controller count nodes.now) text.old }
     ensures text_after { text.new ≡ write_rule_text (rule_of controller count nodes.now) text.old }
 {
-    rule_writer::write_rule(controller, count, nodes, text)
+    let rule = Rule {
+        controller,
+        count,
+        nodes,
+    };
+    rule_writer::write_rule(rule, text)
 }
 
 // "read a recording (C, N, masks, states)"
-pub fn read_recording(text: &[u8], masks: &mut [u32], states: &mut [u64]) -> RecordingRead
+pub fn read_recording(
+    text: &[u8],
+    masks: &mut [u32],
+    states: &mut [u64],
+) -> Result<RecordingHeading, Refusal>
     ensures result_value { recording_read result ≡ read_recording_answer text.now masks.old states.old }
     ensures masks_after { masks.new ≡ read_recording_masks text.now masks.old states.old }
     ensures states_after { states.new ≡ read_recording_states text.now masks.old states.old }
@@ -98,11 +108,17 @@ pub fn project(
     states: &[u64],
     c: usize,
     places: &mut [u32],
-) -> Projection
+) -> Result<usize, Refusal>
     ensures result_value { projected result ≡ project_answer (recording_of controllers count masks.now states.now) c places.old }
     ensures places_after { places.new ≡ project_places (recording_of controllers count masks.now states.now) c places.old }
 {
-    projection::project(controllers, count, masks, states, c, places)
+    let recording = Recording {
+        controllers,
+        count,
+        masks,
+        states,
+    };
+    projection::project(recording, c, places)
 }
 
 // "judge a rule on its local trace (rule and recording, for the rule's controller)": weak and strong verdict
@@ -114,18 +130,21 @@ pub fn judge_local(
     states_count: usize,
     masks: &[u32],
     states: &[u64],
-) -> Judgement
+) -> Result<Verdicts, Refusal>
     ensures { judged result ≡ judge_local_answer (rule_of controller count nodes.now) (recording_of controllers states_count masks.now states.now) }
 {
-    judges::local::judge_local(
+    let rule = Rule {
         controller,
         count,
         nodes,
+    };
+    let recording = Recording {
         controllers,
-        states_count,
+        count: states_count,
         masks,
         states,
-    )
+    };
+    judges::local::judge_local(rule, recording)
 }
 
 // "the readings .. that decide the weak or the strong verdict, as chosen": how many pairs of a node and a place, and the pairs
@@ -139,19 +158,22 @@ pub fn evidence(
     states: &[u64],
     weak: bool,
     pairs: &mut [u32],
-) -> Explanation
+) -> Result<usize, Refusal>
     ensures result_value { explained result ≡ evidence_answer (rule_of controller count nodes.now) (recording_of controllers states_count masks.now states.now) weak pairs.old }
     ensures pairs_after { pairs.new ≡ evidence_pairs (rule_of controller count nodes.now) (recording_of controllers states_count masks.now states.now) weak pairs.old }
 {
-    let rule = RuleHeading {
-        controller: controller,
-        count: count,
+    let rule = Rule {
+        controller,
+        count,
+        nodes,
     };
-    let recording = RecordingHeading {
-        controllers: controllers,
+    let recording = Recording {
+        controllers,
         count: states_count,
+        masks,
+        states,
     };
-    evidence::evidence(rule, nodes, recording, masks, states, weak, pairs)
+    evidence::evidence(rule, recording, weak, pairs)
 }
 
 // "rewrite plain or short (rule and own mask, any 32 bits)": "node count and both tops", and the table
@@ -161,11 +183,16 @@ pub fn rewrite_plain(
     nodes: &[u32],
     mask: u32,
     table: &mut [u32],
-) -> Rewriting
+) -> Result<Tops, Refusal>
     ensures result_value { rewritten result ≡ rewrite_answer false (rule_of controller count nodes.now) mask table.old }
     ensures table_after { table.new ≡ rewrite_table false (rule_of controller count nodes.now) mask table.old }
 {
-    rewriting::rewrite_plain(controller, count, nodes, mask, table)
+    let rule = Rule {
+        controller,
+        count,
+        nodes,
+    };
+    rewriting::rewrite_plain(rule, mask, table)
 }
 
 // "The short rewriting"
@@ -175,11 +202,16 @@ pub fn rewrite_short(
     nodes: &[u32],
     mask: u32,
     table: &mut [u32],
-) -> Rewriting
+) -> Result<Tops, Refusal>
     ensures result_value { rewritten result ≡ rewrite_answer true (rule_of controller count nodes.now) mask table.old }
     ensures table_after { table.new ≡ rewrite_table true (rule_of controller count nodes.now) mask table.old }
 {
-    rewriting::rewrite_short(controller, count, nodes, mask, table)
+    let rule = Rule {
+        controller,
+        count,
+        nodes,
+    };
+    rewriting::rewrite_short(rule, mask, table)
 }
 
 // "judge the whole recording": the verdicts at the tops, and "a weak and a strong row for each node"
@@ -194,20 +226,23 @@ pub fn judge_recording(
     states: &[u64],
     c: usize,
     rows: &mut [u64],
-) -> Judgement
+) -> Result<Verdicts, Refusal>
     ensures result_value { judged result ≡ judge_recording_answer (table_of count nodes.now weak_top strong_top) (recording_of controllers states_count masks.now states.now) c rows.old }
     ensures rows_after { rows.new ≡ judge_recording_rows (table_of count nodes.now weak_top strong_top) (recording_of controllers states_count masks.now states.now) c rows.old }
 {
-    let table = TableHeading {
-        count: count,
-        weak_top: weak_top,
-        strong_top: strong_top,
+    let table = Table {
+        count,
+        nodes,
+        weak_top,
+        strong_top,
     };
-    let recording = RecordingHeading {
-        controllers: controllers,
+    let recording = Recording {
+        controllers,
         count: states_count,
+        masks,
+        states,
     };
-    judges::whole::judge_recording(table, nodes, recording, masks, states, c, rows)
+    judges::whole::judge_recording(table, recording, c, rows)
 }
 
 // "A session opens on masks, a rule and its controller": the number; the heading is C, controller, node count, states held
@@ -221,24 +256,29 @@ pub fn open_session(
     masks: &mut [u32],
     nodes: &mut [u32],
     states: &mut [u64],
-) -> u8
-    ensures value { result ≡ open_number controllers owned.now (rule_of controller count rule.now) (lent_space heading.old masks.old nodes.old states.old) }
+) -> Result<(), Refusal>
+    ensures value { refusal_in result ≡ open_number controllers owned.now (rule_of controller count rule.now) (lent_space heading.old masks.old nodes.old states.old) }
     ensures heading_after { heading.new ≡ (leaves (Open controllers owned.now (rule_of controller count rule.now)) (lent_space heading.old masks.old nodes.old states.old)).heading }
     ensures masks_after { masks.new ≡ (leaves (Open controllers owned.now (rule_of controller count rule.now)) (lent_space heading.old masks.old nodes.old states.old)).masks }
     ensures nodes_after { nodes.new ≡ (leaves (Open controllers owned.now (rule_of controller count rule.now)) (lent_space heading.old masks.old nodes.old states.old)).nodes }
     ensures states_after { states.new ≡ (leaves (Open controllers owned.now (rule_of controller count rule.now)) (lent_space heading.old masks.old nodes.old states.old)).states }
 {
-    let opening = Opening {
-        controllers: controllers,
-        controller: controller,
-        count: count,
+    let given = Rule {
+        controller,
+        count,
+        nodes: rule,
     };
-    sessions::opening::open_session(opening, owned, rule, heading, masks, nodes, states)
+    sessions::opening::open_session(controllers, owned, given, heading, masks, nodes, states)
 }
 
 // "Take states as they arrive": the number
-pub fn arrive(state: u64, heading: &mut [usize; 4], masks: &[u32], states: &mut [u64]) -> u8
-    ensures value { result ≡ arrive_number state (lent_space heading.old masks.now [] states.old) }
+pub fn arrive(
+    state: u64,
+    heading: &mut [usize; 4],
+    masks: &[u32],
+    states: &mut [u64],
+) -> Result<(), Refusal>
+    ensures value { refusal_in result ≡ arrive_number state (lent_space heading.old masks.now [] states.old) }
     ensures heading_after { heading.new ≡ (leaves (Arrive state) (lent_space heading.old masks.now [] states.old)).heading }
     ensures states_after { states.new ≡ (leaves (Arrive state) (lent_space heading.old masks.now [] states.old)).states }
 {
@@ -246,8 +286,8 @@ pub fn arrive(state: u64, heading: &mut [usize; 4], masks: &[u32], states: &mut 
 }
 
 // "let the last one be withdrawn": the number
-pub fn withdraw(heading: &mut [usize; 4], states: &mut [u64]) -> u8
-    ensures value { result ≡ withdraw_number (lent_space heading.old [] [] states.old) }
+pub fn withdraw(heading: &mut [usize; 4], states: &mut [u64]) -> Result<(), Refusal>
+    ensures value { refusal_in result ≡ withdraw_number (lent_space heading.old [] [] states.old) }
     ensures heading_after { heading.new ≡ (leaves Withdraw (lent_space heading.old [] [] states.old)).heading }
     ensures states_after { states.new ≡ (leaves Withdraw (lent_space heading.old [] [] states.old)).states }
 {
@@ -261,16 +301,17 @@ pub fn replace_rule(
     rule: &[u32],
     heading: &mut [usize; 4],
     nodes: &mut [u32],
-) -> u8
-    ensures value { result ≡ replace_number (rule_of controller count rule.now) (lent_space heading.old [] nodes.old []) }
+) -> Result<(), Refusal>
+    ensures value { refusal_in result ≡ replace_number (rule_of controller count rule.now) (lent_space heading.old [] nodes.old []) }
     ensures heading_after { heading.new ≡ (leaves (Replace (rule_of controller count rule.now)) (lent_space heading.old [] nodes.old [])).heading }
     ensures nodes_after { nodes.new ≡ (leaves (Replace (rule_of controller count rule.now)) (lent_space heading.old [] nodes.old [])).nodes }
 {
-    let given = RuleHeading {
-        controller: controller,
-        count: count,
+    let given = Rule {
+        controller,
+        count,
+        nodes: rule,
     };
-    sessions::replacement::replace_rule(given, rule, heading, nodes)
+    sessions::replacement::replace_rule(given, heading, nodes)
 }
 
 // "both verdicts" of a session; "An empty session has no verdict, and its answer says so"
@@ -279,7 +320,7 @@ pub fn session_verdicts(
     masks: &[u32],
     nodes: &[u32],
     states: &[u64],
-) -> SessionVerdicts
+) -> Result<Option<Verdicts>, Refusal>
     ensures result_value { session_judged result ≡ verdicts_answer (lent_space heading.now masks.now nodes.now states.now) }
     ensures result_value_2 { says_none result ≡ eqb (get_or heading.now 3 0) 0 }
 {
@@ -287,7 +328,7 @@ pub fn session_verdicts(
 }
 
 // "One line per atom": "Rearrange a recording without gauges"
-pub fn to_archive(text: &[u8], archive: &mut [u8]) -> TextWritten
+pub fn to_archive(text: &[u8], archive: &mut [u8]) -> Result<usize, Refusal>
     ensures result_value { text_written result ≡ to_archive_answer text.now archive.old }
     ensures archive_after { archive.new ≡ to_archive_text text.now archive.old }
 {
@@ -295,7 +336,7 @@ pub fn to_archive(text: &[u8], archive: &mut [u8]) -> TextWritten
 }
 
 // "the inverse"
-pub fn from_archive(archive: &[u8], text: &mut [u8]) -> TextWritten
+pub fn from_archive(archive: &[u8], text: &mut [u8]) -> Result<usize, Refusal>
     ensures result_value { text_written result ≡ from_archive_answer archive.now text.old }
     ensures text_after { text.new ≡ from_archive_text archive.now text.old }
 {

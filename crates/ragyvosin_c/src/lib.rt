@@ -13,8 +13,8 @@ ghost use Rattle.definitions.specs.Sessions.{lent_space, open_number, arrive_num
 ghost use Rattle.c_answers.specs.Values.{heading, part_values, session_values, is_set};
 
 use c_answers::{
-    of_explanation, of_found, of_judgement, of_projection, of_recording_read, of_rewriting,
-    of_rule_read, of_rule_written, of_session_verdicts, of_text_written,
+    number, of_count, of_found, of_judgement, of_recording_read, of_rewriting, of_rule_read,
+    of_session_verdicts,
 };
 use joint_reading::join;
 
@@ -25,10 +25,7 @@ pub extern "C" fn rgv_read_rule(text: &[u8], nodes: &mut [u32], values: &mut [us
     ensures nodes_after { nodes.new ≡ read_rule_nodes text.now nodes.old }
 {
     let answer = ragyvosin::read_rule(text, nodes);
-    let laid = of_rule_read(answer);
-    let laid_values = laid.values;
-    *values = laid_values;
-    laid.number
+    of_rule_read(answer).lay(values)
 }
 
 // Values: controller, node count.
@@ -43,10 +40,7 @@ pub extern "C" fn rgv_read_line(
     ensures nodes_after { nodes.new ≡ read_line_nodes controller line.now nodes.old }
 {
     let answer = ragyvosin::read_line(controller, line, nodes);
-    let laid = of_rule_read(answer);
-    let laid_values = laid.values;
-    *values = laid_values;
-    laid.number
+    of_rule_read(answer).lay(values)
 }
 
 // Value: length.
@@ -62,10 +56,7 @@ pub extern "C" fn rgv_write_rule(
     ensures text_after { text.new ≡ write_rule_text (rule_of controller count nodes.now) text.old }
 {
     let answer = ragyvosin::write_rule(controller, count, nodes, text);
-    let laid = of_rule_written(answer);
-    let laid_values = laid.values;
-    *values = laid_values;
-    laid.number
+    of_count(answer).lay(values)
 }
 
 // Values: C, N.
@@ -81,10 +72,7 @@ pub extern "C" fn rgv_read_recording(
     ensures states_after { states.new ≡ read_recording_states text.now masks.old states.old }
 {
     let answer = ragyvosin::read_recording(text, masks, states);
-    let laid = of_recording_read(answer);
-    let laid_values = laid.values;
-    *values = laid_values;
-    laid.number
+    of_recording_read(answer).lay(values)
 }
 
 // Values: controller, node count, C, N; and of the part handed back: which text it lies in, start, length.
@@ -103,10 +91,7 @@ pub extern "C" fn rgv_read_joint(
     ensures states_after { states.new ≡ read_joint_states rule.now recording.now nodes.old masks.old states.old }
 {
     let found = join(rule, recording, nodes, masks, states);
-    let laid = of_found(found);
-    let laid_values = laid.values;
-    *values = laid_values;
-    laid.number
+    of_found(found).lay(values)
 }
 
 // Value: length of the local trace.
@@ -124,10 +109,7 @@ pub extern "C" fn rgv_project(
     ensures places_after { places.new ≡ project_places (recording_of controllers count masks.now states.now) c places.old }
 {
     let answer = ragyvosin::project(controllers, count, masks, states, c, places);
-    let laid = of_projection(answer);
-    let laid_values = laid.values;
-    *values = laid_values;
-    laid.number
+    of_count(answer).lay(values)
 }
 
 // Values: weak, strong verdict.
@@ -153,10 +135,7 @@ pub extern "C" fn rgv_judge_local(
         masks,
         states,
     );
-    let laid = of_judgement(answer);
-    let laid_values = laid.values;
-    *values = laid_values;
-    laid.number
+    of_judgement(answer).lay(values)
 }
 
 // Value: number of pairs. The weak verdict's where `weak` is not 0.
@@ -187,10 +166,7 @@ pub extern "C" fn rgv_evidence(
         weak != 0,
         pairs,
     );
-    let laid = of_explanation(answer);
-    let laid_values = laid.values;
-    *values = laid_values;
-    laid.number
+    of_count(answer).lay(values)
 }
 
 // Values: node count, weak top, strong top.
@@ -207,10 +183,7 @@ pub extern "C" fn rgv_rewrite_plain(
     ensures table_after { table.new ≡ rewrite_table false (rule_of controller count nodes.now) mask table.old }
 {
     let answer = ragyvosin::rewrite_plain(controller, count, nodes, mask, table);
-    let laid = of_rewriting(answer);
-    let laid_values = laid.values;
-    *values = laid_values;
-    laid.number
+    of_rewriting(answer).lay(values)
 }
 
 // Values: node count, weak top, strong top.
@@ -227,10 +200,7 @@ pub extern "C" fn rgv_rewrite_short(
     ensures table_after { table.new ≡ rewrite_table true (rule_of controller count nodes.now) mask table.old }
 {
     let answer = ragyvosin::rewrite_short(controller, count, nodes, mask, table);
-    let laid = of_rewriting(answer);
-    let laid_values = laid.values;
-    *values = laid_values;
-    laid.number
+    of_rewriting(answer).lay(values)
 }
 
 // Values: weak, strong verdict.
@@ -263,10 +233,7 @@ pub extern "C" fn rgv_judge_recording(
         c,
         rows,
     );
-    let laid = of_judgement(answer);
-    let laid_values = laid.values;
-    *values = laid_values;
-    laid.number
+    of_judgement(answer).lay(values)
 }
 
 // The heading: C, controller, node count, states held.
@@ -288,7 +255,7 @@ pub extern "C" fn rgv_open_session(
     ensures nodes_after { nodes.new ≡ (leaves (Open controllers owned.now (rule_of controller count rule.now)) (lent_space heading.old masks.old nodes.old states.old)).nodes }
     ensures states_after { states.new ≡ (leaves (Open controllers owned.now (rule_of controller count rule.now)) (lent_space heading.old masks.old nodes.old states.old)).states }
 {
-    ragyvosin::open_session(
+    number(ragyvosin::open_session(
         controllers,
         owned,
         controller,
@@ -298,7 +265,7 @@ pub extern "C" fn rgv_open_session(
         masks,
         nodes,
         states,
-    )
+    ))
 }
 
 #[unsafe(no_mangle)]
@@ -312,7 +279,7 @@ pub extern "C" fn rgv_arrive(
     ensures heading_after { heading.new ≡ (leaves (Arrive state) (lent_space heading.old masks.now [] states.old)).heading }
     ensures states_after { states.new ≡ (leaves (Arrive state) (lent_space heading.old masks.now [] states.old)).states }
 {
-    ragyvosin::arrive(state, heading, masks, states)
+    number(ragyvosin::arrive(state, heading, masks, states))
 }
 
 #[unsafe(no_mangle)]
@@ -321,7 +288,7 @@ pub extern "C" fn rgv_withdraw(heading: &mut [usize; 4], states: &mut [u64]) -> 
     ensures heading_after { heading.new ≡ (leaves Withdraw (lent_space heading.old [] [] states.old)).heading }
     ensures states_after { states.new ≡ (leaves Withdraw (lent_space heading.old [] [] states.old)).states }
 {
-    ragyvosin::withdraw(heading, states)
+    number(ragyvosin::withdraw(heading, states))
 }
 
 #[unsafe(no_mangle)]
@@ -336,7 +303,7 @@ pub extern "C" fn rgv_replace_rule(
     ensures heading_after { heading.new ≡ (leaves (Replace (rule_of controller count rule.now)) (lent_space heading.old [] nodes.old [])).heading }
     ensures nodes_after { nodes.new ≡ (leaves (Replace (rule_of controller count rule.now)) (lent_space heading.old [] nodes.old [])).nodes }
 {
-    ragyvosin::replace_rule(controller, count, rule, heading, nodes)
+    number(ragyvosin::replace_rule(controller, count, rule, heading, nodes))
 }
 
 // Values: 1, weak verdict, strong verdict; zeros where no state is held.
@@ -351,10 +318,7 @@ pub extern "C" fn rgv_session_verdicts(
     ensures { result ∷ values.new ≡ session_values (verdicts_answer (lent_space heading.now masks.now nodes.now states.now)) }
 {
     let answer = ragyvosin::session_verdicts(heading, masks, nodes, states);
-    let laid = of_session_verdicts(answer);
-    let laid_values = laid.values;
-    *values = laid_values;
-    laid.number
+    of_session_verdicts(answer).lay(values)
 }
 
 // Value: length.
@@ -364,10 +328,7 @@ pub extern "C" fn rgv_to_archive(text: &[u8], archive: &mut [u8], values: &mut [
     ensures archive_after { archive.new ≡ to_archive_text text.now archive.old }
 {
     let answer = ragyvosin::to_archive(text, archive);
-    let laid = of_text_written(answer);
-    let laid_values = laid.values;
-    *values = laid_values;
-    laid.number
+    of_count(answer).lay(values)
 }
 
 // Value: length.
@@ -377,8 +338,5 @@ pub extern "C" fn rgv_from_archive(archive: &[u8], text: &mut [u8], values: &mut
     ensures text_after { text.new ≡ from_archive_text archive.now text.old }
 {
     let answer = ragyvosin::from_archive(archive, text);
-    let laid = of_text_written(answer);
-    let laid_values = laid.values;
-    *values = laid_values;
-    laid.number
+    of_count(answer).lay(values)
 }

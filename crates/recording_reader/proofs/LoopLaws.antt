@@ -1,36 +1,39 @@
 -- Laws of the two loops over lines: one for each return and for a turn.
-use mathlib.Core.Path.{◌≡◌, refl, sym, ◌∙◌}
-use mathlib.Core.List.{List, []}
-use Prim.Native.Nat.{ℕ, suc, ◌+◌, ◌-◌, ◌^◌, ◌<◌, ◌≤◌}
+use mathlib.Core.Path.{◌≡◌, refl, sym}
+use mathlib.Core.Bool.{true}
+use mathlib.Core.List.{List, [], ◌∷◌}
+use Prim.Native.Nat.{ℕ, suc, ◌+◌, ◌-◌, ◌<◌, ◌≤◌}
 use native.Mathlib.Omega.{arith}
 use lib.Bits.{bit_or}
-use lib.Dec.{ltb}
+use lib.Dec.{eqb}
 use lib.ListN.{length, take, drop, set, length-drop}
-use borrow.Author.Tests.{ltb-true, ltb-false}
-use mir.Syntax.{w64}
-use mir.Val.{Fits}
-use Rattle.definitions.specs.Limits.{accepted, recording_lines, max_controllers, max_states}
-use Rattle.definitions.specs.Bounded.{pick}
-use Rattle.definitions.specs.Lines.{is_empty, rest_of, more}
+use borrow.Author.Tests.{eqb-true}
+use Rattle.std.specs.Prelude.{Result, Ok, Err}
+use Rattle.definitions.specs.Limits.{accepted, recording_form, recording_lines, max_controllers}
+use Rattle.definitions.specs.Lines.{rest_of, more}
 use Rattle.definitions.specs.Gauges.{Gauges}
-use Rattle.definitions.specs.RecordingText.{at_line, scan_masks, scan_states}
-use Rattle.theorems.proofs.Choice.{by_test, pick_true, pick_false}
-use Rattle.recordings.specs.Unions.{union_of}
+use Rattle.definitions.specs.RecordingText.{mask_form, at_form, at_refusal, finished_state, at_line, scan_masks, scan_states}
+use Rattle.theorems.proofs.Choice.{pick_true, pick_false}
+use Rattle.rules.specs.Refusals.{number_of}
+use Rattle.rules.specs.declared.refusal.Refusal.{Refusal}
+use Rattle.rules.specs.declared.refusal.Refusal.TheVariants.{RecordingLines}
+use Rattle.recordings.specs.Unions.{union_of, union_refusal}
+use Rattle.recordings.specs.declared.heading.RecordingHeading.{RecordingHeading}
 use Rattle.lines.specs.Reading.{FirstLine, LinesScanned}
+use Rattle.lines.specs.Told.{told, next_told}
 use Rattle.lines.specs.declared.Line.{Line}
+use Rattle.lines.specs.declared.Stop.{Stop}
 use Rattle.lines.proofs.PartLaws.{part_to_end, empty_yes, empty_no}
-use Rattle.lines.proofs.LoopLaws.{Lines, lines_none, lines_stop, lines_next, after_line, line_inside}
-use Rattle.recording_reader.specs.NextLines.{mask_answer, seen_line}
-use Rattle.at_lines.specs.Lines.{state_answer, state_line}
-use Rattle.at_lines.specs.Measured.{at_answer}
-use Rattle.gauges.specs.Scanning.{gauges_in}
-use Rattle.gauges.specs.declared.scan.Gauged.{Gauged}
-use Rattle.recording_reader.specs.declared.line.MaskRead.{MaskRead}
-use Rattle.recording_reader.specs.declared.line.MaskRead.TheVariants as mask
-use Rattle.at_lines.specs.declared.StateRead.{StateRead}
-use Rattle.at_lines.specs.declared.StateRead.TheVariants as state
-use Rattle.recording_reader.proofs.MaskLaws.{MaskIs, mask_is, mask_denied}
-use Rattle.at_lines.proofs.MeasuredLaws.{AtIs, at_is, at_denied, without_values}
+use Rattle.lines.proofs.LoopLaws.{Lines, lines_none, lines_done, lines_stop, lines_next, after_line, line_inside}
+use Rattle.lines.proofs.StopLaws.{StopTold, at_stop}
+use Rattle.lines.proofs.ToldLaws.{told_refused, told_back}
+use Rattle.gauges.specs.Held.{gauges_of}
+use Rattle.gauges.specs.declared.gauge.Gauge.{Gauge}
+use Rattle.at_lines.specs.Lines.{state_line, state_told}
+use Rattle.at_lines.specs.Measured.{at_told}
+use Rattle.at_lines.proofs.MeasuredLaws.{without_values}
+use Rattle.recording_reader.specs.NextLines.{seen_line}
+use Rattle.recording_reader.specs.Scanning.{RestRoom}
 use Rattle.recording_reader.proofs.ScanLaws.{seen_masks, seen_masks_lem, mask_step, mask_stop, masks_end, state_step, state_stop, states_end}
 
 -- ---- `scan_masks`
@@ -48,129 +51,94 @@ masks_start C start text o h =
 
 module _ (C start : ℕ) (text o o' : List ℕ) (at seen c : ℕ) (inv : MasksLeft C start text o o' at seen c) (few : C ≤ max_controllers) (room : max_controllers ≤ length o) where
   -- `scan_masks`, all masks are read: `scan_masks` is accepted
-  pub masks_done : C ≤ c → LinesScanned (scan_masks C [] (drop start text)) text o (record { number = 0; at = at }) o'
+  pub masks_done : C ≤ c → LinesScanned (scan_masks C [] (drop start text)) text o (Ok at) o'
   masks_done h =
       let z : C - c ≡ 0 = omega arith in
-      lines_stop _ text o o' at c _ inv.lines 0 (rw z (masks_end seen (drop at text))) (omega (arith, inv.within))
+      lines_done _ text o o' at c _ inv.lines (rw z (masks_end seen (drop at text))) (omega (arith, inv.within))
 
-  module _ (h : c < C) (l : Line) (is : FirstLine (take (length text - at) (drop at text)) l) (r : MaskRead) (rs : r ≡ mask_answer (seen_line seen (take (length text - at) (drop at text)))) where
+  module _ (h : c < C) (l : Line) (is : FirstLine (take (length text - at) (drop at text)) l) where
     one_less_lem : C - c ≡ suc (C - (c + 1))
     one_less_lem = omega arith
 
     ends : FirstLine (drop at text) l
     ends = rw (part_to_end text at) at is
 
-    answer : r ≡ mask_answer (seen_line seen (drop at text))
-    answer = rw (part_to_end text at) at rs
-
     -- `scan_masks`, a refused line: `scan_masks` stops at that line with its refusal
-    pub masks_refused_lem : (k : ℕ) → r ≡ mask.Refused k → LinesScanned (scan_masks C [] (drop start text)) text o (record { number = k; at = at }) o'
-    masks_refused_lem k e =
-        lines_stop _ text o o' at c _ inv.lines k
-        (rw one_less_lem (mask_stop (C - (c + 1)) seen (drop at text) k (mask_denied seen (drop at text) r answer k e))) (omega (arith, inv.within))
+    pub masks_stopped : (s : Stop) → StopTold (next_told (λ m. m) (seen_line seen (take (length text - at) (drop at text)))) at s
+        → LinesScanned (scan_masks C [] (drop start text)) text o (Err s) o'
+    masks_stopped s r =
+        let n = told_refused (λ m. m) (seen_line seen (drop at text)) s.refusal (rw (part_to_end text at) at r.refused) in
+        at_stop (λ (z : Stop). LinesScanned (scan_masks C [] (drop start text)) text o (Err z) o') s at r.place
+        (lines_stop _ text o o' at c _ inv.lines s.refusal (rw one_less_lem (mask_stop (C - (c + 1)) seen (drop at text) (number_of s.refusal) n)) (omega (arith, inv.within)))
 
-    module _ (m : ℕ) (e : r ≡ mask.Mask m) where
-      given : MaskIs seen (drop at text) m
-      given = mask_is seen (drop at text) r answer m e
+    mask_inside : at + l.next ≤ length text
+    mask_inside = line_inside text at l ends inv.lines.inside
 
-      mask_inside : at + l.next ≤ length text
-      mask_inside = line_inside text at l ends inv.lines.inside
-
-      pub mask_next_fits : length text < 2 ^ 64 → Fits w64 (at + l.next)
-      mask_next_fits h = record { fits = omega (arith, mask_inside) }
-
-      mask_turn : seen_masks (C - c) seen (drop at text) ≡ more m (seen_masks (C - (c + 1)) (bit_or seen m) (drop (at + l.next) text))
-      mask_turn = rw (one_less_lem, ← after_line text at l ends) (mask_step (C - (c + 1)) seen (drop at text) m (rest_of (drop at text)) given.is)
-
-      -- `scan_masks`, a turn: `scan_masks` has one mask more, and the union has it too
-      pub masks_next : MasksLeft C start text o (set o' c m) (at + l.next) (bit_or seen m) (c + 1)
-      masks_next = record { within = omega arith; lines = lines_next _ text o o' at c _ inv.lines m (at + l.next) _ mask_turn (omega arith) mask_inside }
+    -- `scan_masks`, a turn: `scan_masks` has one mask more, and the union has it too
+    pub masks_next : (m : ℕ) → Ok m ≡ next_told (λ m. m) (seen_line seen (take (length text - at) (drop at text)))
+        → MasksLeft C start text o (set o' c m) (at + l.next) (bit_or seen m) (c + 1)
+    masks_next m r =
+        let n = told_back (λ m. m) recording_lines recording_form mask_form (union_refusal seen) (drop at text) m (rw (part_to_end text at) at r) in
+        let turn : seen_masks (C - c) seen (drop at text) ≡ more m (seen_masks (C - (c + 1)) (bit_or seen m) (drop (at + l.next) text))
+        = rw (one_less_lem, ← after_line text at l ends, ← n.gives) (mask_step (C - (c + 1)) seen (drop at text) n.value (rest_of (drop at text)) n.is) in
+        record { within = omega arith; lines = lines_next _ text o o' at c _ inv.lines m (at + l.next) _ turn (omega arith) mask_inside }
 
 -- ---- `scan_states`
--- the gauges of what the gauge lines gave
-abbrev pub all_of : Gauged → Gauges
-all_of g = gauges_in g.count g.atoms g.thresholds
-
-pub record StatesLeft (C N : ℕ) (masks : List ℕ) (g : Gauged) (text o o' : List ℕ) (at prior k : ℕ) : Type 0 where
-  pub within : k ≤ N
-  pub lines : Lines (scan_states C masks (all_of g) N 0 0 (drop g.at text)) text o o' at k (scan_states C masks (all_of g) (N - k) k prior (drop at text))
+pub record StatesLeft (h : RecordingHeading) (masks : List ℕ) (g : Gauges) (start : ℕ) (text o o' : List ℕ) (at prior k : ℕ) : Type 0 where
+  pub within : k ≤ h.count
+  pub lines : Lines (scan_states h.controllers masks g h.count 0 0 (drop start text)) text o o' at k (scan_states h.controllers masks g (h.count - k) k prior (drop at text))
 
 -- `scan_states`, before the first turn: all of `scan_states` is left
-pub states_start : (C N : ℕ) (masks : List ℕ) (g : Gauged) (text o : List ℕ) → g.at ≤ length text → StatesLeft C N masks g text o o g.at 0 0
-states_start C N masks g text o h =
-    let z : N - 0 ≡ N = omega arith in
-    record { within = omega arith; lines = rw z (lines_none _ _ text o g.at h refl) }
+pub states_start : (h : RecordingHeading) (masks : List ℕ) (g : Gauges) (start : ℕ) (text o : List ℕ) → RestRoom h start text o → StatesLeft h masks g start text o o start 0 0
+states_start h masks g start text o room =
+    let z : h.count - 0 ≡ h.count = omega arith in
+    record { within = omega arith; lines = rw z (lines_none _ _ text o start room.inside refl) }
 
-module _ (C N : ℕ) (masks : List ℕ) (g : Gauged) (text o o' : List ℕ) (at prior k : ℕ) (inv : StatesLeft C N masks g text o o' at prior k) (short : N ≤ max_states) (room : max_states ≤ length o) where
-  last_line : (n : ℕ) → n ≡ pick (ltb at (length text)) recording_lines accepted → n ≡ pick (is_empty (drop at text)) accepted recording_lines
-  last_line n e =
-      by_test (ltb at (length text))
-      (λ y. e ∙ (pick_true _ _ _ y ∙ sym (pick_false _ _ _ (empty_no (drop at text) (λ q. omega (arith, length-drop at text, ltb-true at (length text) y))))))
-      (λ y. e ∙ (pick_false _ _ _ y ∙ sym (pick_true _ _ _ (empty_yes (drop at text) (omega (arith, length-drop at text, ltb-false at (length text) y))))))
+module _ (h : RecordingHeading) (masks : List ℕ) (g : Gauges) (start : ℕ) (text o o' : List ℕ) (at prior k : ℕ) (inv : StatesLeft h masks g start text o o' at prior k) (room : RestRoom h start text o) where
+  -- `scan_states`, all states are read and no byte is left: `scan_states` is accepted
+  pub states_done : h.count ≤ k → length text ≤ at → LinesScanned (scan_states h.controllers masks g h.count 0 0 (drop start text)) text o (Ok at) o'
+  states_done d l =
+      let z : h.count - k ≡ 0 = omega arith in
+      let e = pick_true {A = ℕ} _ accepted recording_lines (empty_yes (drop at text) (omega (arith, length-drop at text))) in
+      lines_done _ text o o' at k _ inv.lines (rw z (states_end h.controllers masks g k prior accepted (drop at text) (sym e))) (omega (arith, inv.within, room.short, room.room))
 
-  -- `scan_states`, all states are read: `scan_states` is accepted, or refused where bytes are left
-  pub states_done : (n : ℕ) → n ≡ pick (ltb at (length text)) recording_lines accepted → N ≤ k
-      → LinesScanned (scan_states C masks (all_of g) N 0 0 (drop g.at text)) text o (record { number = n; at = at }) o'
-  states_done n e h =
-      let z : N - k ≡ 0 = omega arith in
-      lines_stop _ text o o' at k _ inv.lines n (rw z (states_end C masks (all_of g) k prior n (drop at text) (last_line n e))) (omega (arith, inv.within))
+  -- `scan_states`, all states are read and bytes are left: `scan_states` is refused
+  pub states_over : h.count ≤ k → at < length text → LinesScanned (scan_states h.controllers masks g h.count 0 0 (drop start text)) text o (Err (record { refusal = RecordingLines; at = at })) o'
+  states_over d l =
+      let z : h.count - k ≡ 0 = omega arith in
+      let e = pick_false {A = ℕ} _ accepted recording_lines (empty_no (drop at text) (λ q. omega (arith, length-drop at text))) in
+      lines_stop _ text o o' at k _ inv.lines RecordingLines (rw z (states_end h.controllers masks g k prior recording_lines (drop at text) (sym e))) (omega (arith, inv.within, room.short, room.room))
 
-  module _ (h : k < N) (l : Line) (is : FirstLine (take (length text - at) (drop at text)) l) (r : StateRead)
-      (answered : r ≡ at_answer (all_of g) (at_line C masks (all_of g) k prior (drop at text))) where
-    one_fewer : N - k ≡ suc (N - (k + 1))
+  module _ (d : k < h.count) (l : Line) (is : FirstLine (take (length text - at) (drop at text)) l) where
+    one_fewer : h.count - k ≡ suc (h.count - (k + 1))
     one_fewer = omega arith
 
     line_ends : FirstLine (drop at text) l
     line_ends = rw (part_to_end text at) at is
 
-    refused_at_lem : (n : ℕ) → r ≡ state.Refused n → LinesScanned (scan_states C masks (all_of g) N 0 0 (drop g.at text)) text o (record { number = n; at = at }) o'
-    refused_at_lem n e =
-        lines_stop _ text o o' at k _ inv.lines n
-        (rw one_fewer (state_stop C masks (all_of g) (N - (k + 1)) k prior (drop at text) n (at_denied C masks (all_of g) k prior (drop at text) r answered n e))) (omega (arith, inv.within))
+    -- `scan_states`, a refused line: `scan_states` stops at that line with its refusal
+    pub states_stopped : (s : Stop) → StopTold (next_told (finished_state g) (at_line h.controllers masks g k prior (take (length text - at) (drop at text)))) at s
+        → LinesScanned (scan_states h.controllers masks g h.count 0 0 (drop start text)) text o (Err s) o'
+    states_stopped s r =
+        let n = told_refused (finished_state g) (at_line h.controllers masks g k prior (drop at text)) s.refusal (rw (part_to_end text at) at r.refused) in
+        at_stop (λ (z : Stop). LinesScanned (scan_states h.controllers masks g h.count 0 0 (drop start text)) text o (Err z) o') s at r.place
+        (lines_stop _ text o o' at k _ inv.lines s.refusal
+        (rw one_fewer (state_stop h.controllers masks g (h.count - (k + 1)) k prior (drop at text) (number_of s.refusal) n)) (omega (arith, inv.within, room.short, room.room)))
 
     next_inside : at + l.next ≤ length text
     next_inside = line_inside text at l line_ends inv.lines.inside
 
-    module _ (s : ℕ) (e : r ≡ state.State s) where
-      got : AtIs C masks (all_of g) k prior (drop at text) s
-      got = at_is C masks (all_of g) k prior (drop at text) r answered s e
+    -- `scan_states`, a turn: `scan_states` has one state more, and it is the prior one
+    pub states_next : (s : ℕ) → Ok s ≡ next_told (finished_state g) (at_line h.controllers masks g k prior (take (length text - at) (drop at text)))
+        → StatesLeft h masks g start text o (set o' k s) (at + l.next) s (k + 1)
+    states_next s r =
+        let n = told_back (finished_state g) recording_lines recording_form (at_form h.controllers (length g.atoms)) (at_refusal h.controllers masks g k prior) (drop at text) s (rw (part_to_end text at) at r) in
+        let turn : scan_states h.controllers masks g (h.count - k) k prior (drop at text) ≡ more s (scan_states h.controllers masks g (h.count - (k + 1)) (k + 1) s (drop (at + l.next) text))
+        = rw (one_fewer, ← after_line text at l line_ends) (state_step h.controllers masks g (h.count - (k + 1)) k prior (drop at text) n.value s (rest_of (drop at text)) n.is n.gives) in
+        record { within = omega arith; lines = lines_next _ text o o' at k _ inv.lines s (at + l.next) _ turn (omega (arith, room.short, room.room)) next_inside }
 
-      state_turn : scan_states C masks (all_of g) (N - k) k prior (drop at text) ≡ more s (scan_states C masks (all_of g) (N - (k + 1)) (k + 1) s (drop (at + l.next) text))
-      state_turn =
-          rw (one_fewer, ← after_line text at l line_ends)
-          (state_step C masks (all_of g) (N - (k + 1)) k prior (drop at text) got.measured s (rest_of (drop at text)) got.is got.finishes)
-
-      state_next : StatesLeft C N masks g text o (set o' k s) (at + l.next) s (k + 1)
-      state_next = record { within = omega arith; lines = lines_next _ text o o' at k _ inv.lines s (at + l.next) _ state_turn (omega arith) next_inside }
-
-  -- a line without values, and one with values: what either function answered is what is read
-  module _ (h : k < N) (l : Line) (is : FirstLine (take (length text - at) (drop at text)) l) where
-    pub state_next_fits : length text < 2 ^ 64 → Fits w64 (at + l.next)
-    state_next_fits b =
-        let i : at + l.next ≤ length text = line_inside text at l (rw (part_to_end text at) at is) inv.lines.inside in
-        record { fits = omega arith }
-
-    module _ (answer r : StateRead) (same : r ≡ answer) where
-      module _ (none : g.count ≡ 0) (rs : answer ≡ state_answer (state_line C masks k prior (take (length text - at) (drop at text)))) where
-        without : r ≡ at_answer (all_of g) (at_line C masks (all_of g) k prior (drop at text))
-        without = same ∙ without_values C masks g k prior (drop at text) answer none (rw (part_to_end text at) at rs)
-
-        -- `scan_states`, a refused line without values: `scan_states` stops at that line with its refusal
-        pub states_refused_lem : (n : ℕ) → r ≡ state.Refused n → LinesScanned (scan_states C masks (all_of g) N 0 0 (drop g.at text)) text o (record { number = n; at = at }) o'
-        states_refused_lem n e = refused_at_lem h l is r without n e
-
-        -- `scan_states`, a turn without values: `scan_states` has one state more, and it is the prior one
-        pub states_next : (s : ℕ) → r ≡ state.State s → StatesLeft C N masks g text o (set o' k s) (at + l.next) s (k + 1)
-        states_next s e = state_next h l is r without s e
-
-      module _ (rs : answer ≡ at_answer (all_of g) (at_line C masks (all_of g) k prior (take (length text - at) (drop at text)))) where
-        measured : r ≡ at_answer (all_of g) (at_line C masks (all_of g) k prior (drop at text))
-        measured = same ∙ (rw (part_to_end text at) at rs)
-
-        -- `scan_states`, a refused line with values: `scan_states` stops at that line with its refusal
-        pub measured_refused : (n : ℕ) → r ≡ state.Refused n → LinesScanned (scan_states C masks (all_of g) N 0 0 (drop g.at text)) text o (record { number = n; at = at }) o'
-        measured_refused n e = refused_at_lem h l is r measured n e
-
-        -- `scan_states`, a turn with values: `scan_states` has the finished state more, and it is the prior one
-        pub measured_next : (s : ℕ) → r ≡ state.State s → StatesLeft C N masks g text o (set o' k s) (at + l.next) s (k + 1)
-        measured_next s e = state_next h l is r measured s e
+-- `next_at`, without gauges: the line is read as one without values
+pub next_without : (C : ℕ) (masks : List ℕ) (k prior : ℕ) (t : List ℕ) (gauges : List Gauge) → true ≡ eqb (length gauges) 0 → (r : Result ℕ Refusal) → told r ≡ state_told (state_line C masks k prior t)
+    → told r ≡ at_told (gauges_of gauges) (at_line C masks (gauges_of gauges) k prior t)
+next_without C masks k prior t [] z r e = without_values C masks k prior t (told r) e
+next_without C masks k prior t (g ∷ gauges) z r e = absurd (omega (arith, eqb-true _ 0 (sym z)))

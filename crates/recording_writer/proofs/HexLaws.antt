@@ -7,24 +7,9 @@ use lib.ListN.{length, set, length-append}
 use mir.Syntax.{w64}
 use mir.Val.{Fits}
 use borrow.Author.Rules.{rules}
-use borrow.Author.Tests.{lt-ltb, le-ltb}
-use Rattle.definitions.specs.Bounded.{pick}
 use Rattle.definitions.specs.RecordingWriting.{hex_byte, hex_text}
 use Rattle.printing.specs.Printing.{Printed}
 use Rattle.printing.proofs.PrintLaws.{laid_snoc, printed_none}
-
--- ---- `hex_byte`
--- `hex_byte`, below ten: `hex_byte` is the decimal digit
-pub byte_low : (d : ℕ) → d < 10 → 48 + d ≡ hex_byte d
-unfolding hex_byte pick
-byte_low d h = rw (lt-ltb d 10 h)
-
--- `hex_byte`, ten or more: `hex_byte` is the letter
-pub byte_high : (d : ℕ) → 10 ≤ d → 87 + d ≡ hex_byte d
-unfolding hex_byte pick
-byte_high d h = rw (le-ltb d 10 h)
-
-pub ruleset byte_laws = (rules, byte_low, byte_high)
 
 -- ---- `put_hexadecimal`
 no_digit_lem : (v : ℕ) → hex_text 0 v ≡ []

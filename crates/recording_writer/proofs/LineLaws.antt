@@ -1,12 +1,13 @@
 -- Laws of writing the lines of masks and of states.
-use mathlib.Core.Path.{◌≡◌, refl, ap}
-use Prim.Native.Nat.{ℕ, zero, suc, ◌+◌, ◌^◌, ◌<◌, ◌≤◌}
+use mathlib.Core.Path.{◌≡◌, refl, sym, ◌∙◌}
+use Prim.Native.Nat.{ℕ, ◌+◌, ◌^◌, ◌<◌, ◌≤◌}
 use native.Mathlib.Omega.{arith}
 use mathlib.Core.List.{List, [], ◌∷◌, ◌++◌, map}
 use lib.ListN.{length, get_or}
 use mir.Syntax.{w32}
 use mir.Val.{Fits}
 use borrow.Author.Rules.{rules}
+use Rattle.std.proofs.lemmas.List.{length-map, get_or-map}
 use Rattle.definitions.specs.Lines.{tab, newline}
 use Rattle.definitions.specs.Recordings.{atoms_of, marks_of}
 use Rattle.definitions.specs.RecordingText.{owns_word, at_word, word_digits, mark_digits}
@@ -96,101 +97,50 @@ pub ruleset state_laws = (rules, marks_fit, at_room, marks_room, tab_room, word_
 
 -- ---- a line for each word of a list
 module _ (f : ℕ → List ℕ) where
-  map_count : (ws : List ℕ) → length (map f ws) ≡ length ws
-  map_count [] = refl
-  map_count (w ∷ ws) = ap suc (map_count ws)
-
-  map_at : (ws : List ℕ) (i : ℕ) → i < length ws → get_or (map f ws) i [] ≡ f (get_or ws i 0)
-  map_at [] i h = absurd (omega arith)
-  map_at (w ∷ ws) zero h = refl
-  map_at (w ∷ ws) (suc i) h = map_at ws i (omega arith)
-
   -- the lines of the first i words are written
   pub record Written (ws o : List ℕ) (start : ℕ) (o' : List ℕ) (at i : ℕ) : Type 0 where
     pub lined : Lined (map f ws) o start o' at i
 
-  none_written : (ws o : List ℕ) (start : ℕ) → Written ws o start o start 0
+  -- `put_masks` and `put_states`, before the first word: no line is written
+  pub none_written : (ws o : List ℕ) (start : ℕ) → Written ws o start o start 0
   none_written ws o start = record { lined = lined_none (map f ws) o start }
 
-  module _ (ws o : List ℕ) (start : ℕ) (o' : List ℕ) (at i : ℕ) (inv : Written ws o start o' at i) (room : start + length (lines_text (map f ws)) ≤ length o) where
-    all_written : length ws ≤ i → Printed (lines_text (map f ws)) o start at o'
-    all_written h = lined_done (map f ws) o start o' at i inv.lined room (omega (arith, map_count ws))
+  module _ (ws o : List ℕ) (start : ℕ) (o' : List ℕ) (at i : ℕ) (inv : Written ws o start o' at i) (all : List ℕ) (is : all ≡ lines_text (map f ws)) (room : start + length all ≤ length o) where
+    space : start + length (lines_text (map f ws)) ≤ length o
+    space = rw is at room
 
-    module _ (h : i < length ws) where
+    -- `put_masks` and `put_states`, all words are passed: all lines are written
+    pub all_written : length ws ≤ i → Printed all o start at o'
+    all_written h = rw is (lined_done (map f ws) o start o' at i inv.lined space (omega (arith, length-map ws f)))
+
+    module _ (h : i < length ws) (line : List ℕ) (of : line ≡ f (get_or ws i 0)) where
       turn : i < length (map f ws)
-      turn = omega (arith, map_count ws)
+      turn = omega (arith, length-map ws f)
 
-      word_line_room : at + length (f (get_or ws i 0)) ≤ length o'
-      word_line_room = lined_room (map f ws) o start o' at i inv.lined room turn (f (get_or ws i 0)) (map_at ws i h)
+      next_is : get_or (map f ws) i [] ≡ line
+      next_is = get_or-map f ws i 0 [] h ∙ sym of
 
-      module _ (q : ℕ) (o'' : List ℕ) (line : Printed (f (get_or ws i 0)) o' at q o'') (kept : length o'' ≡ length o') where
-        word_end_room : q < length o''
-        word_end_room = lined_end (map f ws) o start o' at i inv.lined room turn (f (get_or ws i 0)) (map_at ws i h) q o'' line kept
+      pub line_room : at + length line ≤ length o'
+      line_room = lined_room (map f ws) o start o' at i inv.lined space turn line next_is
 
-        one_written : (r : ℕ) (o''' : List ℕ) → Printed (newline ∷ []) o'' q r o''' → length o''' ≡ length o'' → Written ws o start o''' r (i + 1)
+      module _ (q : ℕ) (o'' : List ℕ) (written : Printed line o' at q o'') (kept : length o'' ≡ length o') where
+        pub end_room : q < length o''
+        end_room = lined_end (map f ws) o start o' at i inv.lined space turn line next_is q o'' written kept
+
+        -- `put_masks` and `put_states`, a turn: one line more is written
+        pub one_written : (r : ℕ) (o''' : List ℕ) → Printed (newline ∷ []) o'' q r o''' → length o''' ≡ length o'' → Written ws o start o''' r (i + 1)
         one_written r o''' end held =
-            record { lined = lined_next (map f ws) o start o' at i inv.lined room turn (f (get_or ws i 0)) (map_at ws i h) q o'' line kept r o''' end held }
+            record { lined = lined_next (map f ws) o start o' at i inv.lined space turn line next_is q o'' written kept r o''' end held }
 
--- ---- `put_masks`
-masks_lines : (ms : List ℕ) → masks_text ms [] ≡ lines_text (map mask_text ms)
+-- the texts of masks and of states are these lines
+pub masks_lines : (ms : List ℕ) → masks_text ms [] ≡ lines_text (map mask_text ms)
 unfolding masks_text lines_text
 masks_lines [] = refl
 masks_lines (m ∷ ms) = rw (masks_lines ms)
 
--- `put_masks`, before the first turn: no line of `masks_text` is written
-pub masks_none : (ms o : List ℕ) (start : ℕ) → Written mask_text ms o start o start 0
-masks_none ms o start = none_written mask_text ms o start
-
-module _ (ms o : List ℕ) (start : ℕ) (o' : List ℕ) (at i : ℕ) (inv : Written mask_text ms o start o' at i) (room : start + length (masks_text ms []) ≤ length o) where
-  masks_space : start + length (lines_text (map mask_text ms)) ≤ length o
-  masks_space = rw (masks_lines ms) at room
-
-  -- `put_masks`, all masks are passed: the lines are `masks_text`
-  pub masks_done : length ms ≤ i → Printed (masks_text ms []) o start at o'
-  masks_done h = rw (masks_lines ms) (all_written mask_text ms o start o' at i inv masks_space h)
-
-  module _ (h : i < length ms) where
-    pub masks_room_lem : at + length (mask_text (get_or ms i 0)) ≤ length o'
-    masks_room_lem = word_line_room mask_text ms o start o' at i inv masks_space h
-
-    module _ (q : ℕ) (o'' : List ℕ) (line : Printed (mask_text (get_or ms i 0)) o' at q o'') (kept : length o'' ≡ length o') where
-      pub masks_end : q < length o''
-      masks_end = word_end_room mask_text ms o start o' at i inv masks_space h q o'' line kept
-
-      -- `put_masks`, a turn: `masks_text` has one line more
-      pub masks_next : (r : ℕ) (o''' : List ℕ) → Printed (newline ∷ []) o'' q r o''' → length o''' ≡ length o'' → Written mask_text ms o start o''' r (i + 1)
-      masks_next r o''' end held = one_written mask_text ms o start o' at i inv masks_space h q o'' line kept r o''' end held
-
-pub ruleset masks_laws = (rules, masks_none, masks_done, masks_room_lem, masks_end, masks_next)
-
--- ---- `put_states`
-states_lines : (C : ℕ) (ss : List ℕ) → states_text C ss ≡ lines_text (map (state_text C) ss)
+pub states_lines : (C : ℕ) (ss : List ℕ) → states_text C ss ≡ lines_text (map (state_text C) ss)
 unfolding states_text lines_text
 states_lines C [] = refl
 states_lines C (s ∷ ss) = rw (states_lines C ss)
 
--- `put_states`, before the first turn: no line of `states_text` is written
-pub states_none : (C : ℕ) (ss o : List ℕ) (start : ℕ) → Written (state_text C) ss o start o start 0
-states_none C ss o start = none_written (state_text C) ss o start
-
-module _ (C : ℕ) (ss o : List ℕ) (start : ℕ) (o' : List ℕ) (at i : ℕ) (inv : Written (state_text C) ss o start o' at i) (room : start + length (states_text C ss) ≤ length o) where
-  states_space : start + length (lines_text (map (state_text C) ss)) ≤ length o
-  states_space = rw (states_lines C ss) at room
-
-  -- `put_states`, all states are passed: the lines are `states_text`
-  pub states_done : length ss ≤ i → Printed (states_text C ss) o start at o'
-  states_done h = rw (states_lines C ss) (all_written (state_text C) ss o start o' at i inv states_space h)
-
-  module _ (h : i < length ss) where
-    pub states_room_lem : at + length (state_text C (get_or ss i 0)) ≤ length o'
-    states_room_lem = word_line_room (state_text C) ss o start o' at i inv states_space h
-
-    module _ (q : ℕ) (o'' : List ℕ) (line : Printed (state_text C (get_or ss i 0)) o' at q o'') (kept : length o'' ≡ length o') where
-      pub states_end : q < length o''
-      states_end = word_end_room (state_text C) ss o start o' at i inv states_space h q o'' line kept
-
-      -- `put_states`, a turn: `states_text` has one line more
-      pub states_next : (r : ℕ) (o''' : List ℕ) → Printed (newline ∷ []) o'' q r o''' → length o''' ≡ length o'' → Written (state_text C) ss o start o''' r (i + 1)
-      states_next r o''' end held = one_written (state_text C) ss o start o' at i inv states_space h q o'' line kept r o''' end held
-
-pub ruleset states_laws = (rules, states_none, states_done, states_room_lem, states_end, states_next)
+pub ruleset lines_laws = (rules, masks_lines, states_lines, none_written, all_written, line_room, end_room, one_written)

@@ -4,8 +4,6 @@ use Prim.Native.Nat.{ℕ, ◌+◌, ◌<◌, ◌≤◌}
 use native.Mathlib.Omega.{arith}
 use mathlib.Core.List.{List, [], ◌∷◌, ◌++◌, append_assoc}
 use lib.ListN.{length}
-use mir.Syntax.{w32}
-use mir.Val.{Fits}
 use borrow.Author.Rules.{rules}
 use Rattle.definitions.specs.Lines.{tab, newline, digits}
 use Rattle.definitions.specs.RecordingText.{recording_word}
@@ -60,12 +58,6 @@ pub ruleset heading_laws = (rules, heading_word_room, controllers_room, count_ro
 
 -- ---- `put_opening`
 module _ (C N : ℕ) (masks o : List ℕ) (w : OpeningRoom C N masks o) where
-  pub controllers_fit_lem : Fits w32 C
-  controllers_fit_lem = record { fits = omega (arith, w.few) }
-
-  pub count_fit : Fits w32 N
-  count_fit = record { fits = omega (arith, w.short) }
-
   opening_is : opening_text C N masks [] ≡ heading_line C N ++ masks_text masks []
   unfolding opening_text heading_line
   opening_is = sym (append_assoc (recording_heading_text C N) (newline ∷ []) (masks_text masks []))
@@ -84,4 +76,4 @@ module _ (C N : ℕ) (masks o : List ℕ) (w : OpeningRoom C N masks o) where
     pub opening_written : (e : ℕ) (o₂ : List ℕ) → Printed (masks_text masks []) o₁ p e o₂ → Printed (opening_text C N masks []) o 0 e o₂
     opening_written e o₂ last = rw opening_is (both (heading_line C N) (masks_text masks []) o 0 opening_parts o₁ p first o₂ e last)
 
-pub ruleset opening_laws = (rules, controllers_fit_lem, count_fit, opening_heading_room, opening_masks_room, opening_written)
+pub ruleset opening_laws = (rules, opening_heading_room, opening_masks_room, opening_written)

@@ -13,6 +13,7 @@ use printing::{put, put_byte, put_field};
 use recordings::state;
 
 // A hexadecimal digit as a byte.
+#[tactic(auto, unfolding(definitions::specs::RecordingWriting::hex_byte, definitions::specs::Bounded::pick))]
 fn hex_byte(digit: u8) -> u8
     requires { digit < 16 }
     ensures { result ≡ hex_byte digit }
@@ -51,18 +52,15 @@ fn put_masks(masks: &[u32], start: usize, text: &mut [u8]) -> usize
     ensures { Printed (masks_text masks.now []) text.old start result text.new }
 {
     let mut at = start;
-    let mut c = 0;
-    while c < masks.len() {
-        let end = put_mask(masks[c], at, text);
-        let next = put_byte(scan::NEWLINE, end, text);
-        at = next;
-        c += 1;
+    for mask in masks {
+        let end = put_mask(*mask, at, text);
+        at = put_byte(scan::NEWLINE, end, text);
     }
     at
 }
 
 // The first line.
-fn put_heading(controllers: u32, count: u32, text: &mut [u8]) -> usize
+fn put_heading(controllers: usize, count: usize, text: &mut [u8]) -> usize
     requires { length (heading_line controllers count) ≤ length text.old }
     ensures { Printed (heading_line controllers count) text.old 0 result text.new }
 {
@@ -77,7 +75,7 @@ pub fn put_opening(controllers: usize, count: usize, masks: &[u32], text: &mut [
     requires { OpeningRoom controllers count masks.now text.old }
     ensures { Printed (opening_text controllers count masks.now []) text.old 0 result text.new }
 {
-    let after_heading = put_heading(controllers as u32, count as u32, text);
+    let after_heading = put_heading(controllers, count, text);
     put_masks(masks, after_heading, text)
 }
 
@@ -99,12 +97,9 @@ pub fn put_states(controllers: usize, states: &[u64], start: usize, text: &mut [
     ensures { Printed (states_text controllers states.now) text.old start result text.new }
 {
     let mut at = start;
-    let mut k = 0;
-    while k < states.len() {
-        let end = put_state(controllers, states[k], at, text);
-        let next = put_byte(scan::NEWLINE, end, text);
-        at = next;
-        k += 1;
+    for state in states {
+        let end = put_state(controllers, *state, at, text);
+        at = put_byte(scan::NEWLINE, end, text);
     }
     at
 }

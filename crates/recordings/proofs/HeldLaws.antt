@@ -1,60 +1,26 @@
 -- The output rule is broken where a held atom differs, and the tables of four controllers give the held atoms.
-use mathlib.Core.Path.{◌≡◌, refl, sym, ap, ◌∙◌}
-use Prim.Native.Nat.{ℕ, zero, suc, ◌+◌, ◌-◌, ◌*◌, ◌/◌, ◌%◌, ◌^◌, ◌≤◌, ◌<◌, min}
-use native.Mathlib.Omega.{arith}
-use native.Mathlib.Numerals.{add-one}
+use Rattle.std.proofs.Common.{rules, ℕ, zero, suc, ◌+◌, ◌-◌, ◌*◌, ◌/◌, ◌%◌, ◌^◌, ◌≤◌, ◌<◌, min, ◌≡◌, refl, sym, ap, ◌∙◌, Bool, true, false, not, ◌&&◌, ◌||◌, List, [], ◌∷◌, length, take, get_or, replicate, length-take, get_or-take, arith, add-one, eqb, leb, eq-eqb, ne_eqb, leb-true, le-leb}
+use Rattle.std.specs.Int.Bits.{bit_and, bit_or, bit_xor, xor_add_and, xor_self, and_le_l, and_le_r}
+use Rattle.std.proofs.Math.Bool.{or_comm, or_assoc, or-false, and-false}
+use Rattle.std.proofs.lemmas.Nat.{and_comm}
+use Rattle.std.proofs.lemmas.Bool.{lt-leb}
+use lib.Bits.{or_zero_r}
+use lib.ListN.{get_or-eq_default}
+use Rattle.std.proofs.lemmas.Nat.Bits.{same_from_bits, bit_at_and, bit_at_xor}
 use native.Mathlib.Decide.{ℕ_discrete, dec_lt}
-use mathlib.Core.Bool.{Bool, true, false, not, ◌&&◌, ◌||◌}
-use mathlib.Core.List.{List, [], ◌∷◌}
-use lib.Arith.{bin_ind}
-use lib.Dec.{eqb, leb}
-use lib.Bits.{bit_and, bit_or, bit_xor, differ, and_step, xor_step, or_zero_r, and_comm, xor_zero_l, xor_self, and_shr, xor_shr, and_mod, xor_mod, xor_add_and, and_le_l, and_le_r}
-use lib.ListN.{length, take, get_or, replicate, length-take, get_or-eq_default}
-use lib.Seq.{get_or-take, take_all, take-length}
-use borrow.Author.Rules.{rules}
-use borrow.Author.Tests.{eq-eqb, ne_eqb, leb-true, le-leb, lt-leb}
 use Rattle.definitions.specs.Limits.{max_controllers}
 use Rattle.definitions.specs.Bounded.{pick, bit_of, some_of}
 use Rattle.definitions.specs.Recordings.{atoms_of, marks_of, marked, output_broken}
 use Rattle.theorems.proofs.Choice.{by_test, pick_true, pick_false}
 use Rattle.theorems.proofs.Recursions.{some_cong}
 use Rattle.mark_words.proofs.WordLaws.{bit_shr}
-use Rattle.recordings.specs.Held.{held_with, held_from, held_by, held_entries, held_table, held_group, held_of_eight, held_at, held_changed}
+use Rattle.recordings.specs.Held.{held_with, held_from, held_by, held_entries, held_table, held_group, held_of_eight, held_at, held_changed, TablesOf}
+use Rattle.recordings.specs.declared.held.Tables.{Tables}
 use Rattle.recordings.proofs.MaskLaws.{and_or, some_atom}
 
 -- ---- own atoms differ where the difference meets the mask
-low_differ : (x y z : ℕ) → x < 2 → y < 2 → z < 2 → min (bit_xor x y) z ≡ differ (bit_and x z) (bit_and y z)
-low_differ zero zero zero a b c = refl
-low_differ zero zero (suc zero) a b c = refl
-low_differ zero (suc zero) zero a b c = refl
-low_differ zero (suc zero) (suc zero) a b c = refl
-low_differ (suc zero) zero zero a b c = refl
-low_differ (suc zero) zero (suc zero) a b c = refl
-low_differ (suc zero) (suc zero) zero a b c = refl
-low_differ (suc zero) (suc zero) (suc zero) a b c = refl
-low_differ (suc (suc x)) y z a b c = absurd (omega arith)
-low_differ zero (suc (suc y)) z a b c = absurd (omega arith)
-low_differ (suc zero) (suc (suc y)) z a b c = absurd (omega arith)
-low_differ zero zero (suc (suc z)) a b c = absurd (omega arith)
-low_differ zero (suc zero) (suc (suc z)) a b c = absurd (omega arith)
-low_differ (suc zero) zero (suc (suc z)) a b c = absurd (omega arith)
-low_differ (suc zero) (suc zero) (suc (suc z)) a b c = absurd (omega arith)
-
 and_xor : (a b m : ℕ) → bit_and (bit_xor a b) m ≡ bit_xor (bit_and a m) (bit_and b m)
-and_xor = bin_ind (λ (a : ℕ). (b m : ℕ) → bit_and (bit_xor a b) m ≡ bit_xor (bit_and a m) (bit_and b m))
-    (λ b m. rw xor_zero_l)
-    (λ a ih b m. rw (
-      and_step (bit_xor a b) m,
-      xor_step (bit_and a m) (bit_and b m),
-      xor_shr a b 1,
-      xor_mod a b 1,
-      and_shr a m 1,
-      and_mod a m 1,
-      and_shr b m 1,
-      and_mod b m 1,
-      ih (b / 2) (m / 2),
-      low_differ (a % 2) (b % 2) (m % 2) (omega arith) (omega arith) (omega arith),
-    ))
+and_xor a b m = same_from_bits _ _ (λ i. rw (bit_at_and (bit_xor a b) m i, bit_at_xor a b i, bit_at_xor (bit_and a m) (bit_and b m) i, bit_at_and a m i, bit_at_and b m i) (omega arith))
 
 xor_none : (x y : ℕ) → eqb x y ≡ eqb (bit_xor x y) 0
 xor_none x y = go (ℕ_discrete x y)
@@ -71,43 +37,25 @@ own_touched : (a b m : ℕ) → not (eqb (bit_and a m) (bit_and b m)) ≡ touche
 own_touched a b m =
     ap not (xor_none (bit_and a m) (bit_and b m) ∙ ap (λ (w : ℕ). eqb w 0) (sym (and_xor a b m) ∙ and_comm (bit_xor a b) m))
 
-or_swap : (a b : Bool) → (a || b) ≡ (b || a)
-or_swap true true = refl
-or_swap true false = refl
-or_swap false true = refl
-or_swap false false = refl
-
-or_group : (a b c : Bool) → ((a || b) || c) ≡ (a || (b || c))
-or_group true b c = refl
-or_group false b c = refl
-
-or_none : (a : Bool) → a ≡ (a || false)
-or_none true = refl
-or_none false = refl
-
-and_none : (a : Bool) → (a && false) ≡ false
-and_none true = refl
-and_none false = refl
-
 touched_or : (x y d : ℕ) → touched (bit_or x y) d ≡ (touched x d || touched y d)
 touched_or x y d =
-    ap (λ (w : ℕ). not (eqb w 0)) (and_or x y d) ∙ (sym (some_atom (bit_and x d) (bit_and y d)) ∙ or_swap (touched y d) (touched x d))
+    ap (λ (w : ℕ). not (eqb w 0)) (and_or x y d) ∙ (sym (some_atom (bit_and x d) (bit_and y d)) ∙ or_comm (touched y d) (touched x d))
 
 -- ---- what the controllers hold, one after the other
 touched_with : (held m d : ℕ) (ran : Bool) → touched (held_with held m ran) d ≡ (touched held d || (not ran && touched m d))
 unfolding held_with pick
-touched_with held m d true = or_none (touched held d)
+touched_with held m d true = sym (or-false (touched held d))
 touched_with held m d false = touched_or held m d
 
 touched_from : (n c held : ℕ) (masks : List ℕ) (marks d : ℕ) →
     touched (held_from n c held masks marks) d ≡ (touched held d || some_of n c (λ (j : ℕ). not (bit_of marks j) && touched (get_or masks j 0) d))
 unfolding held_from
-touched_from zero c held masks marks d = or_none (touched held d)
+touched_from zero c held masks marks d = sym (or-false (touched held d))
 touched_from (suc n) c held masks marks d =
     let g : ℕ → Bool = λ j. not (bit_of marks j) && touched (get_or masks j 0) d in
     rw (add-one c) (touched_from n (suc c) (held_with held (get_or masks c 0) (bit_of marks c)) masks marks d)
     ∙ (ap (λ (z : Bool). z || some_of n (suc c) g) (touched_with held (get_or masks c 0) d (bit_of marks c))
-    ∙ or_group (touched held d) (g c) (some_of n (suc c) g))
+    ∙ or_assoc (touched held d) (g c) (some_of n (suc c) g))
 
 -- the output rule, read by the atoms that differ
 broken_touched : (C : ℕ) (masks : List ℕ) (prior s : ℕ) →
@@ -121,11 +69,6 @@ broken_touched C masks prior s =
     C 0 (λ j a b. ap (λ (z : Bool). not (marked j prior) && z) (own_touched (atoms_of prior) (atoms_of s) (get_or masks j 0))))
 
 -- ---- the tables
--- `held_changed`: the test of the held atoms that differ is `held_changed`
-pub changed_is : (held prior s a b : ℕ) → a ≡ atoms_of prior → b ≡ atoms_of s → not (eqb (bit_and held (bit_xor a b)) 0) ≡ held_changed held prior s
-unfolding held_changed
-changed_is held prior s a b p q = rw (p, q)
-
 -- `held_table`: the sixteen unions of four masks are `held_table`
 pub table_is : (a b c d : ℕ) →
     (bit_or (bit_or (bit_or a b) c) d ∷ bit_or (bit_or b c) d ∷ bit_or (bit_or a c) d ∷ bit_or c d ∷ bit_or (bit_or a b) d ∷ bit_or b d ∷ bit_or a d ∷ d
@@ -136,26 +79,11 @@ table_is a b c d = refl
 own_past : (C : ℕ) (masks : List ℕ) (c : ℕ) → C ≤ c → 0 ≡ get_or (take C masks) c 0
 own_past C masks c h = sym (get_or-eq_default (take C masks) 0 (omega (arith, length-take C masks)))
 
-own_part : (C : ℕ) (masks : List ℕ) → take (min C (length masks)) masks ≡ take C masks
-own_part C masks = go (dec_lt C (length masks))
-  where
-    go : Dec (C < length masks) → take (min C (length masks)) masks ≡ take C masks
-    go (yes h) = let e : min C (length masks) ≡ C = omega arith in rw e
-    go (no h) =
-        let e : min C (length masks) ≡ length masks = omega arith in
-        rw e (take-length masks ∙ sym (take_all C masks (omega arith)))
-
-module _ (C : ℕ) (masks : List ℕ) (n : ℕ) (there : n ≡ min C (length masks)) where
-  pub part_length : n ≡ length (take n masks)
-  part_length = omega (arith, length-take n masks)
-
-  -- `held_group`: the table of the four masks from `first` on is `held_group`
-  pub group_is : (first a b c d : ℕ) (r : List ℕ) → a ≡ get_or (take n masks) first 0 → b ≡ get_or (take n masks) (first + 1) 0 →
-      c ≡ get_or (take n masks) (first + 2) 0 → d ≡ get_or (take n masks) (first + 3) 0 → r ≡ held_table a b c d → r ≡ held_group (take C masks) first
-  unfolding held_group
-  group_is first a b c d r p q s t e =
-      let o : take n masks ≡ take C masks = rw there (own_part C masks) in
-      e ∙ rw (p, q, s, t, o)
+-- `held_group`: the table of the four masks from `first` on is `held_group`
+pub group_is : (C : ℕ) (masks own : List ℕ) → own ≡ take C masks → (first a b c d : ℕ) (r : List ℕ) → a ≡ get_or own first 0 → b ≡ get_or own (first + 1) 0 →
+    c ≡ get_or own (first + 2) 0 → d ≡ get_or own (first + 3) 0 → r ≡ held_table a b c d → r ≡ held_group (take C masks) first
+unfolding held_group
+group_is C masks own o first a b c d r p q s t e = e ∙ rw (p, q, s, t, o)
 
 -- no controller from `first` on
 -- `held_top`, at most eight controllers: sixteen zeros are `held_group`
@@ -220,7 +148,7 @@ module _ (C : ℕ) (masks : List ℕ) (prior s : ℕ) where
   broken_of n few =
       broken_touched C masks prior s
       ∙ (some_cong (λ (j : ℕ). not (bit_of marks j) && touched (get_or masks j 0) differing) broke C 0 (λ j a b. rw (get_or-take C masks j 0 (omega arith)))
-      ∙ some_more broke C n 0 few (λ j h. rw (← own_past C masks j (omega arith)) (and_none (not (bit_of marks j)))))
+      ∙ some_more broke C n 0 few (λ j h. rw (← own_past C masks j (omega arith)) (and-false (not (bit_of marks j)))))
 
   -- the table of the four controllers from `first` on, looked up by their marks w
   group_broken : (first w : ℕ) → ((k : ℕ) → bit_of w k ≡ bit_of marks (first + k)) → touched (get_or (held_group own first) (w % 16) 0) differing ≡ some_of 4 first broke
@@ -247,58 +175,48 @@ module _ (C : ℕ) (masks : List ℕ) (prior s : ℕ) where
   eight_broken : touched (held_of_eight (held_group own 0) (held_group own 4) marks) differing ≡ some_of 8 0 broke
   eight_broken =
       touched_or (get_or (held_group own 0) (marks % 16) 0) (get_or (held_group own 4) (marks / 16 % 16) 0) differing
-      ∙ rw (low_four, high_four) (simp or_group)
+      ∙ rw (low_four, high_four) (simp or_assoc)
 
   twelve_broken : touched (bit_or (held_of_eight (held_group own 0) (held_group own 4) marks) (get_or (held_group own 8) (marks / 256 % 16) 0)) differing ≡ some_of 12 0 broke
   twelve_broken =
       touched_or (held_of_eight (held_group own 0) (held_group own 4) marks) (get_or (held_group own 8) (marks / 256 % 16) 0) differing
-      ∙ rw (eight_broken, top_four) (simp or_group)
+      ∙ rw (eight_broken, top_four) (simp or_assoc)
 
-  tables_broken : C ≤ max_controllers → held_changed (held_at C (held_group own 0) (held_group own 4) (held_group own 8) marks) prior s ≡ output_broken C masks prior s
+  tables_broken : C ≤ max_controllers → (t : Tables) → TablesOf own t → held_changed (held_at C t marks) prior s ≡ output_broken C masks prior s
   unfolding held_at held_changed
-  tables_broken few =
-      by_test (leb C 8)
+  tables_broken few t of =
+      rw (of.low, of.high, of.top)
+      (by_test (leb C 8)
       (λ e. rw (pick_true {A = ℕ} (leb C 8) (held_of_eight (held_group own 0) (held_group own 4) marks) _ e) (eight_broken ∙ sym (broken_of 8 (leb-true C 8 e))))
-      (λ e. rw (pick_false {A = ℕ} (leb C 8) (held_of_eight (held_group own 0) (held_group own 4) marks) _ e) (twelve_broken ∙ sym (broken_of 12 (omega arith))))
+      (λ e. rw (pick_false {A = ℕ} (leb C 8) (held_of_eight (held_group own 0) (held_group own 4) marks) _ e) (twelve_broken ∙ sym (broken_of 12 (omega arith)))))
 
   masks_broken : held_changed (held_by C masks marks) prior s ≡ output_broken C masks prior s
   unfolding held_by held_changed
   masks_broken = touched_from C 0 0 masks marks differing ∙ sym (broken_touched C masks prior s)
 
 -- the atoms that a state holds, of the tables of its recording
-pub held_broken : (C : ℕ) (masks : List ℕ) (prior s : ℕ) → C ≤ max_controllers → (low high top : List ℕ) →
-    low ≡ held_group (take C masks) 0 → high ≡ held_group (take C masks) 4 → top ≡ held_group (take C masks) 8 →
-    (marks held : ℕ) → marks ≡ marks_of prior → held ≡ held_at C low high top marks → held_changed held prior s ≡ output_broken C masks prior s
-held_broken C masks prior s few low high top l h t marks held m e = rw (e, l, h, t, m) (tables_broken C masks prior s few)
+pub held_broken : (C : ℕ) (masks : List ℕ) (prior s : ℕ) → C ≤ max_controllers → (t : Tables) → TablesOf (take C masks) t →
+    (marks held : ℕ) → marks ≡ marks_of prior → held ≡ held_at C t marks → held_changed held prior s ≡ output_broken C masks prior s
+held_broken C masks prior s few t of marks held m e = rw (e, m) (tables_broken C masks prior s few t of)
 
 -- `output_broken`: that an atom held by the prior state differs is `output_broken`
 pub broken_is : (C : ℕ) (masks : List ℕ) (prior s marks held : ℕ) → marks ≡ marks_of prior → held ≡ held_by C masks marks →
     (r : Bool) → r ≡ held_changed held prior s → r ≡ output_broken C masks prior s
 broken_is C masks prior s marks held m e r d = d ∙ rw (e, m) (masks_broken C masks prior s)
 
--- ---- `held_at`
--- `held_at`, at most eight controllers: two tables give `held_at`
-pub at_few : (C : ℕ) (low high top : List ℕ) (marks : ℕ) → C ≤ 8 → bit_or (get_or low (marks % 16) 0) (get_or high (marks / 16 % 16) 0) ≡ held_at C low high top marks
+-- ---- `Tables::at`
+-- `Tables::at`, at most eight controllers: two tables give `held_at`
+pub at_few : (C : ℕ) (t : Tables) (marks : ℕ) → C ≤ 8 → bit_or (get_or t.low (marks % 16) 0) (get_or t.high (marks / 16 % 16) 0) ≡ held_at C t marks
 unfolding held_at pick
-at_few C low high top marks h = rw (le-leb C 8 h)
+at_few C t marks h = rw (le-leb C 8 h)
 
--- `held_at`, more than eight controllers: three tables give `held_at`
-pub at_many : (C : ℕ) (low high top : List ℕ) (marks : ℕ) → 8 < C →
-    bit_or (bit_or (get_or low (marks % 16) 0) (get_or high (marks / 16 % 16) 0)) (get_or top (marks / 256 % 16) 0) ≡ held_at C low high top marks
+-- `Tables::at`, more than eight controllers: three tables give `held_at`
+pub at_many : (C : ℕ) (t : Tables) (marks : ℕ) → 8 < C →
+    bit_or (bit_or (get_or t.low (marks % 16) 0) (get_or t.high (marks / 16 % 16) 0)) (get_or t.top (marks / 256 % 16) 0) ≡ held_at C t marks
 unfolding held_at pick
-at_many C low high top marks h = rw (lt-leb C 8 h)
+at_many C t marks h = rw (lt-leb C 8 h)
 
 -- ---- the function `held_by`
--- `held_with`, the controller ran: `held_with` is what was held
-pub with_ran : (held mask : ℕ) (ran : Bool) → ran ≡ true → held ≡ held_with held mask ran
-unfolding held_with pick
-with_ran held mask ran e = rw e
-
--- `held_with`, the controller didn't run: `held_with` has its mask too
-pub with_held : (held mask : ℕ) (ran : Bool) → ran ≡ false → bit_or held mask ≡ held_with held mask ran
-unfolding held_with pick
-with_held held mask ran e = rw e
-
 -- what is left to hold at controller c
 pub record HeldLeft (C : ℕ) (masks : List ℕ) (marks held c : ℕ) : Type 0 where
   pub within : c ≤ C
@@ -325,20 +243,28 @@ none_held zero c held masks marks h = refl
 none_held (suc n) c held masks marks h =
     rw (get_or-eq_default masks 0 h, or_zero_r held, pick_same (bit_of marks c) held) (none_held n (c + 1) held masks marks (omega arith))
 
-module _ (C : ℕ) (masks : List ℕ) (marks held c n : ℕ) (inv : HeldLeft C masks marks held c) (there : n ≡ min C (length masks)) where
+module _ (C : ℕ) (masks own : List ℕ) (o : own ≡ take C masks) (marks held c : ℕ) (inv : HeldLeft C masks marks held c) where
+  there : length own ≡ min C (length masks)
+  there = ap length o ∙ length-take C masks
+
   -- the function, a turn: with controller c, the definition `held_by` is left from the next one on
-  pub by_next : c < n → (held' : ℕ) → held' ≡ held_with held (get_or masks c 0) (eqb (marks / 2 ^ c % 2) 1) → HeldLeft C masks marks held' (c + 1)
-  unfolding held_from bit_of
+  pub by_next : c < length own → (held' : ℕ) → held' ≡ pick (eqb (marks / 2 ^ c % 2) 1) held (bit_or held (get_or own c 0)) → HeldLeft C masks marks held' (c + 1)
+  unfolding held_from held_with bit_of
   by_next h held' e =
+      let few : c < C = omega (arith, there) in
       let one : C - c ≡ suc (C - (c + 1)) = omega arith in
-      record { within = omega arith; left = inv.left ∙ rw (one, e) }
+      let same : get_or own c 0 ≡ get_or masks c 0 = rw o (get_or-take C masks c 0 few) in
+      let step : held' ≡ pick (eqb (marks / 2 ^ c % 2) 1) held (bit_or held (get_or masks c 0)) = e ∙ rw same in
+      record { within = omega arith; left = inv.left ∙ rw (one, step) }
 
   -- the function, no mask is left: what is held is the definition `held_by`
-  pub by_end : n ≤ c → held ≡ held_by C masks marks
+  pub by_end : length own ≤ c → held ≡ held_by C masks marks
   by_end h = go (dec_lt c C)
     where
       go : Dec (c < C) → held ≡ held_by C masks marks
-      go (yes l) = sym (inv.left ∙ none_held (C - c) c held masks marks (omega arith))
+      go (yes l) = sym (inv.left ∙ none_held (C - c) c held masks marks (omega (arith, there)))
       go (no l) = all_held C masks marks held c inv (omega arith)
 
-pub ruleset held_laws = (rules, changed_is, table_is, part_length, group_is, group_none, at_few, at_many, broken_is, with_ran, with_held, by_start, by_next, by_end)
+pub ruleset held_laws = (rules, table_is, group_is, group_none)
+
+pub ruleset by_laws = (rules, by_start, by_next, by_end)

@@ -1,5 +1,5 @@
 pub mod WordLaws
-pub mod TurnLaws
 pub mod MaskLaws
+pub mod NumberLaws
 pub mod HeldLaws
 pub mod CheckLaws

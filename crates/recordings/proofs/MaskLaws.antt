@@ -1,54 +1,19 @@
 -- A mask meets an earlier mask where it meets the union of them.
-use mathlib.Core.Path.{◌≡◌, refl, sym, ap, ◌∙◌}
-use Prim.Native.Nat.{ℕ, zero, suc, ◌+◌, ◌-◌, ◌/◌, ◌%◌, ◌≤◌, ◌<◌, min, max}
-use native.Mathlib.Omega.{arith}
+use Rattle.std.proofs.Common.{rules, ℕ, ◌+◌, ◌≤◌, ◌<◌, ◌≡◌, refl, sym, ap, ◌∙◌, Bool, not, ◌||◌, List, [], ◌∷◌, length, drop, get_or, drop_of_length-le, drop-cons, add-one, arith, eq-eqb, ne_eqb, eqb}
+use Rattle.std.specs.Int.Bits.{bit_and, bit_or, or_add_and, and_le_l, and_le_r}
+use Rattle.std.proofs.lemmas.Nat.Bits.{same_from_bits, bit_at_and, bit_at_or}
 use native.Mathlib.Decide.{ℕ_discrete}
-use mathlib.Core.Bool.{Bool, true, false, not, ◌||◌}
-use mathlib.Core.List.{List, [], ◌∷◌}
-use lib.Arith.{bin_ind}
-use lib.Dec.{eqb}
-use lib.ListN.{length, take, drop, get_or}
-use lib.Bits.{bit_and, bit_or, and_step, or_step, or_zero_l, and_shr, or_shr, and_mod, or_mod, or_add_and, and_le_l, and_le_r}
-use borrow.Author.Tests.{eq-eqb, ne_eqb}
-use Rattle.definitions.specs.Limits.{masks_meet, accepted}
-use Rattle.definitions.specs.Bounded.{pick}
+use Rattle.definitions.specs.Limits.{accepted}
+use Rattle.definitions.specs.Bounded.{or_else}
 use Rattle.definitions.specs.Recordings.{meets, mask_refusal, masks_refusal}
+use Rattle.rules.specs.Refusals.{number_of}
+use Rattle.rules.specs.declared.refusal.Refusal.{Refusal}
+use Rattle.rules.proofs.RefusalLaws.{first_refusal, next_refusal}
 use Rattle.recordings.specs.Unions.{union_of, union_refusal, unions_refusal}
-use Rattle.recordings.proofs.TurnLaws.{or_else_stop, or_else_go, from_next, from_missing, from_end}
-
-low_digit : (x y z : ℕ) → x < 2 → y < 2 → z < 2 → min (bit_or x y) z ≡ max (bit_and x z) (bit_and y z)
-low_digit zero zero zero a b c = refl
-low_digit zero zero (suc zero) a b c = refl
-low_digit zero (suc zero) zero a b c = refl
-low_digit zero (suc zero) (suc zero) a b c = refl
-low_digit (suc zero) zero zero a b c = refl
-low_digit (suc zero) zero (suc zero) a b c = refl
-low_digit (suc zero) (suc zero) zero a b c = refl
-low_digit (suc zero) (suc zero) (suc zero) a b c = refl
-low_digit (suc (suc x)) y z a b c = absurd (omega arith)
-low_digit zero (suc (suc y)) z a b c = absurd (omega arith)
-low_digit (suc zero) (suc (suc y)) z a b c = absurd (omega arith)
-low_digit zero zero (suc (suc z)) a b c = absurd (omega arith)
-low_digit zero (suc zero) (suc (suc z)) a b c = absurd (omega arith)
-low_digit (suc zero) zero (suc (suc z)) a b c = absurd (omega arith)
-low_digit (suc zero) (suc zero) (suc (suc z)) a b c = absurd (omega arith)
 
 -- the common atoms of a union are the union of the common atoms
 pub and_or : (a b m : ℕ) → bit_and (bit_or a b) m ≡ bit_or (bit_and a m) (bit_and b m)
-and_or = bin_ind (λ (a : ℕ). (b m : ℕ) → bit_and (bit_or a b) m ≡ bit_or (bit_and a m) (bit_and b m))
-    (λ b m. rw or_zero_l)
-    (λ a ih b m. rw (
-      and_step (bit_or a b) m,
-      or_step (bit_and a m) (bit_and b m),
-      or_shr a b 1,
-      or_mod a b 1,
-      and_shr a m 1,
-      and_mod a m 1,
-      and_shr b m 1,
-      and_mod b m 1,
-      ih (b / 2) (m / 2),
-      low_digit (a % 2) (b % 2) (m % 2) (omega arith) (omega arith) (omega arith),
-    ))
+and_or a b m = same_from_bits _ _ (λ i. rw (bit_at_and (bit_or a b) m i, bit_at_or a b i, bit_at_or (bit_and a m) (bit_and b m) i, bit_at_and a m i, bit_at_and b m i) (omega arith))
 
 -- a union is empty where both parts are
 pub some_atom : (x y : ℕ) → (not (eqb y 0) || not (eqb x 0)) ≡ not (eqb (bit_or x y) 0)
@@ -77,45 +42,33 @@ unfolding masks_refusal unions_refusal union_of
 masks_union earlier [] = refl
 masks_union earlier (m ∷ ms) = rw (mask_union earlier m, masks_union (m ∷ earlier) ms)
 
-pick_not : (a : Bool) (x y : ℕ) → pick (not a) x y ≡ pick a y x
-unfolding pick
-pick_not true x y = refl
-pick_not false x y = refl
-
 -- ---- each mask in its turn
--- `mask_refusal`: the pick by the atoms in common is `union_refusal`
-pub mask_is : (seen m r : ℕ) → r ≡ pick (eqb (bit_and seen m) 0) accepted masks_meet → r ≡ union_refusal seen m
-unfolding union_refusal
-mask_is seen m r e = e ∙ sym (pick_not (eqb (bit_and seen m) 0) masks_meet accepted)
+-- what is left to check at mask c of these, with the atoms seen so far
+pub record MasksLeft (ms : List ℕ) (seen c : ℕ) : Type 0 where
+  pub left : masks_refusal [] ms ≡ unions_refusal seen (drop c ms)
 
--- what is left to check at mask c, with the atoms seen so far
-pub record MasksLeft (C : ℕ) (masks : List ℕ) (seen c : ℕ) : Type 0 where
-  pub within : c ≤ C
-  pub left : masks_refusal [] (take C masks) ≡ unions_refusal seen (take (C - c) (drop c masks))
-
--- `masks_refusal`, before mask 0: all of `masks_refusal` is left
-pub masks_start : (C : ℕ) (masks : List ℕ) → MasksLeft C masks 0 0
+-- `check_masks`, before mask 0: all of `masks_refusal` is left
+pub masks_start : (ms : List ℕ) → MasksLeft ms 0 0
 unfolding union_of
-masks_start C masks = let z : C - 0 ≡ C = omega arith in record { within = omega arith; left = rw z (masks_union [] (take C masks)) }
+masks_start ms = record { left = masks_union [] ms }
 
-module _ (C : ℕ) (masks : List ℕ) (seen c : ℕ) (inv : MasksLeft C masks seen c) where
-  -- `masks_refusal`, mask c is missing: `masks_refusal` is 0
-  pub masks_missing : length masks ≤ c → 0 ≡ masks_refusal [] (take C masks)
+module _ (ms : List ℕ) (seen c : ℕ) (inv : MasksLeft ms seen c) where
+  -- `check_masks`, no mask is left: `masks_refusal` is 0
+  pub masks_end : length ms ≤ c → accepted ≡ masks_refusal [] ms
   unfolding unions_refusal
-  masks_missing h = sym (inv.left ∙ rw (from_missing C masks c h))
+  masks_end h = sym (inv.left ∙ rw (drop_of_length-le ms h))
 
-  -- `masks_refusal`, no mask is left: `masks_refusal` is 0
-  pub masks_end : C ≤ c → 0 ≡ masks_refusal [] (take C masks)
-  unfolding unions_refusal
-  masks_end h = sym (inv.left ∙ rw (from_end C masks c h))
-
-  module _ (h : c < C) (l : c < length masks) (r : ℕ) (e : r ≡ union_refusal seen (get_or masks c 0)) where
-    -- `masks_refusal`, mask c meets an earlier one: its number is `masks_refusal`
-    pub masks_refused_lem : (r ≡ 0 → ⊥) → r ≡ masks_refusal [] (take C masks)
+  module _ (h : c < length ms) where
+    here : unions_refusal seen (drop c ms) ≡ or_else (union_refusal seen (get_or ms c 0)) (unions_refusal (bit_or seen (get_or ms c 0)) (drop (c + 1) ms))
     unfolding unions_refusal
-    masks_refused_lem z = sym (inv.left ∙ rw (from_next C masks c h l, ← e, or_else_stop r _ z))
+    here = rw (drop-cons ms c 0 h, add-one c)
 
-    -- `masks_refusal`, mask c meets none: `masks_refusal` is left from the next mask on
-    pub masks_next : r ≡ 0 → MasksLeft C masks (bit_or seen (get_or masks c 0)) (c + 1)
-    unfolding unions_refusal
-    masks_next z = record { within = omega arith; left = inv.left ∙ rw (from_next C masks c h l, ← e, or_else_go r _ z) }
+    -- `check_masks`, mask c meets an earlier one: its number is `masks_refusal`
+    pub masks_refused : (e : Refusal) → number_of e ≡ union_refusal seen (get_or ms c 0) → number_of e ≡ masks_refusal [] ms
+    masks_refused e r = first_refusal e _ _ r ∙ sym (inv.left ∙ here)
+
+    -- `check_masks`, mask c meets none: `masks_refusal` is left from the next mask on
+    pub masks_next : accepted ≡ union_refusal seen (get_or ms c 0) → MasksLeft ms (bit_or seen (get_or ms c 0)) (c + 1)
+    masks_next a = record { left = inv.left ∙ here ∙ sym (next_refusal _ _ _ a refl) }
+
+pub ruleset mask_laws = (rules, masks_start, masks_end, masks_refused, masks_next)

@@ -1,7 +1,7 @@
--- A recording's heading with its masks and states.
-use Rattle.std.specs.Prelude.{List, ℕ}
-use Rattle.definitions.specs.Recordings.{Recording, recording_of}
-use Rattle.recordings.specs.declared.heading.RecordingHeading.{RecordingHeading}
+-- What a recording that is handed over means.
+use Rattle.definitions.specs.Recordings as given
+use Rattle.definitions.specs.Recordings.{recording_of}
+use Rattle.recordings.specs.declared.heading.Recording.{Recording}
 
-abbrev pub recording_in : RecordingHeading → List ℕ → List ℕ → Recording
-recording_in h masks states = recording_of h.controllers h.count masks states
+abbrev pub recording_in : Recording → given.Recording
+recording_in r = recording_of r.controllers r.count r.masks.now r.states.now

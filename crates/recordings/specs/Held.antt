@@ -1,8 +1,9 @@
 -- Held atoms: own atoms of the controllers that don't run in a state; the next state may not change them.
-use Rattle.std.specs.Prelude.{ℕ, zero, suc, ◌+◌, ◌/◌, ◌%◌, Bool, not, List, [], ◌∷◌, get_or, eqb, leb}
+use Rattle.std.specs.Prelude.{◌≡◌, ℕ, zero, suc, ◌+◌, ◌/◌, ◌%◌, Bool, not, List, [], ◌∷◌, get_or, eqb, leb}
 use Rattle.std.specs.Int.Bits.{bit_and, bit_or, bit_xor}
 use Rattle.definitions.specs.Bounded.{pick, bit_of}
 use Rattle.definitions.specs.Recordings.{atoms_of}
+use Rattle.recordings.specs.declared.held.Tables.{Tables}
 
 -- a mask is held where its controller does not run
 unfoldable pub held_with : ℕ → ℕ → Bool → ℕ
@@ -35,8 +36,14 @@ abbrev pub held_of_eight : (low high : List ℕ) (marks : ℕ) → ℕ
 held_of_eight low high marks = bit_or (get_or low (marks % 16) 0) (get_or high (marks / 16 % 16) 0)
 
 -- the atoms that C controllers hold, where there are more than eight with the table of the last ones
-unfoldable pub held_at : (C : ℕ) (low high top : List ℕ) (marks : ℕ) → ℕ
-held_at C low high top marks = pick (leb C 8) (held_of_eight low high marks) (bit_or (held_of_eight low high marks) (get_or top (marks / 256 % 16) 0))
+unfoldable pub held_at : (C : ℕ) (t : Tables) (marks : ℕ) → ℕ
+held_at C t marks = pick (leb C 8) (held_of_eight t.low t.high marks) (bit_or (held_of_eight t.low t.high marks) (get_or t.top (marks / 256 % 16) 0))
+
+-- the tables of these masks
+pub record TablesOf (masks : List ℕ) (t : Tables) : Type 0 where
+  pub low : t.low ≡ held_group masks 0
+  pub high : t.high ≡ held_group masks 4
+  pub top : t.top ≡ held_group masks 8
 
 -- a held atom differs in two states
 unfoldable pub held_changed : ℕ → ℕ → ℕ → Bool

@@ -1,34 +1,25 @@
 // Held atoms: own atoms of the controllers that don't run in a state, which the next state may not change.
-ghost use Rattle.std.specs.Prelude.{◌≡◌, ◌≤◌, length, take};
+ghost use Rattle.std.specs.Prelude.{◌≡◌, ◌≤◌, take};
 ghost use Rattle.definitions.specs.Limits.{max_controllers};
 ghost use Rattle.definitions.specs.Recordings.{output_broken};
-ghost use Rattle.recordings.specs.Held.{held_with, held_by, held_table, held_group, held_at, held_changed};
+ghost use Rattle.recordings.specs.Held.{held_by, held_table, held_group, held_at, held_changed, TablesOf};
 
+use super::entries::counted;
 use super::masks::mask_at;
 use super::state::{atoms_of, marks_of};
-use rules::choice::least;
+use rules::choice::pick;
 
 // Four run marks each look up a table: two tables serve this many controllers.
 const TWO_TABLES: usize = 8;
-
-fn held_with(held: u32, mask: u32, ran: bool) -> u32
-    ensures { result ≡ held_with held mask ran }
-{
-    if ran {
-        return held;
-    }
-    held | mask
-}
 
 // The atoms that a state of these run marks holds, from one mask to the next: for a single state, where a table wouldn't pay.
 fn held_by(controllers: usize, masks: &[u32], marks: u64) -> u32
     requires { controllers ≤ max_controllers }
     ensures { result ≡ held_by controllers masks.now marks }
 {
-    let count = least(controllers, masks.len());
     let mut held: u32 = 0;
-    for c in 0..count {
-        held = held_with(held, masks[c], (marks >> c) % 2 == 1);
+    for (c, mask) in counted(controllers, masks).iter().enumerate() {
+        held = pick((marks >> c) % 2 == 1, held, held | *mask);
     }
     held
 }
@@ -58,12 +49,11 @@ fn held_table(a: u32, b: u32, c: u32, d: u32) -> [u32; 16]
 }
 
 // The table of the four controllers from `first` on; those past the last have no atoms.
-pub fn held_group(controllers: usize, masks: &[u32], first: usize) -> [u32; 16]
+fn held_group(controllers: usize, masks: &[u32], first: usize) -> [u32; 16]
     requires { first ≤ max_controllers }
     ensures { result ≡ held_group (take controllers masks.now) first }
 {
-    let count = least(controllers, masks.len());
-    let own = &masks[..count];
+    let own = counted(controllers, masks);
     let a = mask_at(own, first);
     let b = mask_at(own, first + 1);
     let c = mask_at(own, first + 2);
@@ -72,7 +62,7 @@ pub fn held_group(controllers: usize, masks: &[u32], first: usize) -> [u32; 16]
 }
 
 // The third table, of controllers 8 to 10: nothing where there are none.
-pub fn held_top(controllers: usize, masks: &[u32]) -> [u32; 16]
+fn held_top(controllers: usize, masks: &[u32]) -> [u32; 16]
     ensures { result ≡ held_group (take controllers masks.now) 8 }
 {
     if controllers <= TWO_TABLES {
@@ -81,16 +71,35 @@ pub fn held_top(controllers: usize, masks: &[u32]) -> [u32; 16]
     held_group(controllers, masks, TWO_TABLES)
 }
 
-// Looked up by the marks of controllers 0 to 3, of 4 to 7 and of 8 to 10, so that no branch depends on them.
-pub fn held_at(controllers: usize, low: &[u32], high: &[u32], top: &[u32], marks: u64) -> u32
-    requires { (16 ≤ length low.now) × (16 ≤ length high.now) × (16 ≤ length top.now) }
-    ensures { result ≡ held_at controllers low.now high.now top.now marks }
-{
-    let held = low[(marks % 16) as usize] | high[(marks / 16 % 16) as usize];
-    if controllers <= TWO_TABLES {
-        return held;
+// What the controllers of a recording hold: of 0 to 3, of 4 to 7 and of 8 to 10.
+#[derive(Clone, Copy)]
+pub struct Tables {
+    pub low: [u32; 16],
+    pub high: [u32; 16],
+    pub top: [u32; 16],
+}
+
+impl Tables {
+    pub fn new(controllers: usize, masks: &[u32]) -> Tables
+        ensures { TablesOf (take controllers masks.now) result }
+    {
+        Tables {
+            low: held_group(controllers, masks, 0),
+            high: held_group(controllers, masks, 4),
+            top: held_top(controllers, masks),
+        }
     }
-    held | top[(marks / 256 % 16) as usize]
+
+    // Looked up by run marks, so that no branch depends on them.
+    pub fn at(&self, controllers: usize, marks: u64) -> u32
+        ensures { result ≡ held_at controllers self.now marks }
+    {
+        let held = self.low[(marks % 16) as usize] | self.high[(marks / 16 % 16) as usize];
+        if controllers <= TWO_TABLES {
+            return held;
+        }
+        held | self.top[(marks / 256 % 16) as usize]
+    }
 }
 
 pub fn held_changed(held: u32, prior: u64, state: u64) -> bool

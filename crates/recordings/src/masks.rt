@@ -3,35 +3,29 @@ ghost use Rattle.std.specs.Prelude.{◌≡◌, [], ◌<◌, take, get_or};
 ghost use Rattle.definitions.specs.Limits.{word_marks};
 ghost use Rattle.definitions.specs.Bounded.{bit_of};
 ghost use Rattle.definitions.specs.Recordings.{masks_refusal};
+ghost use Rattle.rules.specs.Refusals.{refusal_in};
 ghost use Rattle.recordings.specs.Unions.{union_refusal};
 
-use rules::choice::pick;
-use rules::limits::Refusal;
+use super::entries::counted;
+use rules::refusal::{Refusal, unless};
 
 // One mask against `seen`, the union of the earlier ones.
-pub fn mask_refusal(seen: u32, mask: u32) -> u8
-    ensures { result ≡ union_refusal seen mask }
+pub fn check_mask(seen: u32, mask: u32) -> Result<(), Refusal>
+    ensures { refusal_in result ≡ union_refusal seen mask }
 {
-    pick(seen & mask == 0, Refusal::NONE, Refusal::MASKS_MEET)
+    unless(Refusal::MasksMeet, seen & mask == 0)
 }
 
 // The masks that are there, in order.
-pub fn masks_refusal(controllers: usize, masks: &[u32]) -> u8
-    ensures { result ≡ masks_refusal [] (take controllers masks.now) }
+pub fn check_masks(controllers: usize, masks: &[u32]) -> Result<(), Refusal>
+    ensures { refusal_in result ≡ masks_refusal [] (take controllers masks.now) }
 {
     let mut seen: u32 = 0;
-    for c in 0..controllers {
-        if masks.len() <= c {
-            return Refusal::NONE;
-        }
-        let mask = masks[c];
-        let refusal = mask_refusal(seen, mask);
-        if refusal != Refusal::NONE {
-            return refusal;
-        }
-        seen = seen | mask;
+    for mask in counted(controllers, masks) {
+        check_mask(seen, *mask)?;
+        seen = seen | *mask;
     }
-    Refusal::NONE
+    Ok(())
 }
 
 // "bit a is atom a". An operand that is no atom may be asked for too: a word of 64 bits has its bit.
@@ -46,8 +40,5 @@ pub fn is_own(mask: u32, a: usize) -> bool
 pub fn mask_at(masks: &[u32], c: usize) -> u32
     ensures { result ≡ get_or masks.now c 0 }
 {
-    if c < masks.len() {
-        return masks[c];
-    }
-    0
+    masks.get(c).copied().unwrap_or(0)
 }

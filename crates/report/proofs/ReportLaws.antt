@@ -1,55 +1,27 @@
 -- Laws of what is printed: one for each call that wants room, and for each return.
 use mathlib.Core.Path.{◌≡◌, refl, sym, ap}
-use mathlib.Core.Bool.{Bool, true, false, ◌&&◌, true≢false}
 use mathlib.Core.List.{List, [], ◌∷◌, ◌++◌, append_assoc}
-use Prim.Native.Nat.{ℕ, ◌+◌, ◌<◌, ◌≤◌}
+use Prim.Native.Nat.{ℕ, ◌+◌, ◌-◌, ◌<◌, ◌≤◌}
 use native.Mathlib.Omega.{arith}
-use lib.ListN.{length, take, length-append}
-use lib.Seq.{length-take-le}
+use lib.ListN.{length, take, drop, length-append, length-take, length-drop}
 use borrow.Author.Rules.{rules}
 use Rattle.definitions.specs.Limits.{max_input_bytes}
-use Rattle.definitions.specs.Lines.{bytes, tab, newline, digits}
-use Rattle.definitions.specs.Program.{yes_no, refused_word, local_word, own_word, plain_word, short_word, local_text, refused_text}
-use Rattle.theorems.proofs.Choice.{by_test}
+use Rattle.definitions.specs.Lines.{tab, newline, digits, line_of}
+use Rattle.definitions.specs.Program.{refused_word, local_word, own_word, plain_word, short_word, local_text, refused_text}
+use Rattle.lines.specs.Reading.{FirstLine}
+use Rattle.lines.specs.declared.Line.{Line}
+use Rattle.lines.proofs.PartLaws.{part_to_end}
 use Rattle.printing.specs.Printing.{Printed, counted_line}
 use Rattle.printing.proofs.PrintLaws.{digits_fit}
 use Rattle.printing.proofs.LineLaws.{first_room_lem, rest_room, both}
+use Rattle.rules.specs.Refusals.{number_of}
+use Rattle.rules.specs.declared.refusal.Refusal.{Refusal}
+use Rattle.rules.specs.declared.refusal.Refusal.TheVariants.{RuleForm, RuleLimits, RuleOperand, RuleLines, RecordingForm, RecordingLimits, MasksMeet, RecordingLines}
+use Rattle.rules.specs.declared.refusal.Refusal.TheVariants.{OutputRule, NoController, LentShort, InputLong, LineForm, BracketsDeep, SessionFull, SessionEmpty, SecondGauge, GaugeBitSet}
 use Rattle.judges.specs.declared.verdicts.Verdicts.{Verdicts}
 use Rattle.rewritten_judge.specs.declared.Rewritten.{Rewritten}
-use Rattle.report.specs.Reporting.{max_output_bytes, verdicts_end, Ends, own_line, rewritten_line, report_text}
+use Rattle.report.specs.Reporting.{max_output_bytes, verdicts_end, own_line, rewritten_line, report_text, LineRoom}
 use Rattle.report.specs.declared.Report.{Report}
-use Rattle.report.specs.declared.Ending.{Ending}
-
--- ---- `end_of`
-module _ (v : Verdicts) (bs : List ℕ) (n : ℕ) (there : n ≤ length bs) where
-  ends : (w s : Bool) → v.weak ≡ w → v.strong ≡ s → take n bs ≡ tab ∷ (yes_no w ++ (tab ∷ (yes_no s ++ (newline ∷ [])))) →
-      Ends (verdicts_end v) (record { bytes = bs; count = n })
-  unfolding verdicts_end
-  ends w s p q t = record { there = there; same = rw (p, q) t }
-
-  -- `end_of`, both yes: the ending is `verdicts_end`
-  pub yes_yes : (v.weak && v.strong) ≡ true → take n bs ≡ bytes "\tyes\tyes\n" → Ends (verdicts_end v) (record { bytes = bs; count = n })
-  yes_yes e t = by_test v.weak
-      (λ p. ends true true p (rw p at e) t)
-      (λ p. absurd (true≢false (sym (rw p at e))))
-
-  -- `end_of`, weak yes and strong no: the ending is `verdicts_end`
-  pub yes_no_lem : v.weak ≡ true → (v.weak && v.strong) ≡ false → take n bs ≡ bytes "\tyes\tno\n" → Ends (verdicts_end v) (record { bytes = bs; count = n })
-  yes_no_lem p e t = ends true false p (rw p at e) t
-
-  -- `end_of`, weak no and strong yes: the ending is `verdicts_end`
-  pub no_yes : v.weak ≡ false → v.strong ≡ true → take n bs ≡ bytes "\tno\tyes\n" → Ends (verdicts_end v) (record { bytes = bs; count = n })
-  no_yes p q t = ends false true p q t
-
-  -- `end_of`, both no: the ending is `verdicts_end`
-  pub no_no : v.weak ≡ false → v.strong ≡ false → take n bs ≡ bytes "\tno\tno\n" → Ends (verdicts_end v) (record { bytes = bs; count = n })
-  no_no p q t = ends false false p q t
-
-pub ruleset ending_laws = (rules, yes_yes, yes_no_lem, no_yes, no_no)
-
--- the bytes of an ending are as many as it says
-pub ending_counted : (l : List ℕ) (e : Ending) → Ends l e → e.count ≡ length (take e.count e.bytes)
-ending_counted l e h = sym (length-take-le e.count e.bytes h.there)
 
 -- ---- `put_own`
 module _ (v : Verdicts) (o : List ℕ) (at : ℕ) (room : at + length (own_line v) ≤ length o) where
@@ -60,29 +32,29 @@ module _ (v : Verdicts) (o : List ℕ) (at : ℕ) (room : at + length (own_line 
   pub own_word_lem : at + 3 ≤ length o
   own_word_lem = first_room_lem own_word (verdicts_end v) o at own_parts
 
-  module _ (e : Ending) (ended : Ends (verdicts_end v) e) (o' : List ℕ) (p : ℕ) (word : Printed own_word o at p o') where
-    pub own_end : length o' ≡ length o → p + length (take e.count e.bytes) ≤ length o'
-    own_end kept = rw ended.same (rest_room own_word (verdicts_end v) o at own_parts o' p word kept)
+  module _ (end : List ℕ) (ended : end ≡ verdicts_end v) (o' : List ℕ) (p : ℕ) (word : Printed own_word o at p o') where
+    pub own_end : length o' ≡ length o → p + length end ≤ length o'
+    own_end kept = rw ended (rest_room own_word (verdicts_end v) o at own_parts o' p word kept)
 
     -- `put_own`: the word and the ending are `own_line`
-    pub own_written : (o'' : List ℕ) (q : ℕ) → Printed (take e.count e.bytes) o' p q o'' → Printed (own_line v) o at q o''
+    pub own_written : (o'' : List ℕ) (q : ℕ) → Printed end o' p q o'' → Printed (own_line v) o at q o''
     unfolding own_line
-    own_written o'' q last = both own_word (verdicts_end v) o at own_parts o' p word o'' q (rw ended.same at last)
+    own_written o'' q last = both own_word (verdicts_end v) o at own_parts o' p word o'' q (rw ended at last)
 
-pub ruleset own_laws = (rules, ending_counted, own_word_lem, own_end, own_written)
+pub ruleset own_laws = (rules, own_word_lem, own_end, own_written)
 
 -- ---- `put_rewritten`
-module _ (word : List ℕ) (r : Rewritten) (e : Ending) (ended : Ends (verdicts_end r.verdicts) e) (o : List ℕ) (at : ℕ) where
-  pub rewritten_room : at + length (rewritten_line word r) ≤ length o → at + length (counted_line word r.count (take e.count e.bytes)) ≤ length o
+module _ (word : List ℕ) (r : Rewritten) (end : List ℕ) (ended : end ≡ verdicts_end r.verdicts) (o : List ℕ) (at : ℕ) where
+  pub rewritten_room : at + length (rewritten_line word r) ≤ length o → at + length (counted_line word r.count end) ≤ length o
   unfolding rewritten_line
-  rewritten_room room = rw ended.same room
+  rewritten_room room = rw ended room
 
   -- `put_rewritten`: the word, the count and the ending are `rewritten_line`
-  pub rewritten_written : (o' : List ℕ) (q : ℕ) → Printed (counted_line word r.count (take e.count e.bytes)) o at q o' → Printed (rewritten_line word r) o at q o'
+  pub rewritten_written : (o' : List ℕ) (q : ℕ) → Printed (counted_line word r.count end) o at q o' → Printed (rewritten_line word r) o at q o'
   unfolding rewritten_line
-  rewritten_written o' q p = rw ended.same at p
+  rewritten_written o' q p = rw ended at p
 
-pub ruleset rewritten_laws = (rules, ending_counted, rewritten_room, rewritten_written)
+pub ruleset rewritten_laws = (rules, rewritten_room, rewritten_written)
 
 -- ---- `put_report`
 module _ (v : Report) (o : List ℕ) (room : length (report_text v) ≤ length o) where
@@ -129,10 +101,10 @@ module _ (v : Report) (o : List ℕ) (room : length (report_text v) ≤ length o
 pub ruleset report_laws = (rules, report_local, report_own, report_plain, report_short, report_written)
 
 -- ---- `put_refused`
-module _ (n : ℕ) (line o : List ℕ) (room : length (refused_text n line) ≤ length o) where
-  refused_is : refused_text n line ≡ counted_line refused_word n (tab ∷ []) ++ (line ++ (newline ∷ []))
+module _ (m n : ℕ) (number : n ≡ m) (line o : List ℕ) (room : length (refused_text m line) ≤ length o) where
+  refused_is : refused_text m line ≡ counted_line refused_word n (tab ∷ []) ++ (line ++ (newline ∷ []))
   unfolding refused_text counted_line
-  refused_is = ap (λ (l : List ℕ). refused_word ++ (tab ∷ l)) (sym (append_assoc (digits n) (tab ∷ []) (line ++ (newline ∷ []))))
+  refused_is = rw (← number) (ap (λ (l : List ℕ). refused_word ++ (tab ∷ l)) (sym (append_assoc (digits n) (tab ∷ []) (line ++ (newline ∷ [])))))
 
   refused_parts : 0 + length (counted_line refused_word n (tab ∷ []) ++ (line ++ (newline ∷ []))) ≤ length o
   refused_parts = let h : length (counted_line refused_word n (tab ∷ []) ++ (line ++ (newline ∷ []))) ≤ length o = rw refused_is at room in omega arith
@@ -152,7 +124,7 @@ module _ (n : ℕ) (line o : List ℕ) (room : length (refused_text n line) ≤ 
       refused_end kept₂ = omega (arith, rest_room line (newline ∷ []) o₁ p refused_left o₂ q two kept₂)
 
       -- `put_refused`: the number, the line and the end of line are `refused_text`
-      pub refused_written : (o₃ : List ℕ) (e : ℕ) → Printed (newline ∷ []) o₂ q e o₃ → Printed (refused_text n line) o 0 e o₃
+      pub refused_written : (o₃ : List ℕ) (e : ℕ) → Printed (newline ∷ []) o₂ q e o₃ → Printed (refused_text m line) o 0 e o₃
       refused_written o₃ e three =
           rw refused_is (both (counted_line refused_word n (tab ∷ [])) (line ++ (newline ∷ [])) o 0 refused_parts o₁ p one o₃ e
           (both line (newline ∷ []) o₁ p refused_left o₂ q two o₃ e three))
@@ -160,13 +132,52 @@ module _ (n : ℕ) (line o : List ℕ) (room : length (refused_text n line) ≤ 
 pub ruleset refused_laws = (rules, refused_number, refused_line_lem, refused_end, refused_written)
 
 -- ---- how long a refusal is
-pub refused_length : (n : ℕ) (line : List ℕ) → n < 100 → length line ≤ max_input_bytes → length (refused_text n line) ≤ max_output_bytes
+pub number_few : (e : Refusal) → number_of e < 100
+number_few RuleForm = omega arith
+number_few RuleLimits = omega arith
+number_few RuleOperand = omega arith
+number_few RuleLines = omega arith
+number_few RecordingForm = omega arith
+number_few RecordingLimits = omega arith
+number_few MasksMeet = omega arith
+number_few RecordingLines = omega arith
+number_few OutputRule = omega arith
+number_few NoController = omega arith
+number_few LentShort = omega arith
+number_few InputLong = omega arith
+number_few LineForm = omega arith
+number_few BracketsDeep = omega arith
+number_few SessionFull = omega arith
+number_few SessionEmpty = omega arith
+number_few SecondGauge = omega arith
+number_few GaugeBitSet = omega arith
+
+pub refused_length : (e : Refusal) (line : List ℕ) → length line ≤ max_input_bytes → length (refused_text (number_of e) line) ≤ max_output_bytes
 unfolding refused_text
-refused_length n line h l =
+refused_length e line l =
+    let n = number_of e in
     omega (
       arith,
       length-append refused_word (tab ∷ (digits n ++ (tab ∷ (line ++ (newline ∷ []))))),
       length-append (digits n) (tab ∷ (line ++ (newline ∷ []))),
       length-append line (newline ∷ []),
-      digits_fit 1 n (omega arith),
+      digits_fit 1 n (number_few e),
     )
+
+-- ---- `put_stopped`
+module _ (text : List ℕ) (at : ℕ) (output : List ℕ) (room : LineRoom text at output) (l : Line) (first : FirstLine (take (length text - at) (drop at text)) l) where
+  abbrev rest : List ℕ
+  rest = take (length text - at) (drop at text)
+
+  line_is : take l.len rest ≡ line_of (drop at text)
+  line_is = let p = part_to_end text at in rw (first.length_is, p)
+
+  pub stopped_room : (e : Refusal) → length (refused_text (number_of e) (take l.len rest)) ≤ length output
+  stopped_room e = omega (arith, room.room, refused_length e (take l.len rest) (omega (arith, length-take l.len rest, length-take (length text - at) (drop at text), length-drop at text, room.fits)))
+
+  -- `put_stopped`: what is printed is the refusal of the line that begins there
+  pub stopped_written : (e : Refusal) (r : ℕ) (output' : List ℕ) → Printed (refused_text (number_of e) (take l.len rest)) output 0 r output' →
+      Printed (refused_text (number_of e) (line_of (drop at text))) output 0 r output'
+  stopped_written e r output' p = rw (← line_is) p
+
+pub ruleset stopped_laws = (rules, stopped_room, stopped_written)

@@ -10,8 +10,8 @@ use mir.Val.{Fits}
 use borrow.Author.Rules.{rules}
 use Rattle.definitions.specs.Limits.{max_states, max_table_nodes}
 use Rattle.definitions.specs.Nodes.{Node}
-use Rattle.definitions.specs.Tables.{Rule, nodes_in, rule_of}
-use Rattle.definitions.specs.Recordings.{Recording, recording_of, mask_of}
+use Rattle.definitions.specs.Tables.{Rule, nodes_in}
+use Rattle.definitions.specs.Recordings.{Recording, mask_of}
 use Rattle.definitions.specs.Projection.{local_trace}
 use Rattle.definitions.specs.Readings as readings
 use Rattle.definitions.specs.Readings.{whole}
@@ -33,12 +33,12 @@ use Rattle.report.specs.Reporting.{max_output_bytes, verdicts_end, own_line, rew
 use Rattle.report.specs.declared.Report.{Report}
 use Rattle.report.specs.Judged.{ReportIs}
 
-module _ (c k : ℕ) (nodes : List ℕ) (C N : ℕ) (masks states : List ℕ) (A : Accepted (rule_of c k nodes) (recording_of C N masks states)) where
-  pub tables_traced : TraceReady (recording_of C N masks states) c
+module _ (r : Rule) (R : Recording) (A : Accepted r R) where
+  pub tables_traced : TraceReady R r.controller
   tables_traced = record { recording = A.recording; controller = A.controller }
 
-  module _ (l : LocalTrace) (is : TraceIs (recording_of C N masks states) c l) where
-    pub tables_ready : LocalReady (rule_of c k nodes) l
+  module _ (l : LocalTrace) (is : TraceIs R r.controller l) where
+    pub tables_ready : LocalReady r l
     tables_ready = record { rule = A.rule; few = is.few; there = is.there }
 
     pub places_fit : Fits w32 l.count
@@ -114,15 +114,12 @@ module _ (r : Rule) (R : Recording) (A : Accepted r R) (v : Report) where
         )
 
 -- `judge_tables`: the report of these values is `judged_text`, and it fits
-pub reported : (c k : ℕ) (nodes : List ℕ) (C N : ℕ) (masks states : List ℕ) → Accepted (rule_of c k nodes) (recording_of C N masks states) →
-    (l : LocalTrace) → TraceIs (recording_of C N masks states) c l → (own : Verdicts) → meant own ≡ verdicts_on (rule_of c k nodes) l →
-    (plain short : Rewritten) → RewrittenIs false (rule_of c k nodes) (recording_of C N masks states) plain → RewrittenIs true (rule_of c k nodes) (recording_of C N masks states) short →
-    ReportIs (rule_of c k nodes) (recording_of C N masks states) (record { places = l.count; own = own; plain = plain; short = short })
-reported c k nodes C N masks states A l is own o plain short p s =
-    let r : Rule = rule_of c k nodes in
-    let R : Recording = recording_of C N masks states in
+pub reported : (r : Rule) (R : Recording) → Accepted r R → (l : LocalTrace) → TraceIs R r.controller l → (own : Verdicts) → meant own ≡ verdicts_on r l →
+    (plain short : Rewritten) → RewrittenIs false r R plain → RewrittenIs true r R short →
+    ReportIs r R (record { places = l.count; own = own; plain = plain; short = short })
+reported r R A l is own o plain short p s =
     let v : Report = record { places = l.count; own = own; plain = plain; short = short } in
-    let long : l.count ≡ length (local_trace R c) = trace_length R c l is in
+    let long : l.count ≡ length (local_trace R r.controller) = trace_length R r.controller l is in
     let same : meant own ≡ own_verdicts r R = o ∙ trace_verdicts r R l is in
     record { text = text_is r R A v long is.few same p s; fits = fits r R A v long is.few same p s }
 

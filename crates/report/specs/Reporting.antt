@@ -1,5 +1,5 @@
 -- What is printed of values, line by line.
-use Rattle.std.specs.Prelude.{ℕ, ◌+◌, ◌≤◌, ◌≡◌, List, ◌∷◌, ◌++◌, length, take}
+use Rattle.std.specs.Prelude.{ℕ, ◌+◌, ◌≤◌, List, ◌∷◌, ◌++◌, length}
 use Rattle.definitions.specs.Limits.{max_input_bytes}
 use Rattle.definitions.specs.Lines.{tab}
 use Rattle.definitions.specs.Program.{own_word, plain_word, short_word, local_text, verdicts_text}
@@ -8,7 +8,6 @@ use Rattle.judges.specs.Verdicts.{meant}
 use Rattle.judges.specs.declared.verdicts.Verdicts.{Verdicts}
 use Rattle.rewritten_judge.specs.declared.Rewritten.{Rewritten}
 use Rattle.report.specs.declared.Report.{Report}
-use Rattle.report.specs.declared.Ending.{Ending}
 
 -- the longest output: the word `refused`, a number of two digits, two tabs, byte 10 and a line that is all of the longest input
 abbrev pub max_output_bytes : ℕ
@@ -17,11 +16,6 @@ max_output_bytes = max_input_bytes + 12
 -- the verdicts that end a line, after a tab
 unfoldable pub verdicts_end : Verdicts → List ℕ
 verdicts_end v = tab ∷ verdicts_text (meant v)
-
--- e is how a line ends
-pub record Ends (end : List ℕ) (e : Ending) : Type 0 where
-  pub there : e.count ≤ length e.bytes
-  pub same : take e.count e.bytes ≡ end
 
 -- "`own yes no`"
 unfoldable pub own_line : Verdicts → List ℕ
@@ -34,3 +28,9 @@ rewritten_line word r = counted_line word r.count (verdicts_end r.verdicts)
 -- the four lines
 unfoldable pub report_text : Report → List ℕ
 report_text r = local_text r.places ++ (own_line r.own ++ (rewritten_line plain_word r.plain ++ rewritten_line short_word r.short))
+
+-- a line of a text begins at a byte, and there is space for its refusal
+pub record LineRoom (text : List ℕ) (at : ℕ) (output : List ℕ) : Type 0 where
+  pub inside : at ≤ length text
+  pub fits : length text ≤ max_input_bytes
+  pub room : max_output_bytes ≤ length output

@@ -5,18 +5,22 @@
 pub mod read;
 pub mod tables;
 
-ghost use Rattle.std.specs.Prelude.{◌+◌, ◌≤◌, length};
+ghost use Rattle.std.specs.Prelude.{◌≡◌, ◌+◌, ◌≤◌, length, drop};
+ghost use Rattle.definitions.specs.Lines.{line_of};
 ghost use Rattle.definitions.specs.Program.{refused_text};
 ghost use Rattle.printing.specs.Printing.{Printed};
-ghost use Rattle.report.specs.Reporting.{verdicts_end, Ends, own_line, rewritten_line, report_text};
+ghost use Rattle.report.specs.Reporting.{verdicts_end, own_line, rewritten_line, report_text, LineRoom};
+ghost use Rattle.rules.specs.Refusals.{number_of};
 
 use judges::verdicts::Verdicts;
-use lines::scan;
+use lines::{Stop, first_line, scan};
 use printing::{put, put_byte, put_line};
 use rewritten_judge::Rewritten;
+use rules::limits::Limits;
+use rules::refusal::Refusal;
 
-// The first byte of what is printed of a refusal, and of nothing else that a program prints.
-pub const REFUSED: u8 = b'r';
+// The bytes of the longest output: `refused`, a number of two digits, two tabs, byte 10 and a line that is all of the longest input.
+pub const OUTPUT_BYTES: usize = Limits::INPUT_BYTES + 12;
 
 // All that is printed of an accepted rule and recording.
 #[derive(Clone, Copy)]
@@ -27,47 +31,17 @@ pub struct Report {
     pub short: Rewritten,
 }
 
-// How a line ends: so many bytes of these.
-#[derive(Clone, Copy)]
-struct Ending {
-    bytes: [u8; 9],
-    count: usize,
-}
-
-const YES_YES: Ending = Ending {
-    bytes: *b"\tyes\tyes\n",
-    count: 9,
-};
-
-const YES_NO: Ending = Ending {
-    bytes: *b"\tyes\tno\n ",
-    count: 8,
-};
-
-const NO_YES: Ending = Ending {
-    bytes: *b"\tno\tyes\n ",
-    count: 8,
-};
-
-const NO_NO: Ending = Ending {
-    bytes: *b"\tno\tno\n  ",
-    count: 7,
-};
-
 // "(weak, strong ..)", closed by byte 10.
-fn end_of(v: Verdicts) -> Ending
-    ensures { Ends (verdicts_end v) result }
+#[tactic(auto, unfolding(crate::specs::Reporting::verdicts_end))]
+fn end_of(v: Verdicts) -> &'static [u8]
+    ensures { result.now ≡ verdicts_end v }
 {
-    if v.weak & v.strong {
-        return YES_YES;
+    match (v.weak, v.strong) {
+        (true, true) => b"\tyes\tyes\n",
+        (true, false) => b"\tyes\tno\n",
+        (false, true) => b"\tno\tyes\n",
+        (false, false) => b"\tno\tno\n",
     }
-    if v.weak {
-        return YES_NO;
-    }
-    if v.strong {
-        return NO_YES;
-    }
-    NO_NO
 }
 
 // "`own yes no` (weak, strong on the local trace)"
@@ -75,11 +49,8 @@ fn put_own(own: Verdicts, at: usize, text: &mut [u8]) -> usize
     requires { at + length (own_line own) ≤ length text.old }
     ensures { Printed (own_line own) text.old at result text.new }
 {
-    let end = end_of(own);
-    let bytes = end.bytes;
-    let count = end.count;
     let after_word = put(b"own", at, text);
-    put(&bytes[..count], after_word, text)
+    put(end_of(own), after_word, text)
 }
 
 // "`plain 55 yes no` (nodes, weak, strong)", and so for `short`.
@@ -87,10 +58,13 @@ fn put_rewritten(word: &[u8], rewritten: Rewritten, at: usize, text: &mut [u8]) 
     requires { at + length (rewritten_line word.now rewritten) ≤ length text.old }
     ensures { Printed (rewritten_line word.now rewritten) text.old at result text.new }
 {
-    let end = end_of(rewritten.verdicts);
-    let bytes = end.bytes;
-    let count = end.count;
-    put_line(word, rewritten.count as u64, &bytes[..count], at, text)
+    put_line(
+        word,
+        rewritten.count as u64,
+        end_of(rewritten.verdicts),
+        at,
+        text,
+    )
 }
 
 // The four lines of an accepted rule and recording.
@@ -105,11 +79,28 @@ pub fn put_report(report: Report, text: &mut [u8]) -> usize
 }
 
 // "Refused, it prints only `refused`, number, line, tab-parted"
-pub fn put_refused(number: u32, line: &[u8], text: &mut [u8]) -> usize
-    requires { length (refused_text number line.now) ≤ length text.old }
-    ensures { Printed (refused_text number line.now) text.old 0 result text.new }
+#[tactic(auto, using(crate::proofs::ReportLaws::refused_laws))]
+pub fn put_refused(refusal: Refusal, line: &[u8], text: &mut [u8]) -> usize
+    requires { length (refused_text (number_of refusal) line.now) ≤ length text.old }
+    ensures { Printed (refused_text (number_of refusal) line.now) text.old 0 result text.new }
 {
-    let after_number = put_line(b"refused", number as u64, b"\t", 0, text);
+    let after_number = put_line(b"refused", refusal.number() as u64, b"\t", 0, text);
     let after_line = put(line, after_number, text);
     put_byte(scan::NEWLINE, after_line, text)
+}
+
+// The refusal that a reading of `lines` stopped for, and the line that it stopped at.
+#[tactic(auto, using(crate::proofs::ReportLaws::stopped_laws))]
+pub fn put_stopped(stop: Stop, lines: &[u8], text: &mut [u8]) -> usize
+    requires { LineRoom lines.now stop.at text.old }
+    ensures { Printed (refused_text (number_of stop.refusal) (line_of (drop stop.at lines.now))) text.old 0 result text.new }
+{
+    let rest = &lines[stop.at..];
+    let line = first_line(rest);
+    put_refused(stop.refusal, &rest[..line.len], text)
+}
+
+// Whether a refusal is what a program printed that judges.
+pub fn is_refused(printed: &[u8]) -> bool {
+    printed.starts_with(b"refused")
 }

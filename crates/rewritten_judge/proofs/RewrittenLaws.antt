@@ -1,14 +1,14 @@
 -- Judging a rewritten rule: a law for each call and each return.
-use mathlib.Core.Path.{◌≡◌, refl, ap, ◌∙◌}
+use mathlib.Core.Path.{◌≡◌, ap, sym, ◌∙◌}
 use Prim.Native.Nat.{ℕ, ◌-◌, ◌≤◌, ◌<◌}
 use native.Mathlib.Omega.{arith}
 use mathlib.Core.Bool.{Bool, true, false}
 use mathlib.Core.List.{List, ◌++◌, map}
-use lib.ListN.{length, drop, get_or, replicate}
+use lib.ListN.{length, take, drop, get_or, replicate}
 use borrow.Author.Rules.{rules}
 use Rattle.definitions.specs.Limits.{max_table_nodes, max_row_words}
 use Rattle.definitions.specs.Nodes.{node_word}
-use Rattle.definitions.specs.Tables.{Rule, rule_refusal, table_refusal, nodes_in, rule_of, table_of}
+use Rattle.definitions.specs.Tables.{Rule, table_refusal, nodes_in, rule_of, table_of}
 use Rattle.definitions.specs.Recordings.{Recording, recording_of, mask_of}
 use Rattle.definitions.specs.Readings.{whole, verdicts}
 use Rattle.definitions.specs.Rewriting as written
@@ -25,7 +25,7 @@ use Rattle.judges.proofs.WholeLaws.{whole_ready}
 use Rattle.rewriting.specs.Drafts.{Ruled}
 use Rattle.rewriting.specs.Answers.{TableOf}
 use Rattle.images.specs.declared.Tops.{Tops}
-use Rattle.rewriting.proofs.AnswerLaws.{ruled}
+use Rattle.rewriting.proofs.AnswerLaws.{rule_there, ruled}
 use Rattle.rewritten_judge.specs.Rewritten.{rewritten_for, RewrittenIs}
 
 -- the verdicts of the rewritten rule over the whole recording are the rule's own
@@ -39,8 +39,11 @@ verdicts_agree short r R A =
 -- ---- what was accepted is rewritten and judged without a refusal
 
 module _ (r : Rule) (R : Recording) (A : Accepted r R) where
-  pub rule_ruled : Ruled r.count r.nodes
-  rule_ruled = ruled r.controller r.count r.nodes (rule_refusal r) refl A.rule
+  pub rule_counts : r.count ≡ length (take r.count r.nodes)
+  rule_counts = rule_there r.controller r.count r.nodes (sym A.rule)
+
+  pub rule_ruled : Ruled (take r.count r.nodes)
+  rule_ruled = ruled r.controller r.count r.nodes (sym A.rule)
 
   module _ (table rows : List ℕ) (full : max_row_words ≤ length rows) (short : Bool) (mask : ℕ) (own : mask ≡ get_or R.masks r.controller 0) (t : Tops) (table' : List ℕ)
       (laid : TableOf (rewriting short mask (nodes_in r.count r.nodes)) table t table') where
@@ -88,4 +91,4 @@ pub table_ready : (c k : ℕ) (nodes : List ℕ) (C N : ℕ) (masks states : Lis
 table_ready c k nodes C N masks states A table rows full short mask own t table' laid =
     ready (rule_of c k nodes) (recording_of C N masks states) A table rows full short mask own t table' laid
 
-pub ruleset rewriting_laws = (rules, rule_ruled, table_ready, rewriting_judged)
+pub ruleset rewriting_laws = (rules, rule_counts, rule_ruled, table_ready, rewriting_judged)

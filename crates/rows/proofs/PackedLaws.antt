@@ -9,9 +9,9 @@ use native.Mathlib.Omega.{arith}
 use borrow.Author.Rules.{rules}
 use lib.Bits.{bit_or}
 use lib.Pow.{pow-lt}
-use lib.Count.{ones, ones-le}
-use mir.Val.{Fits}
-use mir.Syntax.{w32, w64}
+use lib.Count.{ones}
+use Rattle.std.specs.Int.{from_bool}
+use Rattle.std.proofs.lemmas.List.{take-replicate, drop-replicate}
 use lib.ListN.{length, take, drop, get_or, replicate, length-append, length-drop, length-replicate, take-append-drop, drop_of_length-le}
 use lib.Seq.{take_all, take-append-le, drop-append-le, get_or-take, get_or-drop}
 use Rattle.definitions.specs.Limits.{max_states, word_marks}
@@ -112,23 +112,14 @@ as_tabulated s lo hi l f w h g e o =
 
 -- ---- every mark
 
-replicate_take : (m k : ℕ) → take m (replicate (m + k) true) ≡ replicate m true
-replicate_take zero k = refl
-replicate_take (suc m) k = let e : suc m + k ≡ suc (m + k) = omega arith in rw e (ap (λ (l : List Bool). true ∷ l) (replicate_take m k))
-
-replicate_drop : (m k : ℕ) → drop m (replicate (m + k) true) ≡ replicate k true
-replicate_drop zero k = let e : 0 + k ≡ k = omega arith in rw e
-replicate_drop (suc m) k = let e : suc m + k ≡ suc (m + k) = omega arith in rw e (replicate_drop m k)
-
 pub full_low : (n w : ℕ) → n ≤ word_marks → w ≡ marks_word (replicate n true) → Made (record { words = w ∷ 0 ∷ []; count = n }) n (tabulate n (λ k. true))
 full_low n w h e = rw (← same_list true n) (of_low (replicate n true) n w (length-replicate n true) h e)
 
 pub full_high : (n w v : ℕ) → word_marks < n → n ≤ max_states → w ≡ marks_word (replicate word_marks true) → v ≡ marks_word (replicate (n - word_marks) true)
     → Made (record { words = w ∷ v ∷ []; count = n }) n (tabulate n (λ k. true))
 full_high n w v h few e f =
-    let en : n ≡ 64 + (n - 64) = omega arith in
-    let t : take 64 (replicate n true) ≡ replicate 64 true = ap (λ (m : ℕ). take 64 (replicate m true)) en ∙ replicate_take 64 (n - 64) in
-    let d : drop 64 (replicate n true) ≡ replicate (n - 64) true = ap (λ (m : ℕ). drop 64 (replicate m true)) en ∙ replicate_drop 64 (n - 64) in
+    let t : take 64 (replicate n true) ≡ replicate 64 true = take-replicate 64 n true (omega arith) in
+    let d : drop 64 (replicate n true) ≡ replicate (n - 64) true = drop-replicate 64 n true in
     rw (← same_list true n) (of_words (replicate n true) n w v (length-replicate n true) few (e ∙ ap marks_word (sym t)) (f ∙ ap marks_word (sym d)))
 
 -- ---- no mark but the last
@@ -181,7 +172,12 @@ word_pushed l y k w v e h ew ev = rw (ew, ev, placed y) (ap (λ (n : ℕ). bit_o
     placed true = rw (one-mul, mod-eq_of_lt (pow-lt {i = k} {j = 64} h)) (sym (last_one k))
     placed false = rw zero-mul (sym (last_none (suc k)))
 
-module _ (s : Row) (y : Bool) (v : ℕ) (w : Whole s) (few : s.count < max_states) (e : v ≡ bit y) where
+-- a mark as a number
+number_of_mark : (y : Bool) → from_bool y ≡ bit y
+number_of_mark true = refl
+number_of_mark false = refl
+
+module _ (s : Row) (y : Bool) (v : ℕ) (w : Whole s) (few : s.count < max_states) (e : v ≡ from_bool y) where
   abbrev grown : List Bool
   grown = marks s ++ (y ∷ [])
 
@@ -196,7 +192,7 @@ module _ (s : Row) (y : Bool) (v : ℕ) (w : Whole s) (few : s.count < max_state
       let t : take 64 grown ≡ grown = take_all 64 grown (omega (arith, grown_length)) in
       let d : drop 64 (marks s) ≡ drop 64 grown = drop_of_length-le (marks s) {i = 64} (omega arith) ∙ sym (drop_of_length-le grown {i = 64} (omega (arith, grown_length))) in
       of_words grown (s.count + 1) (bit_or a (v * 2 ^ s.count % 2 ^ 64)) b grown_length (omega arith)
-      (word_pushed (marks s) y s.count a v (sym c) h a' e ∙ ap marks_word (sym t)) (eb ∙ ap marks_word d)
+      (word_pushed (marks s) y s.count a v (sym c) h a' (e ∙ number_of_mark y) ∙ ap marks_word (sym t)) (eb ∙ ap marks_word d)
 
   pub push_high : (a b : ℕ) → word_marks ≤ s.count → a ≡ low_word s → b ≡ high_word s
       → Made (record { words = a ∷ bit_or b (v * 2 ^ (s.count - word_marks) % 2 ^ 64) ∷ []; count = s.count + 1 }) (s.count + 1) grown
@@ -206,7 +202,7 @@ module _ (s : Row) (y : Bool) (v : ℕ) (w : Whole s) (few : s.count < max_state
       let d : drop 64 grown ≡ drop 64 (marks s) ++ (y ∷ []) = drop-append-le 64 (marks s) (y ∷ []) (omega arith) in
       let m : s.count - 64 ≡ length (drop 64 (marks s)) = omega (arith, length-drop 64 (marks s)) in
       of_words grown (s.count + 1) a (bit_or b (v * 2 ^ (s.count - 64) % 2 ^ 64)) grown_length (omega arith) (ea ∙ ap marks_word (sym t))
-      (word_pushed (drop 64 (marks s)) y (s.count - 64) b v m (omega arith) eb e ∙ ap marks_word (sym d))
+      (word_pushed (drop 64 (marks s)) y (s.count - 64) b v m (omega arith) eb (e ∙ number_of_mark y) ∙ ap marks_word (sym d))
 
 -- ---- a column
 
@@ -242,7 +238,4 @@ pub total_is : (s : Row) (a b : ℕ) → a ≡ low_word s → b ≡ high_word s 
 total_is s a b e f =
     rw (e, f, ones_word (take word_marks (marks s)), ones_word (drop word_marks (marks s)), ← yes_append) (ap yes_marks (take-append-drop word_marks (marks s)))
 
-pub total_fits : (a b : ℕ) → Fits w64 a → Fits w64 b → Fits w32 (ones a + ones b)
-total_fits a b f g = record { fits = omega (arith, ones-le 64 a f.fits, ones-le 64 b g.fits) }
-
-pub ruleset packed_laws = (rules, low_is, high_is, full_low, full_high, last_low, last_high, none_made, push_low, push_high, column_low, column_high, total_is, total_fits)
+pub ruleset packed_laws = (rules, low_is, high_is, full_low, full_high, last_low, last_high, none_made, total_is)

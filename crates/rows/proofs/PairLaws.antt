@@ -1,5 +1,5 @@
 -- One law for each return of the functions on pairs.
-use mathlib.Core.Path.{◌≡◌, refl, sym, ap, ap₂, ◌∙◌}
+use mathlib.Core.Path.{◌≡◌, refl, sym, ap₂, ◌∙◌}
 use mathlib.Core.Bool.{true, false, not, ◌||◌}
 use mathlib.Core.List.{List, ◌++◌, append_assoc}
 use Prim.Native.Nat.{ℕ, ◌+◌, ◌*◌, ◌<◌, ◌≤◌}
@@ -7,28 +7,20 @@ use native.Mathlib.Omega.{arith}
 use native.Mathlib.Decide.{ℕ_discrete, dec_lt}
 use lib.ListN.{length, take, drop, length-append, take-append-drop}
 use lib.Seq.{length-take-le}
-use borrow.Author.Rules.{rules}
 use Rattle.definitions.specs.Limits.{pair_words}
 use Rattle.definitions.specs.Bounded.{tabulate}
-use Rattle.definitions.specs.Nodes.{Until, kind_of}
+use Rattle.definitions.specs.Nodes.{Kind, Not, Or, Next, Until, Prev, Since}
 use Rattle.definitions.specs.Readings.{Rows, row_words, next_at, until_at, prev_at, since_at}
 use Rattle.mark_words.specs.Marks.{mark_at}
-use Rattle.rules.specs.Kinds.{is_leaf}
-use Rattle.rows.specs.Marks.{marks, Whole, Made}
-use Rattle.rows.specs.Stored.{row_at}
+use Rattle.rows.specs.Marks.{marks, Made}
 use Rattle.rows.specs.declared.Row.{Row}
 use Rattle.rows.proofs.RowLaws.{whole_made, not_on, or_on, next_on, until_on, prev_on, since_on}
 use Rattle.rows.proofs.StoredLaws.{row_here, row_before, row_past, row_laid}
 use Rattle.rows.specs.declared.pair.Pair.{Pair}
-use Rattle.rows.specs.Pairs.{rows_in, PairMade, PairWhole, PairStored, Counted, Operable, operated, pair_at, pair_of_node}
-use Rattle.rules.proofs.KindLaws.{kind_not, kind_or, kind_next, kind_until, kind_prev, kind_since}
+use Rattle.rows.specs.Pairs.{rows_in, PairMade, PairWhole, PairStored, Operable, operated, pair_at, pair_of_node}
 
 abbrev pub pair_of : Row → Row → Pair
 pair_of w s = record { weak = w; strong = s }
-
-pub pair_at_lem : (l : List ℕ) (at : ℕ) (w s : Row) → w ≡ row_at l at → s ≡ row_at l (at + 3) → pair_of w s ≡ pair_at l at
-unfolding pair_at
-pair_at_lem l at w s e f = cc
 
 pub rows_in_lem : (p : Pair) (n : ℕ) (r : Rows) → PairMade p n r → rows_in p ≡ r
 rows_in_lem p n r m = ap₂ (λ w s. record { weak = w; strong = s }) m.weak.marked m.strong.marked
@@ -93,20 +85,11 @@ module _ (l l' l'' : List ℕ) (j : ℕ) (p : Pair) (v : PairWhole p) (room : j 
               ordered (no e) (yes d) = d
               ordered (no e) (no d) = absurd (h (omega arith))
 
-pub made_whole : (p : Pair) (n : ℕ) (r : Rows) → PairMade p n r → PairWhole p
-made_whole p n r m = record { weak = m.weak.whole; strong = m.strong.whole }
-
-pub counted_pair : (n : ℕ) (p : Pair) → Counted n p → pair_of (record { words = p.weak.words; count = n }) (record { words = p.strong.words; count = n }) ≡ p
-counted_pair n p c =
-    let w : record { words = p.weak.words; count = n } ≡ p.weak = ap (λ (k : ℕ). record { words = p.weak.words; count = k }) (sym c.weak) in
-    let s : record { words = p.strong.words; count = n } ≡ p.strong = ap (λ (k : ℕ). record { words = p.strong.words; count = k }) (sym c.strong) in
-    ap₂ pair_of w s
-
 -- what operate has to show
-abbrev pub Operated : ℕ → Pair → Pair → Row → Row → Type 0
-Operated kind p q w s = PairMade (pair_of w s) p.weak.count (operated (kind_of kind) p.weak.count (rows_in p) (rows_in q))
+abbrev pub Operated : Kind → Pair → Pair → Row → Row → Type 0
+Operated kind p q w s = PairMade (pair_of w s) p.weak.count (operated kind p.weak.count (rows_in p) (rows_in q))
 
-module _ (kind : ℕ) (p q : Pair) (w s : Row) (o : Operable p q) where
+module _ (p q : Pair) (w s : Row) (o : Operable p q) where
   pw : Made p.weak p.weak.count (marks p.weak)
   pw = whole_made p.weak p.weak.count o.first_weak refl
 
@@ -119,82 +102,60 @@ module _ (kind : ℕ) (p q : Pair) (w s : Row) (o : Operable p q) where
   qs : Made q.strong p.weak.count (marks q.strong)
   qs = whole_made q.strong p.weak.count o.second_strong (sym o.second_even)
 
-  pub not_pair : kind ≡ 2
-      → Made w p.strong.count (tabulate p.strong.count (λ k. not (mark_at (marks p.strong) k)))
+  pub not_pair :
+      Made w p.strong.count (tabulate p.strong.count (λ k. not (mark_at (marks p.strong) k)))
       → Made s p.weak.count (tabulate p.weak.count (λ k. not (mark_at (marks p.weak) k)))
-      → Operated kind p q w s
+      → Operated Not p q w s
   unfolding operated
-  not_pair e a b = rw (e, kind_not) (record {
+  not_pair a b = record {
     weak = not_on p.strong w p.weak.count (marks p.strong) a ps;
     strong = not_on p.weak s p.weak.count (marks p.weak) b pw;
-  })
+  }
 
-  pub or_pair : kind ≡ 3
-      → Made w p.weak.count (tabulate p.weak.count (λ k. mark_at (marks p.weak) k || mark_at (marks q.weak) k))
+  pub or_pair :
+      Made w p.weak.count (tabulate p.weak.count (λ k. mark_at (marks p.weak) k || mark_at (marks q.weak) k))
       → Made s p.strong.count (tabulate p.strong.count (λ k. mark_at (marks p.strong) k || mark_at (marks q.strong) k))
-      → Operated kind p q w s
+      → Operated Or p q w s
   unfolding operated
-  or_pair e a b = rw (e, kind_or) (record {
+  or_pair a b = record {
     weak = or_on p.weak q.weak w p.weak.count (marks p.weak) (marks q.weak) a pw qw;
     strong = or_on p.strong q.strong s p.weak.count (marks p.strong) (marks q.strong) b ps qs;
-  })
+  }
 
-  pub next_pair : kind ≡ 4
-      → Made w p.weak.count (tabulate p.weak.count (next_at true p.weak.count (mark_at (marks p.weak))))
+  pub next_pair :
+      Made w p.weak.count (tabulate p.weak.count (next_at true p.weak.count (mark_at (marks p.weak))))
       → Made s p.strong.count (tabulate p.strong.count (next_at false p.strong.count (mark_at (marks p.strong))))
-      → Operated kind p q w s
+      → Operated Next p q w s
   unfolding operated
-  next_pair e a b = rw (e, kind_next) (record {
+  next_pair a b = record {
     weak = next_on p.weak w p.weak.count (marks p.weak) true a pw;
     strong = next_on p.strong s p.weak.count (marks p.strong) false b ps;
-  })
+  }
 
-  pub until_pair : kind ≡ 5 → (r : Pair) → PairMade r p.weak.count (operated Until p.weak.count (rows_in p) (rows_in q))
-      → PairMade r p.weak.count (operated (kind_of kind) p.weak.count (rows_in p) (rows_in q))
-  until_pair e r m = rw (e, kind_until) m
-
-  pub prev_pair : kind ≡ 6
-      → Made w p.weak.count (tabulate p.weak.count (prev_at (mark_at (marks p.weak))))
+  pub prev_pair :
+      Made w p.weak.count (tabulate p.weak.count (prev_at (mark_at (marks p.weak))))
       → Made s p.strong.count (tabulate p.strong.count (prev_at (mark_at (marks p.strong))))
-      → Operated kind p q w s
+      → Operated Prev p q w s
   unfolding operated
-  prev_pair e a b = rw (e, kind_prev) (record {
+  prev_pair a b = record {
     weak = prev_on p.weak w p.weak.count (marks p.weak) a pw;
     strong = prev_on p.strong s p.weak.count (marks p.strong) b ps;
-  })
+  }
 
-  pub since_pair : (kind ≡ 2 → ⊥) → (kind ≡ 3 → ⊥) → (kind ≡ 4 → ⊥) → (kind ≡ 5 → ⊥) → (kind ≡ 6 → ⊥) → is_leaf (kind_of kind) ≡ false
-      → Made w p.weak.count (tabulate p.weak.count (since_at (mark_at (marks p.weak)) (mark_at (marks q.weak))))
+  pub since_pair :
+      Made w p.weak.count (tabulate p.weak.count (since_at (mark_at (marks p.weak)) (mark_at (marks q.weak))))
       → Made s p.strong.count (tabulate p.strong.count (since_at (mark_at (marks p.strong)) (mark_at (marks q.strong))))
-      → Operated kind p q w s
+      → Operated Since p q w s
   unfolding operated
-  since_pair n2 n3 n4 n5 n6 h a b = rw (kind_since kind n2 n3 n4 n5 n6 h) (record {
+  since_pair a b = record {
     weak = since_on p.weak q.weak w p.weak.count (marks p.weak) (marks q.weak) a pw qw;
     strong = since_on p.strong q.strong s p.weak.count (marks p.strong) (marks q.strong) b ps qs;
-  })
+  }
 
 -- until, on copies of both pairs
 module _ (p q a b : Pair) (o : Operable p q) (ea : a ≡ p) (eb : b ≡ q) where
   copied : Operable a b
   copied = rw (ea, eb) o
-
-  pub first_weak_lem : Whole a.weak
-  first_weak_lem = copied.first_weak
-
-  pub second_weak_lem : Whole b.weak
-  second_weak_lem = copied.second_weak
-
-  pub even_weak : a.weak.count ≡ b.weak.count
-  even_weak = sym copied.second_first
-
-  pub first_strong_lem : Whole a.strong
-  first_strong_lem = copied.first_strong
-
-  pub second_strong_lem : Whole b.strong
-  second_strong_lem = copied.second_strong
-
-  pub even_strong : a.strong.count ≡ b.strong.count
-  even_strong = copied.first_even ∙ sym copied.second_even
 
   pub untils_made : (w s : Row)
       → Made w a.weak.count (tabulate a.weak.count (until_at true a.weak.count (mark_at (marks a.weak)) (mark_at (marks b.weak))))
@@ -202,10 +163,6 @@ module _ (p q a b : Pair) (o : Operable p q) (ea : a ≡ p) (eb : b ≡ q) where
       → PairMade (pair_of w s) p.weak.count (operated Until p.weak.count (rows_in p) (rows_in q))
   unfolding operated
   untils_made w s u v = rw (← ea, ← eb) (record {
-    weak = until_on a.weak b.weak w a.weak.count (marks a.weak) (marks b.weak) true u (pw 5 a b w s copied) (qw 5 a b w s copied);
-    strong = until_on a.strong b.strong s a.weak.count (marks a.strong) (marks b.strong) false v (ps 5 a b w s copied) (qs 5 a b w s copied);
+    weak = until_on a.weak b.weak w a.weak.count (marks a.weak) (marks b.weak) true u (pw a b w s copied) (qw a b w s copied);
+    strong = until_on a.strong b.strong s a.weak.count (marks a.strong) (marks b.strong) false v (ps a b w s copied) (qs a b w s copied);
   })
-
-pub ruleset pair_laws = (rules, pair_at_lem, pair_stored, not_pair, or_pair, next_pair, until_pair, prev_pair, since_pair)
-
-pub ruleset counted_laws = (rules, counted_pair)

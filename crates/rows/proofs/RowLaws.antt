@@ -9,6 +9,7 @@ use lib.Dec.{ltb}
 use lib.Bits.{bit_and, bit_or, bit_xor, and_zero_r, or_zero_r, and_comm}
 use lib.ListN.{length, take, drop, replicate, length-take, length-drop, length-replicate, length-map, drop_of_length-le}
 use lib.Seq.{length-take-le, get_or-take}
+use Rattle.std.proofs.lemmas.List.{take-map, drop-map, drop-replicate}
 use Rattle.definitions.specs.Limits.{max_states, word_marks}
 use Rattle.definitions.specs.Bounded.{pick, bit, tabulate}
 use Rattle.definitions.specs.Readings.{marks_word, next_at, until_at, prev_at, since_at}
@@ -19,7 +20,7 @@ use Rattle.mark_words.proofs.OperatorLaws.{lt_or_le, same_list, until_length, un
 use Rattle.mark_words.proofs.WordLaws.{half, word_digit, word_fits, last_none, last_one, take_zip, drop_zip, word_and, word_or, word_not, and_cut, or_cons, and_cons}
 use Rattle.rows.specs.declared.Row.{Row}
 use Rattle.rows.specs.Marks.{marks, low_word, high_word, Whole, Made}
-use Rattle.rows.proofs.PackedLaws.{marks_length, few_marks, as_long, of_words, as_tabulated, retold, packed_laws}
+use Rattle.rows.proofs.PackedLaws.{marks_length, few_marks, as_long, of_words, as_tabulated, retold}
 
 -- ---- the parts of a list that the two words hold
 
@@ -71,19 +72,7 @@ take_full (suc n) [] = refl
 take_full (suc n) (x ∷ l) = ap (λ (m : List Bool). true ∷ m) (take_full n l)
 
 drop_full : (n : ℕ) (l : List Bool) → drop n (replicate (length l) true) ≡ replicate (length (drop n l)) true
-drop_full zero l = refl
-drop_full (suc n) [] = refl
-drop_full (suc n) (x ∷ l) = drop_full n l
-
-take_map : (f : Bool → Bool) (n : ℕ) (l : List Bool) → take n (map f l) ≡ map f (take n l)
-take_map f zero l = refl
-take_map f (suc n) [] = refl
-take_map f (suc n) (x ∷ l) = ap (λ (m : List Bool). f x ∷ m) (take_map f n l)
-
-drop_map : (f : Bool → Bool) (n : ℕ) (l : List Bool) → drop n (map f l) ≡ map f (drop n l)
-drop_map f zero l = refl
-drop_map f (suc n) [] = refl
-drop_map f (suc n) (x ∷ l) = drop_map f n l
+drop_full n l = rw (drop-replicate, length-drop)
 
 -- the words of the full row that a row is held against
 module _ (s f : Row) (w : Whole s) (m : Made f s.count (tabulate s.count (λ k. true))) where
@@ -100,7 +89,7 @@ module _ (s f : Row) (w : Whole s) (m : Made f s.count (tabulate s.count (λ k. 
       → Made (record { words = bit_xor a b ∷ bit_xor c d ∷ []; count = s.count }) s.count (tabulate s.count (λ k. not (mark_at (marks s) k)))
   not_made a b c d ea eb ec ed =
       as_tabulated s (bit_xor a b) (bit_xor c d) (map not (marks s)) (λ L k. not (mark_at (marks s) k)) w (length-map (marks s) not) (not_is (marks s))
-      (rw (ea, eb, full_low_word, take_map not 64 (marks s)) (word_not (take 64 (marks s)))) (rw (ec, ed, full_high_word, drop_map not 64 (marks s)) (word_not (drop 64 (marks s))))
+      (rw (ea, eb, full_low_word, take-map not 64 (marks s)) (word_not (take 64 (marks s)))) (rw (ec, ed, full_high_word, drop-map not 64 (marks s)) (word_not (drop 64 (marks s))))
 
 -- ---- prev
 
@@ -447,5 +436,3 @@ module _ (s t k b e : Row) (w : Bool) (v : Whole s) (u : Whole t) (n : s.count �
       let el : lo ≡ marks_word (take 64 r) =
       low a (closed x a b) ep eb (sym (closed_length x a b hab)) (low_few ps) ∙ ap marks_word (sym (close x a b hab) ∙ sym (take_until 64 false ps rs)) in
       as_tabulated s lo hi r (λ L. until_at w L (mark_at ps) (mark_at qs)) v lu (sym (close w ps qs h) ∙ until_is w ps qs h) el eh
-
-pub ruleset row_laws = (packed_laws, or_made, and_made, not_made, prev_made, since_made, moved_made, moved_whole, next_made, last_made, until_made)

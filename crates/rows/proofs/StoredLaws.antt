@@ -7,7 +7,6 @@ use native.Mathlib.Nat.{add-zero, not-suc-le-zero, le_of_suc-le-suc}
 use native.Mathlib.Omega.{arith}
 use lib.ListN.{length, take, drop, get_or, set, get_or-append}
 use lib.Seq.{drop_at, take_at, drop-drop, get_or-take, get_or-drop, sets-eq, length-take-le}
-use borrow.Author.Rules.{rules}
 use Rattle.definitions.specs.Limits.{max_states, pair_words}
 use Rattle.definitions.specs.Readings.{row_words, Rows, no_rows, pairs_words}
 use Rattle.rows.specs.declared.Row.{Row}
@@ -101,5 +100,3 @@ row_laid entry l l' front at ms e n v =
     let d : drop (at + 3) l ≡ drop (at + 3) entry =
     sym (drop-drop 3 at l) ∙ ap (drop 3) (ap (drop at) e ∙ drop_at front (drop at entry) at n) ∙ drop-drop 3 at entry in
     v ∙ rw (t, d) (sym (append_assoc front (row_words ms) (drop (at + 3) entry)))
-
-pub ruleset stored_laws = (rules, stored)

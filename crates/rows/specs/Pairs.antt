@@ -1,9 +1,10 @@
 -- A node's two rows, as the code has them.
 use Rattle.std.specs.Prelude.{◌≡◌, List, [], ◌∷◌, ◌++◌, false, ℕ, ◌+◌, ◌*◌, ◌≤◌, length, take, drop}
 use Rattle.definitions.specs.Limits.{pair_words}
-use Rattle.definitions.specs.Nodes.{Kind, node, kind_of}
+use Rattle.definitions.specs.Nodes.{Kind, node}
 use Rattle.definitions.specs.Readings.{Trace, Rows, node_rows, pairs_words}
-use Rattle.rules.specs.Kinds.{is_leaf}
+use Rattle.rules.specs.Kinds.{kind_in, is_leaf}
+use Rattle.rules.specs.declared.kind.Kind as code
 use Rattle.rows.specs.Marks.{marks, Whole, Made}
 use Rattle.rows.specs.Stored.{row_at}
 use Rattle.rows.specs.declared.pair.Pair.{Pair}
@@ -60,13 +61,13 @@ pub record PairStored (entry : List ℕ) (j : ℕ) (p : Pair) (exit : List ℕ) 
   pub others : (i : ℕ) → (i ≡ j → ⊥) → pair_of_node exit i ≡ pair_of_node entry i
 
 -- an operator whose operands' rows are laid, n places each
-pub record Operands (kind first second n : ℕ) (rows : List ℕ) : Type 0 where
-  pub operator : is_leaf (kind_of kind) ≡ false
+pub record Operands (kind : code.Kind) (first second n : ℕ) (rows : List ℕ) : Type 0 where
+  pub operator : is_leaf (kind_in kind) ≡ false
   pub first_room : first * pair_words + pair_words ≤ length rows
   pub second_room : second * pair_words + pair_words ≤ length rows
   pub laid : Operable (pair_of_node rows first) (pair_of_node rows second)
   pub places : (pair_of_node rows first).weak.count ≡ n
 
 -- the rows of an operator over the rows that are laid
-abbrev pub operator_rows : ℕ → ℕ → ℕ → ℕ → List ℕ → Rows
-operator_rows kind first second n rows = operated (kind_of kind) n (rows_in (pair_of_node rows first)) (rows_in (pair_of_node rows second))
+abbrev pub operator_rows : code.Kind → ℕ → ℕ → ℕ → List ℕ → Rows
+operator_rows kind first second n rows = operated (kind_in kind) n (rows_in (pair_of_node rows first)) (rows_in (pair_of_node rows second))

@@ -13,7 +13,7 @@ ghost use Rattle.rows.specs.Marks.{marks, low_word, high_word, Whole, Made};
 ghost use Rattle.mark_words.specs.Lists.{last_only};
 ghost use Rattle.mark_words.specs.Marks.{mark_at, yes_marks, last_at};
 
-use mark_words::{WORD_MARKS, gather, last_word, one, ones, since_word, until_word};
+use mark_words::{WORD_MARKS, gather, last_word, ones, since_word, until_word};
 
 // Before place 0 there is no place at which since could hold.
 const NO_PAST: u64 = 0;
@@ -33,8 +33,7 @@ impl Row {
         requires { Whole self }
         ensures { result ≡ low_word self }
     {
-        let words = self.words;
-        words[0]
+        self.words[0]
     }
 
     // The word of places 64 to 127.
@@ -42,8 +41,7 @@ impl Row {
         requires { Whole self }
         ensures { result ≡ high_word self }
     {
-        let words = self.words;
-        words[1]
+        self.words[1]
     }
 
     pub fn full(count: usize) -> Row
@@ -53,12 +51,12 @@ impl Row {
         if count <= WORD_MARKS {
             return Row {
                 words: [ones(count), 0],
-                count: count,
+                count,
             };
         }
         Row {
             words: [ones(WORD_MARKS), ones(count - WORD_MARKS)],
-            count: count,
+            count,
         }
     }
 
@@ -70,12 +68,12 @@ impl Row {
         if count <= WORD_MARKS {
             return Row {
                 words: [last_word(count, yes), 0],
-                count: count,
+                count,
             };
         }
         Row {
             words: [0, last_word(count - WORD_MARKS, yes)],
-            count: count,
+            count,
         }
     }
 
@@ -110,9 +108,7 @@ impl Row {
         requires { (Whole self) × (i < max_states) }
         ensures { result ≡ mark_at (marks self) i }
     {
-        let words = self.words;
-        let w = i / WORD_MARKS;
-        (words[w] >> (i % WORD_MARKS)) % 2 == 1
+        (self.words[i / WORD_MARKS] >> (i % WORD_MARKS)) % 2 == 1
     }
 
     // One place more, with the mark `yes`.
@@ -123,13 +119,13 @@ impl Row {
         let n = self.count;
         let longer = n + 1;
         if n < WORD_MARKS {
-            let mark = one(yes) << n;
+            let mark = u64::from(yes) << n;
             return Row {
                 words: [self.low() | mark, self.high()],
                 count: longer,
             };
         }
-        let mark = one(yes) << (n - WORD_MARKS);
+        let mark = u64::from(yes) << (n - WORD_MARKS);
         Row {
             words: [self.low(), self.high() | mark],
             count: longer,
@@ -141,7 +137,7 @@ impl Row {
         requires { Whole self }
         ensures { result ≡ yes_marks (marks self) }
     {
-        u64::count_ones(self.low()) + u64::count_ones(self.high())
+        self.low().count_ones() + self.high().count_ones()
     }
 
     pub fn not(self) -> Row

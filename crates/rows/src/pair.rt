@@ -1,14 +1,14 @@
 // A node's two rows, and the operators on them.
 ghost use Rattle.std.specs.Prelude.{◌≡◌, false, ◌+◌, ◌*◌, ◌≤◌, length};
 ghost use Rattle.definitions.specs.Limits.{pair_words};
-ghost use Rattle.definitions.specs.Nodes.{Until, kind_of};
-ghost use Rattle.rules.specs.Kinds.{is_leaf};
+ghost use Rattle.definitions.specs.Nodes.{Until};
+ghost use Rattle.rules.specs.Kinds.{kind_in, is_leaf};
 ghost use Rattle.rows.specs.Pairs.{rows_in, PairMade, PairWhole, PairStored, Counted, Operable, operated, pair_at, pair_of_node};
 
 use super::Row;
 use super::stored::{load, store};
+use rules::kind::Kind;
 use rules::limits::Limits;
-use rules::node::Node;
 
 #[derive(Clone, Copy)]
 pub struct Pair {
@@ -19,8 +19,19 @@ pub struct Pair {
 impl Pair {
     // Where the strong row lies in lent space: after the weak one.
     pub const STRONG: usize = Row::WORDS;
+
+    // One row for both readings.
+    pub fn both(row: Row) -> Pair
+        ensures { result ≡ record { weak = row; strong = row } }
+    {
+        Pair {
+            weak: row,
+            strong: row,
+        }
+    }
 }
 
+#[tactic(auto, unfolding(crate::specs::Pairs::pair_at))]
 pub fn load_pair(rows: &[u64], at: usize) -> Pair
     requires { at + pair_words ≤ length rows.now }
     ensures { result ≡ pair_at rows.now at }
@@ -53,18 +64,11 @@ pub fn counted(p: Pair, n: usize) -> Pair
     requires { Counted n p }
     ensures { result ≡ p }
 {
-    let weak = p.weak;
-    let strong = p.strong;
-    let weak_words = weak.words;
-    let strong_words = strong.words;
     Pair {
-        weak: Row {
-            words: weak_words,
-            count: n,
-        },
+        weak: Row { count: n, ..p.weak },
         strong: Row {
-            words: strong_words,
             count: n,
+            ..p.strong
         },
     }
 }
@@ -74,8 +78,7 @@ fn untils(p: Pair, q: Pair) -> Pair
     requires { Operable p q }
     ensures { PairMade result p.weak.count (operated Until p.weak.count (rows_in p) (rows_in q)) }
 {
-    let weak = p.weak;
-    let n = weak.count;
+    let n = p.weak.count;
     let a = counted(p, n);
     let b = counted(q, n);
     Pair {
@@ -84,40 +87,33 @@ fn untils(p: Pair, q: Pair) -> Pair
     }
 }
 
-// The rows of kinds 2 to 7, each reading by itself; not swaps the readings.
-pub fn operate(kind: u8, p: Pair, q: Pair) -> Pair
-    requires { (is_leaf (kind_of kind) ≡ false) × (Operable p q) }
-    ensures { PairMade result p.weak.count (operated (kind_of kind) p.weak.count (rows_in p) (rows_in q)) }
+// The rows of an operator, each reading by itself; not swaps the readings.
+pub fn operate(kind: Kind, p: Pair, q: Pair) -> Pair
+    requires { (is_leaf (kind_in kind) ≡ false) × (Operable p q) }
+    ensures { PairMade result p.weak.count (operated (kind_in kind) p.weak.count (rows_in p) (rows_in q)) }
 {
-    if kind == Node::NOT {
-        return Pair {
+    match kind {
+        Kind::Not => Pair {
             weak: p.strong.not(),
             strong: p.weak.not(),
-        };
-    }
-    if kind == Node::OR {
-        return Pair {
+        },
+        Kind::Or => Pair {
             weak: p.weak.or(q.weak),
             strong: p.strong.or(q.strong),
-        };
-    }
-    if kind == Node::NEXT {
-        return Pair {
+        },
+        Kind::Next => Pair {
             weak: p.weak.next(true),
             strong: p.strong.next(false),
-        };
-    }
-    if kind == Node::UNTIL {
-        return untils(p, q);
-    }
-    if kind == Node::PREV {
-        return Pair {
+        },
+        Kind::Until => untils(p, q),
+        Kind::Prev => Pair {
             weak: p.weak.prev(),
             strong: p.strong.prev(),
-        };
-    }
-    Pair {
-        weak: p.weak.since(q.weak),
-        strong: p.strong.since(q.strong),
+        },
+        Kind::Since => Pair {
+            weak: p.weak.since(q.weak),
+            strong: p.strong.since(q.strong),
+        },
+        Kind::True | Kind::Atom | Kind::Run | Kind::End | Kind::Unknown => unreachable!(),
     }
 }

@@ -6,6 +6,7 @@ ghost use Rattle.rows.specs.Stored.{row_at};
 
 use super::Row;
 
+#[tactic(auto, unfolding(crate::specs::Stored::row_at))]
 pub fn load(rows: &[u64], at: usize) -> Row
     requires { at + 3 ≤ length rows.now }
     ensures { result ≡ row_at rows.now at }

@@ -2,23 +2,19 @@
 // On standard error it says what could not be read or written.
 #![tactic(auto)]
 
-use line_programs::typed;
+use line_programs::typed::print_rule;
 use rules::limits::Limits;
-use standard_streams::failures;
-use standard_streams::input::read_input;
+use standard_streams::program::run;
 
 fn main(rt: HostRuntime) {
-    // One byte more than the limit tells an input that is too long.
-    let mut space = [0u8; Limits::INPUT_BYTES + 1];
-    let input = read_input(rt.stdin(), &mut space);
-    if input.failed {
-        failures::say_unread(rt.stderr(), b"rule");
-        return;
-    }
-    let length = input.count;
     let mut output = [0u8; Limits::RULE_BYTES];
-    let printed = typed::print_rule(&space[..length], &mut output);
-    if rt.stdout().write_all(&output[..printed]).is_err() {
-        failures::say_unwritten(rt.stderr(), b"rule");
-    }
+    run(
+        rt,
+        "rule",
+        |input| {
+            let printed = print_rule(input, &mut output);
+            &output[..printed]
+        },
+        |_, _| None,
+    );
 }

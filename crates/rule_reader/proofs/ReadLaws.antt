@@ -1,101 +1,120 @@
 -- Laws of reading a rule text, one for each return, and of what is left in lent space.
 use mathlib.Core.Path.{◌≡◌, refl, ap, sym, ◌∙◌}
-use mathlib.Core.Bool.{true, false}
-use mathlib.Core.List.{List}
+use mathlib.Core.List.{List, []}
 use Prim.Native.Nat.{ℕ, ◌<◌, ◌≤◌}
 use native.Mathlib.Omega.{arith}
-use lib.Dec.{eqb}
 use lib.ListN.{length, drop, length-drop}
-use borrow.Author.Tests.{lt-ltb, le-ltb, eqb-true, eqb-false}
-use Rattle.definitions.specs.Limits.{max_rule_nodes, rule_form, rule_lines, lent_short, no_controller}
+use borrow.Author.Tests.{lt-ltb, le-ltb}
+use Rattle.std.specs.Prelude.{Result, Ok, Err, MatchResult}
+use Rattle.definitions.specs.Limits.{accepted, max_rule_nodes, lent_short, no_controller}
 use Rattle.definitions.specs.Bounded.{pick}
-use Rattle.definitions.specs.Tables.{rule_heading_refusal}
-use Rattle.definitions.specs.Lines.{rest_of, heading, refused}
-use Rattle.definitions.specs.RuleText.{scan_nodes, rule_heading, rule_heading_line, RuleScan, rule_stop, rule_nodes, scan_rule}
-use Rattle.definitions.specs.Operations.{read_rule_number, read_rule_answer, read_rule_nodes}
-use Rattle.theorems.proofs.Choice.{by_test, pick_true, pick_false}
-use Rattle.theorems.proofs.NextLines.{next_some}
+use Rattle.definitions.specs.Lines.{Scan, rest_of, heading}
+use Rattle.definitions.specs.RuleText.{scan_nodes, rule_heading_line, RuleScan, rule_stop, rule_nodes, scan_rule}
+use Rattle.definitions.specs.Operations.{answer, read_rule_number, read_rule_answer, read_rule_nodes}
 use Rattle.theorems.proofs.RuleTextSteps.{rule_stop_lem, rule_step_lem}
-use Rattle.theorems.proofs.LentSpace.{refused_answer, accepted_answer}
-use Rattle.lent.specs.Space.{cleared}
-use Rattle.lent.proofs.LeftLaws.{laid_past, laid_begins, left_untouched, left_zeroed, left_filled}
-use Rattle.lines.specs.Reading.{FirstLine, LinesScanned}
-use Rattle.lines.specs.declared.Line.{Line}
+use Rattle.theorems.proofs.LentSpace.{refused_answer}
 use Rattle.theorems.proofs.TextNumbers.{rule_text_number}
-use Rattle.lines.specs.declared.Stopped.{Stopped}
+use Rattle.lent.specs.Space.{laid, cleared}
+use Rattle.lent.proofs.LeftLaws.{laid_past, laid_begins, left_untouched, left_zeroed, left_filled}
+use Rattle.rules.specs.Refusals.{number_of}
+use Rattle.rules.specs.declared.refusal.Refusal.{Refusal}
+use Rattle.rules.specs.declared.refusal.Refusal.TheVariants.{LentShort}
+use Rattle.rules.specs.declared.rule.RuleHeading.{RuleHeading}
+use Rattle.rules.proofs.RefusalLaws.{number_some}
+use Rattle.lines.specs.Reading.{FirstLine, LinesScanned}
+use Rattle.lines.specs.Told.{next_told}
+use Rattle.lines.specs.declared.Line.{Line}
+use Rattle.lines.specs.declared.Stop.{Stop}
 use Rattle.lines.proofs.LoopLaws.{Counted}
-use Rattle.rule_reader.specs.NextLines.{heading_answer}
-use Rattle.rule_reader.specs.declared.heading_line.HeadingRead.{HeadingRead}
-use Rattle.rule_reader.specs.declared.heading_line.HeadingRead.TheVariants as first
-use Rattle.rule_reader.proofs.HeadingLaws.{Headed, headed, unheaded}
+use Rattle.lines.proofs.StopLaws.{StopTold}
+use Rattle.lines.proofs.ToldLaws.{told_refused}
+use Rattle.rule_reader.specs.NextLines.{heading_of}
 use Rattle.rule_reader.specs.Reading.{Room, NodeRoom, RuleScanned, ReadRule}
-use Rattle.rule_reader.specs.declared.Scanned.{Scanned}
-use Rattle.rule_reader.specs.declared.RuleRead.TheVariants.{Rule, Refused}
+use Rattle.rule_reader.proofs.HeadingLaws.{Headed, headed}
 use Rattle.rule_reader.proofs.LoopLaws.{nodes_counted}
 
 -- ---- `scan_rule`
-first_some : (t : List ℕ) (k : ℕ) → rule_heading_line t ≡ refused k → k ≡ 0 → ⊥
-first_some t k = next_some rule_lines rule_form rule_heading (λ h. rule_heading_refusal h.first h.second) t (omega arith) (omega arith) k
-
 -- no refusal of a rule text is that of joining, or of lent space
 pub rule_low : (t : List ℕ) → (scan_rule t).number < no_controller
 rule_low = rule_text_number (λ n. n < no_controller) (omega arith) (omega arith) (omega arith) (omega arith) (omega arith)
 
-module _ (t o : List ℕ) (l : Line) (is : FirstLine t l) (r : HeadingRead) (rs : r ≡ heading_answer (rule_heading_line t)) where
+module _ (t o : List ℕ) (l : Line) (is : FirstLine t l) where
   -- `scan_rule`, the first line is refused: `scan_rule` stops there with its refusal
-  pub rule_unheaded : (k : ℕ) (v : Scanned) → r ≡ first.Refused k → v ≡ record { number = k; controller = 0; count = 0; rest_at = 0 } → RuleScanned t o v o
-  rule_unheaded k v e w =
-      let u = unheaded t r rs k e in
-      let s : scan_rule t ≡ rule_stop k t = rule_stop_lem t k u in
-      rw w
-      (record {
-        number = rw s;
-        controller = rw s;
-        count = rw s;
-        place = rw s (omega arith);
-        inside = omega arith;
-        rest = rw s;
-        low = omega (arith, ap (λ (q : RuleScan). q.number) s, rule_low t);
-        few = omega arith;
-        nodes_laid = rw s;
-        nodes_count = λ q. absurd (first_some t k u q);
+  pub rule_unheaded : (s : Stop) → StopTold (next_told heading_of (rule_heading_line t)) 0 s → RuleScanned t o (Err s) o
+  rule_unheaded s r =
+      let e : scan_rule t ≡ rule_stop (number_of s.refusal) t = rule_stop_lem t (number_of s.refusal) (told_refused heading_of (rule_heading_line t) s.refusal r.refused) in
+      record {
+        ended = record {
+          number = sym (ap (λ (q : RuleScan). q.number) e);
+          place = rw e (omega (arith, r.place));
+          inside = omega (arith, r.place);
+          rest = rw (e, r.place);
+          low = omega (arith, ap (λ (q : RuleScan). q.number) e, rule_low t);
+        };
+        nodes_laid = rw e;
         nodes_past = refl;
-      })
-
-  module _ (c n : ℕ) (e : r ≡ first.Heading c n) (room : Room o) where
-    head : Headed t c n
-    head = headed t r rs c n e
-
-    pub rule_room : NodeRoom n l.next t o
-    rule_room = record { few = head.few; inside = is.inside; room = room.room }
-
-    module _ (v : Stopped) (o' : List ℕ) (m : LinesScanned (scan_nodes n 0 (drop l.next t)) t o v o') where
-      whole : scan_rule t ≡ rule_nodes (heading c n) (scan_nodes n 0 (drop l.next t))
-      whole = rule_step_lem t (heading c n) (rest_of t) head.is ∙ ap (λ (u : List ℕ). rule_nodes (heading c n) (scan_nodes n 0 u)) (sym is.rest)
-
-      counted : Counted n (scan_nodes n 0 (drop l.next t))
-      counted = nodes_counted n 0 (drop l.next t)
-
-      rest_is : drop v.at t ≡ (scan_rule t).rest
-      rest_is = m.rest ∙ sym (ap (λ (q : RuleScan). q.rest) whole)
-
-      -- `scan_rule`, the first line is read: `scan_rule` ends as the node lines end
-      pub rule_scanned : RuleScanned t o (record { number = v.number; controller = c; count = n; rest_at = v.at }) o'
-      rule_scanned = record {
-        number = m.number ∙ sym (ap (λ (q : RuleScan). q.number) whole);
-        controller = sym (ap (λ (q : RuleScan). q.controller) whole);
-        count = sym (ap (λ (q : RuleScan). q.count) whole);
-        place = omega (arith, ap length rest_is, length-drop v.at t, m.inside);
-        inside = m.inside;
-        rest = rest_is;
-        low = omega (arith, m.number, ap (λ (q : RuleScan). q.number) whole, rule_low t);
-        few = head.few;
-        nodes_laid = rw whole m.words;
-        nodes_count = λ q. ap (λ (x : RuleScan). length x.words) whole ∙ counted.all (sym m.number ∙ q);
-        nodes_past = laid_past max_rule_nodes (scan_nodes n 0 (drop l.next t)).words o o' (omega (arith, counted.most, head.few)) m.words;
       }
 
+  module _ (h : RuleHeading) (e : Ok h ≡ next_told heading_of (rule_heading_line t)) (room : Room o) where
+    head : Headed t h
+    head = headed t h e
+
+    pub rule_room : NodeRoom h.count l.next t o
+    rule_room = record { few = head.few; inside = is.inside; room = room.room }
+
+    abbrev nodes : Scan
+    nodes = scan_nodes h.count 0 (drop l.next t)
+
+    whole : scan_rule t ≡ rule_nodes (heading h.controller h.count) nodes
+    whole = rule_step_lem t (heading h.controller h.count) (rest_of t) head.is ∙ ap (λ (u : List ℕ). rule_nodes (heading h.controller h.count) (scan_nodes h.count 0 u)) (sym is.rest)
+
+    counted : Counted h.count nodes
+    counted = nodes_counted h.count 0 (drop l.next t)
+
+    past : (o' : List ℕ) → o' ≡ laid nodes.words o → drop max_rule_nodes o' ≡ drop max_rule_nodes o
+    past o' x = laid_past max_rule_nodes nodes.words o o' (omega (arith, counted.most, head.few)) x
+
+    -- `scan_rule`, a node line is refused: `scan_rule` stops at that line
+    pub rule_stopped : (s : Stop) (o' : List ℕ) → LinesScanned nodes t o (Err s) o' → RuleScanned t o (Err s) o'
+    rule_stopped s o' m =
+        let number : number_of s.refusal ≡ (scan_rule t).number = m.number ∙ sym (ap (λ (q : RuleScan). q.number) whole) in
+        let rest : drop s.at t ≡ (scan_rule t).rest = m.rest ∙ sym (ap (λ (q : RuleScan). q.rest) whole) in
+        record {
+          ended = record {
+            number = number;
+            place = omega (arith, ap length rest, length-drop s.at t, m.inside);
+            inside = m.inside;
+            rest = rest;
+            low = omega (arith, number, rule_low t);
+          };
+          nodes_laid = rw whole m.words;
+          nodes_past = past o' m.words;
+        }
+
+    -- `scan_rule`, all lines are read: `scan_rule` is controller and count, and as many words
+    pub rule_scanned : (at : ℕ) (o' : List ℕ) → LinesScanned nodes t o (Ok at) o' → RuleScanned t o (Ok h) o'
+    rule_scanned at o' m =
+        record {
+          ended = record {
+            number = m.number ∙ sym (ap (λ (q : RuleScan). q.number) whole);
+            controller = sym (ap (λ (q : RuleScan). q.controller) whole);
+            count = sym (ap (λ (q : RuleScan). q.count) whole);
+            few = head.few;
+            nodes_count = ap (λ (x : RuleScan). length x.words) whole ∙ counted.all (sym m.number);
+          };
+          nodes_laid = rw whole m.words;
+          nodes_past = past o' m.words;
+        }
+
 -- ---- `read_rule`
+refused_is : (n : ℕ) (vs : List ℕ) → (n ≡ 0 → ⊥) → answer n [] ≡ answer n vs
+refused_is n vs z = sym (refused_answer n [] z) ∙ refused_answer n vs z
+
+-- `read_rule`: how many nodes are kept
+pub kept_is : (r : Result RuleHeading Stop) (k : ℕ) (P : RuleHeading → Type 0) → MatchResult r P (λ s. k ≡ 0) → ((h : RuleHeading) → P h → k ≡ h.count) → MatchResult r (λ h. k ≡ h.count) (λ s. k ≡ 0)
+kept_is (Ok h) k P e q = q h e
+kept_is (Err s) k P e q = e
+
 module _ (t o : List ℕ) where
   number_short : length o < max_rule_nodes → read_rule_number t o ≡ lent_short
   unfolding read_rule_number pick
@@ -106,46 +125,40 @@ module _ (t o : List ℕ) where
   number_scanned h = rw (le-ltb (length o) max_rule_nodes h)
 
   -- `read_rule`, 13: `read_rule_nodes` is what was lent
-  pub read_short : length o < max_rule_nodes → ReadRule t o (Refused lent_short) o
+  pub read_short : length o < max_rule_nodes → ReadRule t o (Err LentShort) o
   unfolding read_rule_answer read_rule_nodes
   read_short h =
       let e = number_short h in
       record {
-        answered = rw e (refused_answer lent_short _ (λ q. omega arith));
+        answered = rw e (refused_is lent_short _ (λ q. omega arith));
         nodes = left_untouched (read_rule_number t o) max_rule_nodes (scan_rule t).words o e;
       }
 
-  module _ (long : max_rule_nodes ≤ length o) (r : Scanned) (o' : List ℕ) (s : RuleScanned t o r o') (k : ℕ) (ks : k ≡ pick (eqb r.number 0) r.count 0) where
-    is : read_rule_number t o ≡ r.number
-    is = number_scanned long ∙ sym s.number
+  module _ (long : max_rule_nodes ≤ length o) (o' o'' : List ℕ) where
+    -- `read_rule`, another refusal: `read_rule_nodes` is zero over its full size
+    read_refused : (s : Stop) → RuleScanned t o (Err s) o' → (k : ℕ) → k ≡ 0 → o'' ≡ cleared o' k max_rule_nodes → ReadRule t o (Err s.refusal) o''
+    unfolding read_rule_answer read_rule_nodes
+    read_refused s r k z c =
+        let is : read_rule_number t o ≡ number_of s.refusal = number_scanned long ∙ sym r.ended.number in
+        record {
+          answered = rw is (refused_is (number_of s.refusal) _ (number_some s.refusal));
+          nodes = rw is (left_zeroed (number_of s.refusal) max_rule_nodes (scan_rule t).words o o' o'' r.nodes_past (λ q. omega (arith, r.ended.low)) (number_some s.refusal) (rw z at c));
+        }
 
-    all_kept : eqb r.number 0 ≡ true → k ≡ r.count
-    all_kept z = ks ∙ pick_true (eqb r.number 0) r.count 0 z
+    -- `read_rule`, accepted: `read_rule_answer` is controller and count, `read_rule_nodes` the words and then zeros
+    read_accepted : (h : RuleHeading) → RuleScanned t o (Ok h) o' → (k : ℕ) → k ≡ h.count → o'' ≡ cleared o' k max_rule_nodes → ReadRule t o (Ok h) o''
+    unfolding read_rule_answer read_rule_nodes
+    read_accepted h r k z c =
+        let is : read_rule_number t o ≡ accepted = number_scanned long ∙ sym r.ended.number in
+        let s = r.ended in
+        record {
+          answered = rw (is, s.controller, s.count);
+          nodes = rw is (left_filled accepted max_rule_nodes (scan_rule t).words o o' o'' r.nodes_past h.count refl s.nodes_count
+              (laid_begins h.count (scan_rule t).words o o' s.nodes_count r.nodes_laid) (rw z at c));
+        }
 
-    none_kept : eqb r.number 0 ≡ false → k ≡ 0
-    none_kept z = ks ∙ pick_false (eqb r.number 0) r.count 0 z
-
-    pub read_fits : k ≤ max_rule_nodes
-    read_fits = by_test (eqb r.number 0) (λ z. omega (arith, all_kept z, s.few)) (λ z. omega (arith, none_kept z))
-
-    module _ (o'' : List ℕ) (c : o'' ≡ cleared o' k max_rule_nodes) where
-      -- `read_rule`, another refusal: `read_rule_nodes` is zero over its full size
-      pub read_refused : eqb r.number 0 ≡ false → ReadRule t o (Refused r.number) o''
-      unfolding read_rule_answer read_rule_nodes
-      read_refused z =
-          let y = eqb-false r.number 0 z in
-          record {
-            answered = rw is (refused_answer r.number _ y);
-            nodes = rw is (left_zeroed r.number max_rule_nodes (scan_rule t).words o o' o'' s.nodes_past (λ q. omega (arith, s.low)) y (rw (none_kept z) at c));
-          }
-
-      -- `read_rule`, accepted: `read_rule_answer` is controller and count, `read_rule_nodes` the words and then zeros
-      pub read_accepted : eqb r.number 0 ≡ true → ReadRule t o (Rule r.controller r.count) o''
-      unfolding read_rule_answer read_rule_nodes
-      read_accepted z =
-          let y = eqb-true r.number 0 z in
-          record {
-            answered = rw (s.controller, s.count) (accepted_answer (read_rule_number t o) _ (is ∙ y));
-            nodes = rw is (left_filled r.number max_rule_nodes (scan_rule t).words o o' o'' s.nodes_past r.count y (s.nodes_count y)
-                (laid_begins r.count (scan_rule t).words o o' (s.nodes_count y) s.nodes_laid) (rw (all_kept z) at c));
-          }
+-- `read_rule`: lent space is cleared behind what is kept
+pub read_done : (t o o' o'' : List ℕ) → max_rule_nodes ≤ length o → (r : Result RuleHeading Stop) → RuleScanned t o r o' → (k : ℕ) → MatchResult r (λ h. k ≡ h.count) (λ s. k ≡ 0)
+    → o'' ≡ cleared o' k max_rule_nodes → (x : Result RuleHeading Refusal) → MatchResult r (λ h. x ≡ Ok h) (λ s. x ≡ Err s.refusal) → ReadRule t o x o''
+read_done t o o' o'' long (Ok h) s k e c x a = rw a (read_accepted t o long o' o'' h s k e c)
+read_done t o o' o'' long (Err p) s k e c x a = rw a (read_refused t o long o' o'' p s k e c)

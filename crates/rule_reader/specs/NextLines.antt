@@ -1,32 +1,22 @@
 -- What the code answers of the next line of a rule text, and of the forms of a node line.
-use Rattle.std.specs.Prelude.{ℕ, List, eqb}
+use Rattle.std.specs.Prelude.{ℕ, List, eqb, Option, Some, None}
 use Rattle.definitions.specs.Bounded.{pick}
 use Rattle.definitions.specs.Nodes as table
-use Rattle.definitions.specs.Nodes.{node, node_word}
-use Rattle.definitions.specs.Lines.{tab, has, after, Parsed, formed, malformed, on_parsed, decimal, Heading, heading, two_fields, NextLine, refused, read}
+use Rattle.definitions.specs.Nodes.{node}
+use Rattle.definitions.specs.Lines.{tab, has, after, Parsed, formed, malformed, on_parsed, decimal, Heading, heading, two_fields}
 use Rattle.fields.specs.Fields.{cap}
 use Rattle.rules.specs.Meaning.{meaning}
-use Rattle.rule_reader.specs.declared.heading_line.HeadingRead.{HeadingRead}
-use Rattle.rule_reader.specs.declared.heading_line.HeadingRead.TheVariants as first
-use Rattle.rule_reader.specs.declared.node_line.NodeForm.{NodeForm}
-use Rattle.rule_reader.specs.declared.node_line.NodeForm.TheVariants.{Formed, Malformed}
-use Rattle.rule_reader.specs.declared.node_line.NodeRead.{NodeRead}
-use Rattle.rule_reader.specs.declared.node_line.NodeRead.TheVariants.{Word, Refused}
+use Rattle.rules.specs.declared.node.Node.{Node}
+use Rattle.rules.specs.declared.rule.RuleHeading.{RuleHeading}
 
--- controller and count of the first line, or its refusal
-unfoldable pub heading_answer : NextLine Heading → HeadingRead
-heading_answer (refused number) = first.Refused number
-heading_answer (read h rest) = first.Heading h.first h.second
+-- controller and count of the first line
+abbrev pub heading_of : Heading → RuleHeading
+heading_of h = record { controller = h.first; count = h.second }
 
--- the word of the line of a node, or its refusal
-unfoldable pub node_answer : NextLine table.Node → NodeRead
-node_answer (refused number) = Refused number
-node_answer (read n rest) = Word (node_word n)
-
--- what each case says of a line
-abbrev pub meant : NodeForm → Parsed table.Node
-meant (Formed n) = formed (meaning n)
-meant Malformed = malformed
+-- what the node of a line says, where it is of its form
+unfoldable pub meant : Option Node → Parsed table.Node
+meant (Some n) = formed (meaning n)
+meant None = malformed
 
 -- a node whose operands are read up to the largest number of a field
 unfoldable pub capped_form : Parsed table.Node → Parsed table.Node

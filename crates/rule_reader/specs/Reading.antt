@@ -1,12 +1,14 @@
 -- What the reader of a rule text answers, and what it leaves in lent space.
-use Rattle.std.specs.Prelude.{◌≡◌, ℕ, ◌-◌, ◌<◌, ◌≤◌, List, [], ◌∷◌, length, drop}
+use Rattle.std.specs.Prelude.{◌≡◌, ℕ, ◌-◌, ◌<◌, ◌≤◌, List, [], ◌∷◌, length, drop, Result, MatchResult}
 use Rattle.definitions.specs.Limits.{accepted, lent_short, max_rule_nodes}
 use Rattle.definitions.specs.RuleText.{scan_rule}
 use Rattle.definitions.specs.Operations.{Answer, read_rule_answer, read_rule_nodes}
 use Rattle.lent.specs.Space.{laid}
-use Rattle.rule_reader.specs.declared.Scanned.{Scanned}
-use Rattle.rule_reader.specs.declared.RuleRead.{RuleRead}
-use Rattle.rule_reader.specs.declared.RuleRead.TheVariants.{Rule, Refused}
+use Rattle.lines.specs.declared.Stop.{Stop}
+use Rattle.rules.specs.Answers.{answer_of}
+use Rattle.rules.specs.Refusals.{number_of}
+use Rattle.rules.specs.declared.refusal.Refusal.{Refusal}
+use Rattle.rules.specs.declared.rule.RuleHeading.{RuleHeading}
 
 -- lent space of full size
 pub record Room (nodes : List ℕ) : Type 0 where
@@ -18,26 +20,33 @@ pub record NodeRoom (count start : ℕ) (text nodes : List ℕ) : Type 0 where
   pub inside : start ≤ length text
   pub room : max_rule_nodes ≤ length nodes
 
--- a rule text was read: the refusal or 0, controller, count, the place of the refused line, and the words up to it
-pub record RuleScanned (text entry : List ℕ) (r : Scanned) (exit : List ℕ) : Type 0 where
-  pub number : r.number ≡ (scan_rule text).number
-  pub controller : r.controller ≡ (scan_rule text).controller
-  pub count : r.count ≡ (scan_rule text).count
-  pub place : r.rest_at ≡ length text - length (scan_rule text).rest
-  pub inside : r.rest_at ≤ length text
-  pub rest : drop r.rest_at text ≡ (scan_rule text).rest
-  pub low : r.number < lent_short
-  pub few : r.count ≤ max_rule_nodes
+-- a rule text was accepted: controller and count, and as many words as there are nodes
+pub record RuleAccepted (text : List ℕ) (h : RuleHeading) : Type 0 where
+  pub number : accepted ≡ (scan_rule text).number
+  pub controller : h.controller ≡ (scan_rule text).controller
+  pub count : h.count ≡ (scan_rule text).count
+  pub few : h.count ≤ max_rule_nodes
+  pub nodes_count : length (scan_rule text).words ≡ h.count
+
+-- a rule text was refused: the refusal, and the place of the refused line
+pub record RuleRefused (text : List ℕ) (stop : Stop) : Type 0 where
+  pub number : number_of stop.refusal ≡ (scan_rule text).number
+  pub place : stop.at ≡ length text - length (scan_rule text).rest
+  pub inside : stop.at ≤ length text
+  pub rest : drop stop.at text ≡ (scan_rule text).rest
+  pub low : number_of stop.refusal < lent_short
+
+-- a rule text was read: how it ended, and the words up to there
+pub record RuleScanned (text entry : List ℕ) (r : Result RuleHeading Stop) (exit : List ℕ) : Type 0 where
+  pub ended : MatchResult r (RuleAccepted text) (RuleRefused text)
   pub nodes_laid : exit ≡ laid (scan_rule text).words entry
-  pub nodes_count : r.number ≡ accepted → length (scan_rule text).words ≡ r.count
   pub nodes_past : drop max_rule_nodes exit ≡ drop max_rule_nodes entry
 
 -- "read a rule (controller, count, nodes)": the number and the values of each case
-abbrev pub read_answer : RuleRead → Answer
-read_answer (Rule c n) = record { number = accepted; values = c ∷ n ∷ [] }
-read_answer (Refused number) = record { number = number; values = [] }
+abbrev pub read_answer : Result RuleHeading Refusal → Answer
+read_answer = answer_of (λ (h : RuleHeading). h.controller ∷ h.count ∷ [])
 
 -- the whole answer, and all of the lent nodes
-pub record ReadRule (text entry : List ℕ) (r : RuleRead) (exit : List ℕ) : Type 0 where
+pub record ReadRule (text entry : List ℕ) (r : Result RuleHeading Refusal) (exit : List ℕ) : Type 0 where
   pub answered : read_answer r ≡ read_rule_answer text entry
   pub nodes : exit ≡ read_rule_nodes text entry

@@ -1,113 +1,84 @@
 // The line of a node: its kind word and its operands.
 ghost use Rattle.std.specs.Prelude.{◌≡◌, ◌≤◌};
 ghost use Rattle.definitions.specs.Limits.{max_rule_nodes};
-ghost use Rattle.definitions.specs.Nodes.{kind_of, kind_number, End};
-ghost use Rattle.definitions.specs.Lines.{tab, before, line_length};
+ghost use Rattle.definitions.specs.Nodes.{node_word};
+ghost use Rattle.definitions.specs.Lines.{tab, up_to, line_length};
 ghost use Rattle.definitions.specs.RuleText.{unknown_form, operands_form, node_form, node_line};
 ghost use Rattle.fields.specs.Forms.{capped_pair};
-ghost use Rattle.rule_reader.specs.NextLines.{meant, capped_form, operand_fields, node_answer};
+ghost use Rattle.lines.specs.Told.{told, next_told};
+ghost use Rattle.rules.specs.Kinds.{kind_in};
+ghost use Rattle.rule_reader.specs.NextLines.{meant, capped_form, operand_fields};
 
-use fields::form::Pair;
-use fields::number::Field;
 use fields::{form, number};
-use kind_words::{UNKNOWN, kind_of_word};
-use lines::{end_refusal, scan};
-use rules::kind::{is_unknown, operand_count};
-use rules::limits::Refusal;
+use kind_words::kind_of_word;
+use lines::{check_end, scan};
+use rules::kind::Kind;
 use rules::node::Node;
-use rules::node_check::node_refusal;
+use rules::node_check::check_node;
+use rules::refusal::Refusal;
 
-// A line as a node, its operands read up to the largest number of a field.
-#[derive(Clone, Copy)]
-pub enum NodeForm {
-    Formed(Node),
-    Malformed,
-}
-
-// The word of the node, or the refusal.
-#[derive(Clone, Copy)]
-pub enum NodeRead {
-    Word(u32),
-    Refused(u8),
-}
-
-// The operands of a line, as many fields after its first `i` bytes as its kind uses; an unused one is 0.
-fn operand_fields(uses: u8, s: &[u8], i: usize) -> Pair
-    requires { i ≡ before tab s.now }
+// The operands of a line, as many fields after its word as its kind uses; an unused one is 0.
+#[tactic(auto, using(crate::proofs::FormLaws::operand_laws))]
+fn operand_fields(uses: u8, s: &[u8]) -> Option<(u32, u32)>
     ensures { result ≡ capped_pair (operand_fields uses s.now) }
 {
+    let parts = scan::split(s, scan::TAB);
     if uses == 0 {
-        if i < s.len() {
-            return Pair::Malformed;
-        }
-        return Pair::Numbers(0, 0);
+        return match parts {
+            None => Some((0, 0)),
+            Some(_) => None,
+        };
     }
-    if i < s.len() {
-        if uses == 1 {
-            let Field::Number(a) = number::decimal(scan::after(s, i)) else {
-                return Pair::Malformed;
-            };
-            return Pair::Numbers(a, 0);
-        }
-        return form::decimals(scan::after(s, i));
+    let (_, fields) = parts?;
+    if uses == 1 {
+        let a = number::decimal(fields)?;
+        return Some((a, 0));
     }
-    Pair::Malformed
+    form::decimals(fields)
 }
 
-// A line whose word, its first `i` bytes, is a kind word.
-fn known_form(kind: u8, s: &[u8], i: usize) -> NodeForm
-    requires { (kind ≤ kind_number End) × (i ≡ before tab s.now) }
-    ensures { meant result ≡ capped_form (operands_form (kind_of kind) s.now) }
+// A line whose word is a kind word; its operands are read up to the largest number of a field.
+#[tactic(auto, using(crate::proofs::FormLaws::known_laws))]
+fn known_form(kind: Kind, s: &[u8]) -> Option<Node>
+    ensures { meant result ≡ capped_form (operands_form (kind_in kind) s.now) }
 {
-    let Pair::Numbers(a, b) = operand_fields(operand_count(kind), s, i) else {
-        return NodeForm::Malformed;
-    };
-    NodeForm::Formed(Node::of_kind(kind, a as u16, b as u16))
+    let (a, b) = operand_fields(kind.operands(), s)?;
+    Some(Node::new(kind, a as u16, b as u16))
 }
 
-// A line whose word, its first `i` bytes, is no kind word: any fields without a carriage return do.
-fn unknown_form(s: &[u8], i: usize) -> NodeForm
-    requires { i ≡ before tab s.now }
+// A line whose word is no kind word: any fields without a carriage return do.
+#[tactic(auto, using(crate::proofs::FormLaws::unknown_laws))]
+fn unknown_form(word: &[u8], s: &[u8]) -> Option<Node>
+    requires { word.now ≡ up_to tab s.now }
     ensures { meant result ≡ capped_form (unknown_form s.now) }
 {
-    if i == 0 {
-        return NodeForm::Malformed;
+    if word.is_empty() || !scan::letters(word) {
+        return None;
     }
-    if scan::letters(&s[..i]) {
-        if scan::until_byte(s, scan::CARRIAGE_RETURN) < s.len() {
-            return NodeForm::Malformed;
-        }
-        return NodeForm::Formed(Node::of_word(UNKNOWN as u32));
+    if scan::until_byte(s, scan::CARRIAGE_RETURN) < s.len() {
+        return None;
     }
-    NodeForm::Malformed
+    Some(Node::new(Kind::Unknown, 0, 0))
 }
 
-fn node_form(s: &[u8]) -> NodeForm
+fn node_form(s: &[u8]) -> Option<Node>
     ensures { meant result ≡ capped_form (node_form s.now) }
 {
-    let i = scan::until_byte(s, scan::TAB);
-    let kind = kind_of_word(&s[..i]);
-    if is_unknown(kind) {
-        return unknown_form(s, i);
+    let word = &s[..scan::until_byte(s, scan::TAB)];
+    let kind = kind_of_word(word);
+    if kind.is_unknown() {
+        return unknown_form(word, s);
     }
-    known_form(kind, s, i)
+    known_form(kind, s)
 }
 
-// The next line, of `len` bytes, as that of node `i` of a rule.
-pub fn next_node(i: usize, t: &[u8], len: usize) -> NodeRead
+// The next line, of `len` bytes, as that of node `i` of a rule: the word of the node.
+pub fn next_node(i: usize, t: &[u8], len: usize) -> Result<u32, Refusal>
     requires { (i ≤ max_rule_nodes) × (len ≡ line_length t.now) }
-    ensures { result ≡ node_answer (node_line i t.now) }
+    ensures { told result ≡ next_told node_word (node_line i t.now) }
 {
-    let unread = end_refusal(t, len, Refusal::RULE_LINES, Refusal::RULE_FORM);
-    if unread != Refusal::NONE {
-        return NodeRead::Refused(unread);
-    }
-    let NodeForm::Formed(n) = node_form(&t[..len]) else {
-        return NodeRead::Refused(Refusal::RULE_FORM);
-    };
-    let refusal = node_refusal(false, i as u16, n);
-    if refusal != Refusal::NONE {
-        return NodeRead::Refused(refusal);
-    }
-    NodeRead::Word(n.word())
+    check_end(t, len, Refusal::RuleLines, Refusal::RuleForm)?;
+    let n = node_form(&t[..len]).ok_or(Refusal::RuleForm)?;
+    check_node(false, i as u16, n)?;
+    Ok(n.word())
 }

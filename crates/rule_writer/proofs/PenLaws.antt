@@ -7,91 +7,72 @@ use native.Mathlib.Omega.{arith}
 use native.Mathlib.Numerals.{add-one}
 use lib.Dec.{eqb}
 use lib.ListN.{length, take, drop, get_or, length-append, take-append-drop}
-use lib.Seq.{take-suc, take_all, length-take-le}
+use lib.Seq.{take-suc, take_all}
 use borrow.Author.Rules.{rules}
 use borrow.Author.Tests.{eq-eqb, ne_eqb, eqb-true, eqb-false}
 use Rattle.definitions.specs.Nodes as table
-use Rattle.definitions.specs.Nodes.{Kind, node, node_of, kind_of, operands}
+use Rattle.definitions.specs.Nodes.{Kind, node, node_of, operands}
 use Rattle.definitions.specs.Lines.{tab, newline, digits}
 use Rattle.definitions.specs.RuleText.{rule_word, kind_word, node_text, nodes_text}
 use Rattle.theorems.proofs.Choice.{by_test}
 use Rattle.theorems.proofs.RuleTextSteps.{text_none, text_one, text_two}
-use Rattle.kind_words.specs.Words.{WordIs}
-use Rattle.kind_words.specs.declared.Word.{Word}
 use Rattle.printing.specs.Printing.{Printed}
 use Rattle.printing.proofs.PrintLaws.{printed_seq, printed_none}
 use Rattle.rules.specs.Meaning.{meaning, OfWord}
 use Rattle.rules.specs.declared.node.Node.{Node}
 use Rattle.rule_writer.specs.Writing.{heading_line, heading_size}
 
--- ---- `put_kind`
-module _ (k : Kind) (r : Word) (w : WordIs k r) where
-  pub word_few : r.1 ≤ length r.0
-  word_few = w.few
-
-  pub word_counts : r.1 ≡ length (take r.1 r.0)
-  word_counts = sym (length-take-le r.1 r.0 w.few)
-
-  pub word_room : (at n : ℕ) → at + length (kind_word k) ≤ n → at + length (take r.1 r.0) ≤ n
-  word_room at n h = omega (arith, w.size, word_counts)
-
-  -- `put_kind`: the letters of the word that was taken are `kind_word`
-  pub word_written : (o o' : List ℕ) (at e : ℕ) → Printed (take r.1 r.0) o at e o' → Printed (kind_word k) o at e o'
-  word_written o o' at e p = rw w.same at p
-
-pub ruleset kind_laws = (rules, word_few, word_counts, word_room, word_written)
-
 -- ---- `put_node`
-module _ (k a b uses : ℕ) (us : uses ≡ operands (kind_of k)) where
-  none : uses ≡ 0 → node_text (node (kind_of k) a b) ≡ kind_word (kind_of k)
-  none e = text_none (node (kind_of k) a b) (eq-eqb (operands (kind_of k)) 0 (sym us ∙ e))
+module _ (k : Kind) (a b uses : ℕ) (us : uses ≡ operands k) where
+  none : uses ≡ 0 → node_text (node k a b) ≡ kind_word k
+  none e = text_none (node k a b) (eq-eqb (operands k) 0 (sym us ∙ e))
 
-  some : (uses ≡ 0 → ⊥) → eqb (operands (kind_of k)) 0 ≡ false
-  some z = ne_eqb (operands (kind_of k)) 0 (λ q. z (us ∙ q))
+  some : (uses ≡ 0 → ⊥) → eqb (operands k) 0 ≡ false
+  some z = ne_eqb (operands k) 0 (λ q. z (us ∙ q))
 
-  one : (uses ≡ 0 → ⊥) → uses ≡ 1 → node_text (node (kind_of k) a b) ≡ kind_word (kind_of k) ++ (tab ∷ digits a)
-  one z e = text_one (node (kind_of k) a b) (some z) (eq-eqb (operands (kind_of k)) 1 (sym us ∙ e))
+  one : (uses ≡ 0 → ⊥) → uses ≡ 1 → node_text (node k a b) ≡ kind_word k ++ (tab ∷ digits a)
+  one z e = text_one (node k a b) (some z) (eq-eqb (operands k) 1 (sym us ∙ e))
 
-  two : (uses ≡ 0 → ⊥) → (uses ≡ 1 → ⊥) → node_text (node (kind_of k) a b) ≡ (kind_word (kind_of k) ++ (tab ∷ digits a)) ++ (tab ∷ digits b)
-  two z e = text_two (node (kind_of k) a b) (some z) (ne_eqb (operands (kind_of k)) 1 (λ q. e (us ∙ q))) ∙ simp append_assoc
+  two : (uses ≡ 0 → ⊥) → (uses ≡ 1 → ⊥) → node_text (node k a b) ≡ (kind_word k ++ (tab ∷ digits a)) ++ (tab ∷ digits b)
+  two z e = text_two (node k a b) (some z) (ne_eqb (operands k) 1 (λ q. e (us ∙ q))) ∙ simp append_assoc
 
-  module _ (o : List ℕ) (at : ℕ) (room : at + length (node_text (node (kind_of k) a b)) ≤ length o) where
-    room_first : (uses ≡ 0 → ⊥) → at + length (kind_word (kind_of k) ++ (tab ∷ digits a)) ≤ length o
+  module _ (o : List ℕ) (at : ℕ) (room : at + length (node_text (node k a b)) ≤ length o) where
+    room_first : (uses ≡ 0 → ⊥) → at + length (kind_word k ++ (tab ∷ digits a)) ≤ length o
     room_first z =
         by_test (eqb uses 1)
         (λ y. omega (arith, ap length (one z (eqb-true uses 1 y))))
-        (λ y. omega (arith, ap length (two z (eqb-false uses 1 y)), length-append (kind_word (kind_of k) ++ (tab ∷ digits a)) (tab ∷ digits b)))
+        (λ y. omega (arith, ap length (two z (eqb-false uses 1 y)), length-append (kind_word k ++ (tab ∷ digits a)) (tab ∷ digits b)))
 
-    pub node_room : at + length (kind_word (kind_of k)) ≤ length o
+    pub node_room : at + length (kind_word k) ≤ length o
     node_room =
         by_test (eqb uses 0)
         (λ z. omega (arith, ap length (none (eqb-true uses 0 z))))
-        (λ z. omega (arith, room_first (eqb-false uses 0 z), length-append (kind_word (kind_of k)) (tab ∷ digits a)))
+        (λ z. omega (arith, room_first (eqb-false uses 0 z), length-append (kind_word k) (tab ∷ digits a)))
 
-    module _ (p : ℕ) (o' : List ℕ) (word : Printed (kind_word (kind_of k)) o at p o') where
+    module _ (p : ℕ) (o' : List ℕ) (word : Printed (kind_word k) o at p o') where
       -- `put_node`, no operand: `node_text` is the kind's word
-      pub node_none : uses ≡ 0 → Printed (node_text (node (kind_of k) a b)) o at p o'
+      pub node_none : uses ≡ 0 → Printed (node_text (node k a b)) o at p o'
       node_none e = rw (none e) word
 
       module _ (z : uses ≡ 0 → ⊥) where
         pub node_first_room : length o' ≡ length o → p + length (tab ∷ digits a) ≤ length o'
-        node_first_room kept = omega (arith, room_first z, length-append (kind_word (kind_of k)) (tab ∷ digits a), word.next)
+        node_first_room kept = omega (arith, room_first z, length-append (kind_word k) (tab ∷ digits a), word.next)
 
         module _ (q : ℕ) (o'' : List ℕ) (first : Printed (tab ∷ digits a) o' p q o'') where
-          both : Printed (kind_word (kind_of k) ++ (tab ∷ digits a)) o at q o''
-          both = printed_seq (kind_word (kind_of k)) (tab ∷ digits a) o o' o'' at p q node_room word first
+          both : Printed (kind_word k ++ (tab ∷ digits a)) o at q o''
+          both = printed_seq (kind_word k) (tab ∷ digits a) o o' o'' at p q node_room word first
 
           -- `put_node`, one operand: `node_text` is the word and its field
-          pub node_one : uses ≡ 1 → Printed (node_text (node (kind_of k) a b)) o at q o''
+          pub node_one : uses ≡ 1 → Printed (node_text (node k a b)) o at q o''
           node_one e = rw (one z e) both
 
           module _ (m : uses ≡ 1 → ⊥) where
             pub node_second_room : length o' ≡ length o → length o'' ≡ length o' → q + length (tab ∷ digits b) ≤ length o''
-            node_second_room h j = omega (arith, ap length (two z m), length-append (kind_word (kind_of k) ++ (tab ∷ digits a)) (tab ∷ digits b), both.next)
+            node_second_room h j = omega (arith, ap length (two z m), length-append (kind_word k ++ (tab ∷ digits a)) (tab ∷ digits b), both.next)
 
             -- `put_node`, two operands: `node_text` is the word and both fields
-            pub node_two : (r : ℕ) (o''' : List ℕ) → Printed (tab ∷ digits b) o'' q r o''' → Printed (node_text (node (kind_of k) a b)) o at r o'''
-            node_two r o''' second = rw (two z m) (printed_seq (kind_word (kind_of k) ++ (tab ∷ digits a)) (tab ∷ digits b) o o'' o''' at q r (room_first z) both second)
+            pub node_two : (r : ℕ) (o''' : List ℕ) → Printed (tab ∷ digits b) o'' q r o''' → Printed (node_text (node k a b)) o at r o'''
+            node_two r o''' second = rw (two z m) (printed_seq (kind_word k ++ (tab ∷ digits a)) (tab ∷ digits b) o o'' o''' at q r (room_first z) both second)
 
 pub ruleset pen_laws = (rules, node_room, node_none, node_first_room, node_one, node_second_room, node_two)
 

@@ -7,27 +7,35 @@ use native.Mathlib.Omega.{arith}
 use lib.ListN.{length, take, length-append}
 use lib.Seq.{length-take-le}
 use borrow.Author.Rules.{rules}
-use borrow.Author.Tests.{lt-ltb, le-ltb}
+use borrow.Author.Tests.{lt-ltb, le-ltb, ne_eqb}
 use mir.Syntax.{w32}
 use mir.Val.{Fits}
-use Rattle.definitions.specs.Limits.{max_controllers, max_rule_nodes, max_rule_bytes, lent_short}
+use Rattle.definitions.specs.Limits.{max_controllers, max_rule_nodes, max_rule_bytes, lent_short, accepted}
 use Rattle.definitions.specs.Bounded.{pick}
 use Rattle.definitions.specs.Nodes.{node_of}
 use Rattle.definitions.specs.Tables.{Rule, node_refusal, nodes_refusal, rule_refusal, rule_of}
 use Rattle.definitions.specs.Lines.{tab, newline, digits}
 use Rattle.definitions.specs.RuleText.{rule_word, nodes_text, rule_text}
-use Rattle.definitions.specs.Operations.{text_of, write_rule_number, write_rule_answer, write_rule_text}
+use Rattle.definitions.specs.Operations.{answer, text_of, write_rule_number, write_rule_answer, write_rule_text}
 use Rattle.theorems.proofs.Choice.{or_else_none}
 use Rattle.theorems.proofs.RefusalBounds.{rule_low}
 use Rattle.theorems.proofs.NodeLaws.{accepted_heading, accepted_rule}
 use Rattle.theorems.proofs.RoundTrips.{text_fits}
-use Rattle.theorems.proofs.LentSpace.{refused_answer, accepted_answer}
 use Rattle.lent.specs.Space.{laid, cleared}
 use Rattle.lent.proofs.LeftLaws.{laid_past, laid_begins, left_untouched, left_zeroed, left_filled}
 use Rattle.printing.specs.Printing.{laid_at, Printed}
 use Rattle.printing.proofs.PrintLaws.{printed_seq}
 use Rattle.rule_writer.specs.Writing.{heading_line, heading_size, WroteRule}
-use Rattle.rule_writer.specs.declared.RuleWritten.TheVariants.{Length, Refused}
+use Rattle.std.specs.Prelude.{Ok, Err}
+use Rattle.rules.specs.Refusals.{number_of}
+use Rattle.rules.specs.declared.refusal.Refusal.{Refusal}
+use Rattle.rules.specs.declared.refusal.Refusal.TheVariants.{LentShort}
+use Rattle.rules.proofs.RefusalLaws.{number_some}
+
+-- "a refusal carries its number alone", whatever values there would have been
+refusal_alone : (e : Refusal) (values : List ℕ) → answer (number_of e) [] ≡ answer (number_of e) values
+unfolding answer pick
+refusal_alone e values = rw (ne_eqb (number_of e) 0 (number_some e))
 
 -- an accepted rule has as many nodes as its count says
 enough_nodes : (b : Bool) (i n : ℕ) (ws : List ℕ) → nodes_refusal b i n ws ≡ 0 → n ≤ length ws
@@ -61,27 +69,29 @@ module _ (c n : ℕ) (ws o : List ℕ) where
   number_checked h = rw (le-ltb (length o) max_rule_bytes h)
 
   -- `write_rule`, 13: `write_rule_text` is what was lent
-  pub write_short : length o < max_rule_bytes → WroteRule (rule_of c n ws) o (Refused lent_short) o
+  pub write_short : length o < max_rule_bytes → WroteRule (rule_of c n ws) o (Err LentShort) o
   unfolding write_rule_answer write_rule_text
   write_short h =
       let e = number_short h in
-      record { answered = rw e (refused_answer lent_short _ (λ q. omega arith)); text = left_untouched (write_rule_number rule o) max_rule_bytes (text_of rule) o e }
+      record { answered = rw e (refusal_alone LentShort _); text = left_untouched (write_rule_number rule o) max_rule_bytes (text_of rule) o e }
 
-  module _ (long : max_rule_bytes ≤ length o) (k : ℕ) (ks : k ≡ rule_refusal (rule_of c n ws)) where
-    is : write_rule_number rule o ≡ k
-    is = number_checked long ∙ sym ks
-
+  module _ (long : max_rule_bytes ≤ length o) where
     -- `write_rule`, another refusal: `write_rule_text` is zero over its full size
-    pub write_refused : (k ≡ 0 → ⊥) → (o' : List ℕ) → o' ≡ cleared o 0 max_rule_bytes → WroteRule (rule_of c n ws) o (Refused k) o'
+    pub write_refused : (e : Refusal) → number_of e ≡ rule_refusal (rule_of c n ws) → (o' : List ℕ) → o' ≡ cleared o 0 max_rule_bytes → WroteRule (rule_of c n ws) o (Err e) o'
     unfolding write_rule_answer write_rule_text
-    write_refused z o' e = record {
-      answered = rw is (refused_answer k _ z);
-      text = left_zeroed (write_rule_number rule o) max_rule_bytes (text_of rule) o o o' refl (λ q. omega (arith, number_checked long, rule_low rule)) (λ q. z (sym is ∙ q)) e;
-    }
+    write_refused e k o' x =
+        let is : write_rule_number rule o ≡ number_of e = number_checked long ∙ sym k in
+        record {
+          answered = rw is (refusal_alone e _);
+          text = left_zeroed (write_rule_number rule o) max_rule_bytes (text_of rule) o o o' refl (λ q. omega (arith, number_checked long, rule_low rule)) (λ q. number_some e (sym is ∙ q)) x;
+        }
 
-    module _ (z : k ≡ 0) where
+    module _ (z : accepted ≡ rule_refusal (rule_of c n ws)) where
       fine : rule_refusal rule ≡ 0
-      fine = sym ks ∙ z
+      fine = sym z
+
+      is : write_rule_number rule o ≡ 0
+      is = number_checked long ∙ fine
 
       limits : (c < max_controllers) × ((1 ≤ n) × (n ≤ max_rule_nodes))
       limits = accepted_heading c n (accepted_rule rule fine).0
@@ -123,13 +133,13 @@ module _ (c n : ℕ) (ws o : List ℕ) where
           over = let m : 0 + length (text_of rule) ≡ length (text_of rule) = omega arith in whole.lies ∙ rw m
 
           -- `write_rule`, accepted: `write_rule_answer` is the length, `write_rule_text` the text and then zeros
-          pub write_accepted : (o''' : List ℕ) → o''' ≡ cleared o'' e max_rule_bytes → WroteRule (rule_of c n ws) o (Length e) o'''
-          unfolding write_rule_answer write_rule_text
+          pub write_accepted : (o''' : List ℕ) → o''' ≡ cleared o'' e max_rule_bytes → WroteRule (rule_of c n ws) o (Ok e) o'''
+          unfolding write_rule_answer write_rule_text answer pick
           write_accepted o''' x =
               let l : length (text_of rule) ≡ e = omega (arith, whole.next) in
               record {
-                answered = rw (← l) (accepted_answer (write_rule_number rule o) (length (text_of rule) ∷ []) (is ∙ z));
-                text = left_filled (write_rule_number rule o) max_rule_bytes (text_of rule) o o'' o''' (laid_past max_rule_bytes (text_of rule) o o'' (text_fits rule fine) over) e (is ∙ z) l
+                answered = rw (is, l);
+                text = left_filled (write_rule_number rule o) max_rule_bytes (text_of rule) o o'' o''' (laid_past max_rule_bytes (text_of rule) o o'' (text_fits rule fine) over) e is l
                     (laid_begins e (text_of rule) o o'' l over) x;
               }
 

@@ -1,12 +1,11 @@
 -- What the writer of a rule text answers, and what it leaves in lent space.
-use Rattle.std.specs.Prelude.{◌≡◌, ℕ, ◌+◌, List, [], ◌∷◌, ◌++◌, length}
-use Rattle.definitions.specs.Limits.{accepted}
+use Rattle.std.specs.Prelude.{◌≡◌, ℕ, ◌+◌, List, [], ◌∷◌, ◌++◌, length, Result}
 use Rattle.definitions.specs.Tables.{Rule}
 use Rattle.definitions.specs.Lines.{tab, newline, digits}
 use Rattle.definitions.specs.RuleText.{rule_word}
 use Rattle.definitions.specs.Operations.{Answer, write_rule_answer, write_rule_text}
-use Rattle.rule_writer.specs.declared.RuleWritten.{RuleWritten}
-use Rattle.rule_writer.specs.declared.RuleWritten.TheVariants.{Length, Refused}
+use Rattle.rules.specs.Answers.{answer_of}
+use Rattle.rules.specs.declared.refusal.Refusal.{Refusal}
 
 -- the first line, with byte 10
 unfoldable pub heading_line : ℕ → ℕ → List ℕ
@@ -17,11 +16,10 @@ abbrev pub heading_size : ℕ → ℕ → ℕ
 heading_size controller count = length rule_word + length (tab ∷ digits controller) + length (tab ∷ digits count) + 1
 
 -- "write one (length, text)": the number and the values of each case
-abbrev pub write_answer : RuleWritten → Answer
-write_answer (Length n) = record { number = accepted; values = n ∷ [] }
-write_answer (Refused number) = record { number = number; values = [] }
+abbrev pub write_answer : Result ℕ Refusal → Answer
+write_answer = answer_of (λ n. n ∷ [])
 
 -- the whole answer, and all of the lent text
-pub record WroteRule (rule : Rule) (entry : List ℕ) (r : RuleWritten) (exit : List ℕ) : Type 0 where
+pub record WroteRule (rule : Rule) (entry : List ℕ) (r : Result ℕ Refusal) (exit : List ℕ) : Type 0 where
   pub answered : write_answer r ≡ write_rule_answer rule entry
   pub text : exit ≡ write_rule_text rule entry

@@ -3,37 +3,29 @@
 #![tactic(auto)]
 
 ghost use Rattle.std.specs.Prelude.{◌+◌, ◌≤◌, length};
-ghost use Rattle.definitions.specs.Nodes.{kind_of};
-ghost use Rattle.definitions.specs.Tables.{rule_of};
 ghost use Rattle.definitions.specs.RuleText.{kind_word, node_text, nodes_text};
 ghost use Rattle.printing.specs.Printing.{Printed};
+ghost use Rattle.rules.specs.Handed.{rule_in};
+ghost use Rattle.rules.specs.Kinds.{kind_in};
 ghost use Rattle.rules.specs.Meaning.{meaning};
 ghost use Rattle.rule_writer.specs.Writing.{heading_line, heading_size, WroteRule};
 
 use kind_words::word_of;
 use lines::scan;
 use printing::{put, put_byte, put_field};
-use rules::kind::operand_count;
-use rules::limits::{Limits, Refusal};
+use rules::kind::Kind;
+use rules::limits::Limits;
 use rules::node::Node;
-use rules::table_check::rule_refusal;
-
-// The length of the text, or the refusal.
-#[derive(Clone, Copy)]
-pub enum RuleWritten {
-    Length(usize),
-    Refused(u8),
-}
+use rules::refusal::Refusal;
+use rules::rule::Rule;
+use rules::table_check::check_rule;
 
 // The word of a kind.
-fn put_kind(kind: u8, at: usize, text: &mut [u8]) -> usize
-    requires { at + length (kind_word (kind_of kind)) ≤ length text.old }
-    ensures { Printed (kind_word (kind_of kind)) text.old at result text.new }
+fn put_kind(kind: Kind, at: usize, text: &mut [u8]) -> usize
+    requires { at + length (kind_word (kind_in kind)) ≤ length text.old }
+    ensures { Printed (kind_word (kind_in kind)) text.old at result text.new }
 {
-    let word = word_of(kind);
-    let letters = word.0;
-    let count = word.1;
-    put(&letters[..count], at, text)
+    put(word_of(kind), at, text)
 }
 
 // The line of a node, without its end.
@@ -41,19 +33,16 @@ fn put_node(n: Node, at: usize, text: &mut [u8]) -> usize
     requires { at + length (node_text (meaning n)) ≤ length text.old }
     ensures { Printed (node_text (meaning n)) text.old at result text.new }
 {
-    let kind = n.kind;
-    let first = n.first;
-    let second = n.second;
-    let uses = operand_count(kind);
-    let after_kind = put_kind(kind, at, text);
+    let uses = n.kind.operands();
+    let after_kind = put_kind(n.kind, at, text);
     if uses == 0 {
         return after_kind;
     }
-    let after_first = put_field(first as u64, after_kind, text);
+    let after_first = put_field(n.first as u64, after_kind, text);
     if uses == 1 {
         return after_first;
     }
-    put_field(second as u64, after_first, text)
+    put_field(n.second as u64, after_first, text)
 }
 
 // The lines of the nodes.
@@ -62,12 +51,9 @@ fn put_nodes(words: &[u32], start: usize, text: &mut [u8]) -> usize
     ensures { Printed (nodes_text words.now) text.old start result text.new }
 {
     let mut at = start;
-    let mut i = 0;
-    while i < words.len() {
-        let end = put_node(Node::of_word(words[i]), at, text);
-        let next = put_byte(scan::NEWLINE, end, text);
-        at = next;
-        i += 1;
+    for word in words {
+        let end = put_node(Node::of_word(*word), at, text);
+        at = put_byte(scan::NEWLINE, end, text);
     }
     at
 }
@@ -84,19 +70,18 @@ fn put_heading(controller: u32, count: u32, text: &mut [u8]) -> usize
 }
 
 // Writes the text of a rule into `text`.
-pub fn write_rule(controller: usize, count: usize, nodes: &[u32], text: &mut [u8]) -> RuleWritten
-    ensures { WroteRule (rule_of controller count nodes.now) text.old result text.new }
+pub fn write_rule(rule: Rule<'_>, text: &mut [u8]) -> Result<usize, Refusal>
+    ensures { WroteRule (rule_in rule.entry) text.old result text.new }
 {
     if text.len() < Limits::RULE_BYTES {
-        return RuleWritten::Refused(Refusal::LENT_SHORT);
+        return Err(Refusal::LentShort);
     }
-    let refusal = rule_refusal(controller, count, nodes);
-    if refusal != Refusal::NONE {
-        lent::clear_u8(text, 0, Limits::RULE_BYTES);
-        return RuleWritten::Refused(refusal);
+    if let Err(refusal) = check_rule(rule) {
+        lent::clear(text, 0, Limits::RULE_BYTES);
+        return Err(refusal);
     }
-    let after_heading = put_heading(controller as u32, count as u32, text);
-    let end = put_nodes(&nodes[..count], after_heading, text);
-    lent::clear_u8(text, end, Limits::RULE_BYTES);
-    RuleWritten::Length(end)
+    let after_heading = put_heading(rule.controller as u32, rule.count as u32, text);
+    let end = put_nodes(&rule.nodes[..rule.count], after_heading, text);
+    lent::clear(text, end, Limits::RULE_BYTES);
+    Ok(end)
 }

@@ -1,6 +1,6 @@
 -- A node that fits is refused by nothing; of another one, its kind and its second operand tell the number.
 use mathlib.Core.Bool.{Bool, true, false, not, ◌&&◌, ◌||◌}
-use mathlib.Core.Path.{◌≡◌, refl, sym, ap, ◌∙◌}
+use mathlib.Core.Path.{◌≡◌, refl, sym, ap}
 use Prim.Native.Nat.{ℕ, ◌<◌}
 use native.Mathlib.Decide.{ℕ_discrete, dec_lt}
 use native.Mathlib.Omega.{arith}
@@ -9,34 +9,11 @@ use borrow.Author.Tests.{ne_eqb, eq-eqb, lt-ltb, le-ltb, lt-leb, le-leb}
 use lib.Dec.{eqb, ltb, leb}
 use Rattle.definitions.specs.Limits.{atom_count, accepted, rule_limits, rule_operand}
 use Rattle.definitions.specs.Bounded.{pick}
-use Rattle.definitions.specs.Nodes.{Kind, True, Atom, Not, Or, Next, Until, Prev, Since, Run, End, Unknown, node, kind_of, operands}
-use Rattle.definitions.specs.Tables.{is_atom, node_refusal}
-use Rattle.rules.proofs.KindLaws.{kind_cases}
-use Rattle.rules.specs.Fits.{is_held, takes_nodes, unused_clear, node_fits}
-
--- the kind, told by its number
--- `takes_nodes`: the two tests of the number are `takes_nodes` of its kind
-pub nodes_of_lem : (k : ℕ) → (ltb 1 k && ltb k 8) ≡ takes_nodes (kind_of k)
-nodes_of_lem = kind_cases (λ k K. (ltb 1 k && ltb k 8) ≡ takes_nodes K) refl refl refl refl refl refl refl refl refl refl
-    (λ k h. rw (lt-ltb 1 k (omega arith), le-ltb k 8 (omega arith)))
-
-atom_of : (k : ℕ) → eqb k 1 ≡ is_atom (kind_of k)
-atom_of = kind_cases (λ k K. eqb k 1 ≡ is_atom K) refl refl refl refl refl refl refl refl refl refl (λ k h. ne_eqb k 1 (λ e. omega arith))
-
-held_of : (rewritten : Bool) (k : ℕ) → leb k (pick rewritten 9 7) ≡ is_held rewritten (kind_of k)
-unfolding pick
-held_of true = kind_cases (λ k K. leb k 9 ≡ is_held true K) refl refl refl refl refl refl refl refl refl refl (λ k h. lt-leb k 9 h)
-held_of false = kind_cases (λ k K. leb k 7 ≡ is_held false K) refl refl refl refl refl refl refl refl refl refl (λ k h. lt-leb k 7 (omega arith))
-
--- `unused_clear`: two operands, or a second one of 0, is `unused_clear`
-pub clear_of : (k a b : ℕ) (two z : Bool) → two ≡ eqb (operands (kind_of k)) 2 → z ≡ (two || eqb b 0) → z ≡ unused_clear (node (kind_of k) a b)
-clear_of k a b two z t e = rw (e, t)
-
--- `node_fits`: the tests of the kind and of the operands are `node_fits`
-pub node_fits_lem : (rewritten : Bool) (i k a b kinds limit : ℕ) (nodes clear z : Bool) → kinds ≡ pick rewritten 9 7 → nodes ≡ takes_nodes (kind_of k) → limit ≡ pick (eqb k 1) atom_count 1 → clear ≡ unused_clear (node (kind_of k) a b)
-    → z ≡ ((leb k kinds && clear) && ((nodes && (ltb a i && ltb b i)) || (not nodes && ltb a limit))) → z ≡ node_fits rewritten i (node (kind_of k) a b)
-unfolding node_fits
-node_fits_lem rewritten i k a b kinds limit nodes clear z h n l c e = e ∙ rw (h, n, l, c, held_of rewritten k, atom_of k)
+use Rattle.definitions.specs.Nodes.{Kind, True, Atom, Not, Or, Next, Until, Prev, Since, Run, End, Unknown, Node, node, operands}
+use Rattle.definitions.specs.Tables.{node_refusal}
+use Rattle.rules.specs.Fits.{takes_nodes, node_fits}
+use Rattle.rules.specs.Refusals.{number_of}
+use Rattle.rules.specs.declared.refusal.Refusal.{Refusal}
 
 -- the tests of the definition as those of the code
 late : (i a : ℕ) → leb i a ≡ not (ltb a i)
@@ -114,22 +91,21 @@ module _ (i a b : ℕ) where
   refusal_is false End = refl
   refusal_is rewritten Unknown = refl
 
--- a node that fits is refused by nothing
--- `node_refusal`, the node fits: `node_refusal` is 0
-pub fits_none : (rewritten : Bool) (i k a b : ℕ) (z : Bool) → z ≡ node_fits rewritten i (node (kind_of k) a b) → z ≡ true → accepted ≡ node_refusal rewritten i (node (kind_of k) a b)
+module _ (rewritten : Bool) (i : ℕ) (n : Node) where
+  -- `check_node`, the node fits: `node_refusal` is 0
+  pub fits_none : (z : Bool) → z ≡ node_fits rewritten i n → z ≡ true → accepted ≡ node_refusal rewritten i n
+  unfolding pick
+  fits_none z e t = rw (refusal_is i n.first n.second rewritten n.kind, ← e, t)
+
+  -- `misfit`: of every node that doesn't fit, its number is `node_refusal`
+  pub misfit_refused : node_fits rewritten i n ≡ false → number n.kind n.second ≡ node_refusal rewritten i n
+  unfolding pick
+  misfit_refused f = rw (refusal_is i n.first n.second rewritten n.kind, f)
+
+-- a choice of refusals is a choice of their numbers
+pub number_picked : (z : Bool) (a b : Refusal) → number_of (pick z a b) ≡ pick z (number_of a) (number_of b)
 unfolding pick
-fits_none rewritten i k a b z e t = rw (refusal_is i a b rewritten (kind_of k), ← e, t)
+number_picked true a b = refl
+number_picked false a b = refl
 
--- a node that doesn't fit is refused
--- `misfit_refusal`: of every node that doesn't fit, the number is `node_refusal`
-pub misfit_refused : (k a b r : ℕ) (nodes clear : Bool) → nodes ≡ takes_nodes (kind_of k) → clear ≡ unused_clear (node (kind_of k) a b) → r ≡ pick (nodes && clear) rule_operand rule_limits →
-    (rewritten : Bool) (i : ℕ) → node_fits rewritten i (node (kind_of k) a b) ≡ false → r ≡ node_refusal rewritten i (node (kind_of k) a b)
-unfolding pick
-misfit_refused k a b r nodes clear n c e rewritten i f = rw (refusal_is i a b rewritten (kind_of k), f, e, n, c)
-
--- `node_refusal`, the node doesn't fit: the number of `misfit_refusal` is `node_refusal`
-pub misfit_asked : (rewritten : Bool) (i k a b r : ℕ) (z : Bool) → z ≡ node_fits rewritten i (node (kind_of k) a b) → z ≡ false →
-    ((rewritten : Bool) (i : ℕ) → node_fits rewritten i (node (kind_of k) a b) ≡ false → r ≡ node_refusal rewritten i (node (kind_of k) a b)) → r ≡ node_refusal rewritten i (node (kind_of k) a b)
-misfit_asked rewritten i k a b r z e f h = h rewritten i (rw (← e) f)
-
-pub ruleset fit_laws = (rules, nodes_of_lem, clear_of, node_fits_lem, fits_none, misfit_refused, misfit_asked)
+pub ruleset fit_laws = (rules, fits_none)

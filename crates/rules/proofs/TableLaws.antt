@@ -1,34 +1,29 @@
 -- The check of a table, turn by turn and return by return.
-use mathlib.Core.Bool.{Bool, true, false, ◌&&◌}
+use mathlib.Core.Bool.{Bool, true, ◌&&◌}
 use mathlib.Core.List.{List}
 use mathlib.Core.Path.{◌≡◌, refl, sym, ◌∙◌}
 use Prim.Native.Nat.{ℕ, suc, ◌+◌, ◌-◌, ◌<◌, ◌≤◌}
 use native.Mathlib.Nat.{sub-zero}
 use native.Mathlib.Omega.{arith}
 use borrow.Author.Rules.{rules}
-use borrow.Author.Tests.{ne_eqb, leb-true}
-use lib.Dec.{ltb, leb}
+use borrow.Author.Tests.{leb-true}
+use lib.Dec.{leb}
 use lib.ListN.{length, drop, get_or, drop_of_length-le}
 use lib.Seq.{drop-cons}
 use native.Mathlib.Numerals.{add-one}
 use Rattle.definitions.specs.Limits.{max_table_nodes, accepted, rule_limits, rule_lines}
 use Rattle.definitions.specs.Bounded.{pick, within, or_else}
 use Rattle.definitions.specs.Nodes.{node_of}
-use Rattle.definitions.specs.Tables.{node_refusal, nodes_refusal, rule_heading_refusal, rule_refusal, tops_refusal, table_refusal, rule_of, table_of}
+use Rattle.definitions.specs.Tables.{node_refusal, nodes_refusal, rule_heading_refusal}
 use Rattle.theorems.proofs.Choice.{both_true, accept_yes}
 use Rattle.theorems.proofs.NodeLaws.{accepted_heading}
 use Rattle.rules.specs.Meaning.{meaning, OfWord}
 use Rattle.rules.specs.declared.node.Node.{Node}
 use Rattle.rules.specs.Fits.{node_fits}
+use Rattle.rules.specs.Refusals.{number_of}
+use Rattle.rules.specs.declared.refusal.Refusal.{Refusal}
+use Rattle.rules.proofs.RefusalLaws.{refusals, first_refusal, next_refusal}
 use Rattle.rules.proofs.FitLaws.{fits_none}
-
-or_first_lem : (k other : ℕ) → (k ≡ 0 → ⊥) → or_else k other ≡ k
-unfolding or_else pick
-or_first_lem k other z = rw (ne_eqb k 0 z)
-
-or_second_lem : (k other : ℕ) → k ≡ 0 → or_else k other ≡ other
-unfolding or_else pick
-or_second_lem k other z = rw z
 
 -- what is left to test at node i is the answer
 pub record Left (rewritten : Bool) (count : ℕ) (ws : List ℕ) (i : ℕ) : Type 0 where
@@ -36,14 +31,14 @@ pub record Left (rewritten : Bool) (count : ℕ) (ws : List ℕ) (i : ℕ) : Typ
   pub rest : nodes_refusal rewritten 0 count ws ≡ nodes_refusal rewritten i (count - i) (drop i ws)
 
 module _ (rewritten : Bool) (count : ℕ) (ws : List ℕ) where
-  -- `first_refusal`, before node 0: all of `nodes_refusal` is left
+  -- `check_each`, before node 0: all of `nodes_refusal` is left
   pub left_start : Left rewritten count ws 0
   left_start = record { inside = omega arith; rest = rw sub-zero }
 
   more : (i : ℕ) → i < count → count - i ≡ suc (count - (i + 1))
   more i h = omega arith
 
-  -- `first_refusal`, node i is missing: `nodes_refusal` is the number of missing lines
+  -- `check_each`, node i is missing: `nodes_refusal` is the number of missing lines
   pub left_missing : (i : ℕ) → Left rewritten count ws i → i < count → length ws ≤ i → rule_lines ≡ nodes_refusal rewritten 0 count ws
   unfolding nodes_refusal
   left_missing i l h m = sym (l.rest ∙ rw (more i h, drop_of_length-le ws m))
@@ -55,17 +50,21 @@ module _ (rewritten : Bool) (count : ℕ) (ws : List ℕ) where
   unfolding nodes_refusal
   at i h m = rw (more i h, drop-cons ws i 0 m, ← add-one i)
 
-  -- `first_refusal`, node i is refused: its number is `nodes_refusal`
-  pub left_refused : (i k : ℕ) (n : Node) → Left rewritten count ws i → i < count → i < length ws → OfWord (get_or ws i 0) n →
-      k ≡ node_refusal rewritten i (meaning n) → (k ≡ 0 → ⊥) → k ≡ nodes_refusal rewritten 0 count ws
-  left_refused i k n l h m o e z = sym (l.rest ∙ at i h m ∙ rw (← o.meant, ← e) (or_first_lem k _ z))
+  -- `check_each`, node i is refused: its number is `nodes_refusal`
+  pub left_refused : (i : ℕ) (e : Refusal) (n : Node) → Left rewritten count ws i → i < count → i < length ws → OfWord (get_or ws i 0) n →
+      number_of e ≡ node_refusal rewritten i (meaning n) → number_of e ≡ nodes_refusal rewritten 0 count ws
+  left_refused i e n l h m o r =
+      let refused : number_of e ≡ node_refusal rewritten i (node_of (get_or ws i 0)) = rw (← o.meant) r in
+      first_refusal e _ (nodes_refusal rewritten (i + 1) (count - (i + 1)) (drop (i + 1) ws)) refused ∙ sym (l.rest ∙ at i h m)
 
-  -- `first_refusal`, node i is accepted: `nodes_refusal` is left from the next node on
-  pub left_next : (i k : ℕ) (n : Node) → Left rewritten count ws i → i < count → i < length ws → OfWord (get_or ws i 0) n →
-      k ≡ node_refusal rewritten i (meaning n) → k ≡ 0 → Left rewritten count ws (i + 1)
-  left_next i k n l h m o e z = record { inside = omega arith; rest = l.rest ∙ at i h m ∙ rw (← o.meant, ← e) (or_second_lem k _ z) }
+  -- `check_each`, node i is accepted: `nodes_refusal` is left from the next node on
+  pub left_next : (i : ℕ) (n : Node) → Left rewritten count ws i → i < count → i < length ws → OfWord (get_or ws i 0) n →
+      accepted ≡ node_refusal rewritten i (meaning n) → Left rewritten count ws (i + 1)
+  left_next i n l h m o a =
+      let passed : accepted ≡ node_refusal rewritten i (node_of (get_or ws i 0)) = rw (← o.meant) a in
+      record { inside = omega arith; rest = l.rest ∙ at i h m ∙ sym (next_refusal _ _ (nodes_refusal rewritten (i + 1) (count - (i + 1)) (drop (i + 1) ws)) passed refl) }
 
-  -- `first_refusal`, no node is left: `nodes_refusal` is 0
+  -- `check_each`, no node is left: `nodes_refusal` is 0
   pub left_done : (i : ℕ) → Left rewritten count ws i → count ≤ i → accepted ≡ nodes_refusal rewritten 0 count ws
   unfolding nodes_refusal
   left_done i l h = let z : count - i ≡ 0 = omega (arith, l.inside) in sym (l.rest ∙ rw z)
@@ -87,7 +86,7 @@ module _ (rewritten : Bool) (count : ℕ) (ws : List ℕ) where
       inside = omega arith;
       rest = λ b.
           let both = both_true fit z b in
-          left_next rewritten count ws i 0 n (so.rest both.0) h (omega arith) o (fits_none rewritten i n.kind n.first n.second z e both.1) refl;
+          left_next rewritten count ws i n (so.rest both.0) h (omega arith) o (fits_none rewritten i (meaning n) z e both.1);
     }
 
     -- `all_fit`, no node is left: if all fit, `nodes_refusal` is 0
@@ -96,51 +95,18 @@ module _ (rewritten : Bool) (count : ℕ) (ws : List ℕ) where
 
 pub ruleset fit_laws = (rules, fit_start, fit_next, fit_done)
 
--- `nodes_refusal`, all nodes fit: `nodes_refusal` is 0
+-- `check_nodes`, all nodes fit: `nodes_refusal` is 0
 pub all_fit : (rewritten : Bool) (count : ℕ) (ws : List ℕ) (z : Bool) → (z ≡ true → nodes_refusal rewritten 0 count ws ≡ accepted) → z ≡ true → accepted ≡ nodes_refusal rewritten 0 count ws
 all_fit rewritten count ws z h e = sym (h e)
 
 pub ruleset node_laws = (rules, left_start, left_missing, left_refused, left_next, left_done)
 
-module _ (controller count : ℕ) (ws : List ℕ) where
-  -- `rule_refusal`, the heading is refused: its number is `rule_refusal`
-  pub rule_heading_lem : (k : ℕ) → k ≡ rule_heading_refusal controller count → (k ≡ 0 → ⊥) →
-      k ≡ rule_refusal (rule_of controller count ws)
-  unfolding rule_refusal
-  rule_heading_lem k e z = rw (← e) (sym (or_first_lem k _ z))
+-- `check_rule`, the heading is accepted: its count is within the limit
+pub rule_few : (controller count : ℕ) → accepted ≡ rule_heading_refusal controller count → count ≤ max_table_nodes
+rule_few controller count a = omega (arith, (accepted_heading controller count (sym a)).1.1)
 
-  pub rule_few : (k : ℕ) → k ≡ rule_heading_refusal controller count → k ≡ 0 → count ≤ max_table_nodes
-  rule_few k e z = omega (arith, (accepted_heading controller count (sym e ∙ z)).1.1)
+-- `check_table`, the count is accepted: it is within the limit
+pub table_few_lem : (count : ℕ) → accepted ≡ pick (within 1 max_table_nodes count) accepted rule_limits → count ≤ max_table_nodes
+table_few_lem count a = leb-true count max_table_nodes (both_true (leb 1 count) (leb count max_table_nodes) (accept_yes (within 1 max_table_nodes count) rule_limits (omega arith) (sym a))).1
 
-  -- `rule_refusal`, the heading is accepted: the number of the nodes is `rule_refusal`
-  pub rule_nodes_lem : (k r : ℕ) → k ≡ rule_heading_refusal controller count → k ≡ 0 → r ≡ nodes_refusal false 0 count ws →
-      r ≡ rule_refusal (rule_of controller count ws)
-  unfolding rule_refusal
-  rule_nodes_lem k r e z n = rw (← e) (n ∙ sym (or_second_lem k _ z))
-
-pub ruleset rule_laws = (rules, rule_heading_lem, rule_few, rule_nodes_lem)
-
-module _ (count : ℕ) (ws : List ℕ) (weak strong : ℕ) where
-  -- `table_refusal`, the count is refused: its number is `table_refusal`
-  pub table_heading : (k : ℕ) → k ≡ pick (within 1 max_table_nodes count) accepted rule_limits → (k ≡ 0 → ⊥) →
-      k ≡ table_refusal (table_of count ws weak strong)
-  unfolding table_refusal
-  table_heading k e z = rw (← e) (sym (or_first_lem k _ z))
-
-  pub table_few_lem : (k : ℕ) → k ≡ pick (within 1 max_table_nodes count) accepted rule_limits → k ≡ 0 → count ≤ max_table_nodes
-  table_few_lem k e z = leb-true count max_table_nodes (both_true (leb 1 count) (leb count max_table_nodes) (accept_yes (within 1 max_table_nodes count) rule_limits (omega arith) (sym e ∙ z))).1
-
-  -- `table_refusal`, a node is refused: its number is `table_refusal`
-  pub table_nodes : (k r : ℕ) → k ≡ pick (within 1 max_table_nodes count) accepted rule_limits → k ≡ 0 → r ≡ nodes_refusal true 0 count ws → (r ≡ 0 → ⊥) →
-      r ≡ table_refusal (table_of count ws weak strong)
-  unfolding table_refusal
-  table_nodes k r e z n y = rw (← e, ← n) (sym (or_second_lem k _ z ∙ or_first_lem r _ y))
-
-  -- `table_refusal`, the nodes are accepted: the number of the tops is `table_refusal`
-  pub table_tops : (k r t : ℕ) → k ≡ pick (within 1 max_table_nodes count) accepted rule_limits → k ≡ 0 → r ≡ nodes_refusal true 0 count ws → r ≡ 0 →
-      t ≡ pick (ltb weak count && ltb strong count) accepted rule_limits →
-      t ≡ table_refusal (table_of count ws weak strong)
-  unfolding table_refusal tops_refusal
-  table_tops k r t e z n y h = rw (← e, ← n) (h ∙ sym (or_second_lem k _ z ∙ or_second_lem r _ y))
-
-pub ruleset table_laws = (rules, table_heading, table_few_lem, table_nodes, table_tops)
+pub ruleset table_laws = (refusals, rule_few, table_few_lem)

@@ -1,7 +1,23 @@
--- Kinds without operand nodes, and the node that an accepted table holds.
+-- What a kind of the code means, kinds without operand nodes, and the node that an accepted table holds.
 use Rattle.std.specs.Prelude.{Bool, true, false, ◌≡◌, ℕ, ◌<◌}
 use Rattle.definitions.specs.Limits.{atom_count}
 use Rattle.definitions.specs.Nodes.{Kind, True, Atom, Not, Or, Next, Until, Prev, Since, Run, End, Unknown, Node}
+use Rattle.rules.specs.declared.kind.Kind as told
+use Rattle.rules.specs.declared.kind.Kind.TheVariants as code
+
+-- the kind that is meant
+abbrev pub kind_in : told.Kind → Kind
+kind_in code.True = True
+kind_in code.Atom = Atom
+kind_in code.Not = Not
+kind_in code.Or = Or
+kind_in code.Next = Next
+kind_in code.Until = Until
+kind_in code.Prev = Prev
+kind_in code.Since = Since
+kind_in code.Run = Run
+kind_in code.End = End
+kind_in code.Unknown = Unknown
 
 -- a kind that has no operand nodes
 abbrev pub is_leaf : Kind → Bool

@@ -1,4 +1,6 @@
-pub mod Headings
+pub mod Handed
 pub mod Kinds
 pub mod Meaning
 pub mod Fits
+pub mod Refusals
+pub mod Answers

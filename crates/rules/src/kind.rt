@@ -1,35 +1,88 @@
-// What a kind is, told by its number.
+// The kinds of nodes. "Each kind has one fixed number"; any other number is an unknown kind.
 ghost use Rattle.std.specs.Prelude.{◌≡◌, eqb};
-ghost use Rattle.definitions.specs.Nodes.{kind_of, operands};
-ghost use Rattle.definitions.specs.Tables.{is_unknown};
-ghost use Rattle.rules.specs.Kinds.{is_leaf};
+ghost use Rattle.definitions.specs.Nodes.{kind_of, kind_number, operands};
+ghost use Rattle.definitions.specs.Tables.{is_unknown, is_rewritten};
+ghost use Rattle.rules.specs.Kinds.{kind_in, is_leaf};
 
-use super::choice::pick;
-use super::node::Node;
-
-pub fn is_unknown(kind: u8) -> bool
-    ensures { result ≡ is_unknown (kind_of kind) }
-{
-    Node::END < kind
+#[derive(Clone, Copy, PartialEq, Eq)]
+pub enum Kind {
+    True,
+    Atom,
+    Not,
+    Or,
+    Next,
+    Until,
+    Prev,
+    Since,
+    Run,
+    End,
+    Unknown,
 }
 
-pub fn takes_two(kind: u8) -> bool
-    ensures { result ≡ eqb (operands (kind_of kind)) 2 }
-{
-    (kind == Node::OR) | (kind == Node::UNTIL) | (kind == Node::SINCE)
+impl From<u8> for Kind {
+    ghost from_gives = { λ number kind. kind_in kind ≡ kind_of number };
+
+    fn from(number: u8) -> Kind {
+        match number {
+            0 => Kind::True,
+            1 => Kind::Atom,
+            2 => Kind::Not,
+            3 => Kind::Or,
+            4 => Kind::Next,
+            5 => Kind::Until,
+            6 => Kind::Prev,
+            7 => Kind::Since,
+            8 => Kind::Run,
+            9 => Kind::End,
+            _ => Kind::Unknown,
+        }
+    }
 }
 
-// Kinds without operand nodes.
-pub fn is_leaf(kind: u8) -> bool
-    ensures { result ≡ is_leaf (kind_of kind) }
-{
-    (kind < Node::NOT) | (Node::SINCE < kind)
-}
+impl Kind {
+    pub fn number(self) -> u8
+        ensures { result ≡ kind_number (kind_in self) }
+    {
+        self as u8
+    }
 
-// How many operands a kind uses.
-pub fn operand_count(kind: u8) -> u8
-    ensures { result ≡ operands (kind_of kind) }
-{
-    let none = (kind == Node::TRUE) | (Node::SINCE < kind);
-    pick(none, 0, pick(takes_two(kind), 2, 1))
+    pub fn is_unknown(self) -> bool
+        ensures { result ≡ is_unknown (kind_in self) }
+    {
+        self == Kind::Unknown
+    }
+
+    // "8 and 9 only in rewritten tables"
+    pub fn is_rewritten(self) -> bool
+        ensures { result ≡ is_rewritten (kind_in self) }
+    {
+        matches!(self, Kind::Run | Kind::End)
+    }
+
+    pub fn takes_two(self) -> bool
+        ensures { result ≡ eqb (operands (kind_in self)) 2 }
+    {
+        matches!(self, Kind::Or | Kind::Until | Kind::Since)
+    }
+
+    // Kinds without operand nodes.
+    pub fn is_leaf(self) -> bool
+        ensures { result ≡ is_leaf (kind_in self) }
+    {
+        matches!(
+            self,
+            Kind::True | Kind::Atom | Kind::Run | Kind::End | Kind::Unknown
+        )
+    }
+
+    // How many operands a kind uses.
+    pub fn operands(self) -> u8
+        ensures { result ≡ operands (kind_in self) }
+    {
+        match self {
+            Kind::Or | Kind::Until | Kind::Since => 2,
+            Kind::Atom | Kind::Not | Kind::Next | Kind::Prev => 1,
+            Kind::True | Kind::Run | Kind::End | Kind::Unknown => 0,
+        }
+    }
 }

@@ -3,9 +3,10 @@
 #![tactic(auto)]
 
 pub mod choice;
-pub mod headings;
 pub mod kind;
 pub mod limits;
 pub mod node;
 pub mod node_check;
+pub mod refusal;
+pub mod rule;
 pub mod table_check;

@@ -1,4 +1,4 @@
-// The limits and the refusal numbers of document 01, as code has them; definitions/specs/Limits.antt is their meaning.
+// The limits of documents 01 and 02, as code has them; definitions/specs/Limits.antt is their meaning.
 
 #[derive(Clone, Copy)]
 pub struct Limits {}
@@ -36,47 +36,4 @@ impl Limits {
     pub const PAIRS: usize = Limits::STATES * Limits::RULE_NODES;
 
     pub const ARCHIVE_BYTES: usize = 8192;
-}
-
-#[derive(Clone, Copy)]
-pub struct Refusal {}
-
-impl Refusal {
-    pub const NONE: u8 = 0;
-
-    pub const RULE_FORM: u8 = 1;
-
-    pub const RULE_LIMITS: u8 = 2;
-
-    pub const RULE_OPERAND: u8 = 3;
-
-    pub const RULE_LINES: u8 = 4;
-
-    pub const RECORDING_FORM: u8 = 5;
-
-    pub const RECORDING_LIMITS: u8 = 6;
-
-    pub const MASKS_MEET: u8 = 7;
-
-    pub const RECORDING_LINES: u8 = 8;
-
-    pub const OUTPUT_RULE: u8 = 10;
-
-    pub const NO_CONTROLLER: u8 = 11;
-
-    pub const LENT_SHORT: u8 = 13;
-
-    pub const INPUT_LONG: u8 = 14;
-
-    pub const LINE_FORM: u8 = 15;
-
-    pub const BRACKETS_DEEP: u8 = 16;
-
-    pub const SESSION_FULL: u8 = 17;
-
-    pub const SESSION_EMPTY: u8 = 18;
-
-    pub const SECOND_GAUGE: u8 = 19;
-
-    pub const GAUGE_BIT_SET: u8 = 20;
 }

@@ -1,12 +1,15 @@
-// The check of a rule's table and of the judge's: the first refusal that is met, 0 for none.
+// The check of a rule's table and of the judge's: the first refusal that is met.
 ghost use Rattle.std.specs.Prelude.{true, ◌≡◌, ◌≤◌, length};
 ghost use Rattle.definitions.specs.Limits.{max_table_nodes, accepted};
-ghost use Rattle.definitions.specs.Tables.{nodes_refusal, rule_heading_refusal, rule_refusal, table_refusal, rule_of, table_of};
+ghost use Rattle.definitions.specs.Tables.{nodes_refusal, rule_heading_refusal, rule_refusal, table_refusal};
+ghost use Rattle.rules.specs.Handed.{rule_in, table_in};
+ghost use Rattle.rules.specs.Refusals.{refusal_in};
 
-use super::choice::pick;
-use super::limits::{Limits, Refusal};
+use super::limits::Limits;
 use super::node::Node;
-use super::node_check::{node_fits, node_refusal};
+use super::node_check::{check_node, node_fits};
+use super::refusal::{Refusal, unless};
+use super::rule::{Rule, Table};
 
 // Each node fits: one pass without a branch, for the tables that are accepted.
 fn all_fit(rewritten: bool, count: usize, nodes: &[u32]) -> bool
@@ -21,68 +24,55 @@ fn all_fit(rewritten: bool, count: usize, nodes: &[u32]) -> bool
 }
 
 // The nodes that are there, in order, then a node missing.
-fn first_refusal(rewritten: bool, count: usize, nodes: &[u32]) -> u8
+fn check_each(rewritten: bool, count: usize, nodes: &[u32]) -> Result<(), Refusal>
     requires { count ≤ max_table_nodes }
-    ensures { result ≡ nodes_refusal rewritten 0 count nodes.now }
+    ensures { refusal_in result ≡ nodes_refusal rewritten 0 count nodes.now }
 {
-    let mut i = 0;
-    while i < count {
+    for i in 0..count {
         if nodes.len() <= i {
-            return Refusal::RULE_LINES;
+            return Err(Refusal::RuleLines);
         }
-        let refusal = node_refusal(rewritten, i as u16, Node::of_word(nodes[i]));
-        if refusal != Refusal::NONE {
-            return refusal;
-        }
-        i += 1;
+        check_node(rewritten, i as u16, Node::of_word(nodes[i]))?;
     }
-    Refusal::NONE
+    Ok(())
 }
 
-fn nodes_refusal(rewritten: bool, count: usize, nodes: &[u32]) -> u8
+fn check_nodes(rewritten: bool, count: usize, nodes: &[u32]) -> Result<(), Refusal>
     requires { count ≤ max_table_nodes }
-    ensures { result ≡ nodes_refusal rewritten 0 count nodes.now }
+    ensures { refusal_in result ≡ nodes_refusal rewritten 0 count nodes.now }
 {
     if count <= nodes.len() {
         if all_fit(rewritten, count, nodes) {
-            return Refusal::NONE;
+            return Ok(());
         }
     }
-    first_refusal(rewritten, count, nodes)
+    check_each(rewritten, count, nodes)
 }
 
 // A controller or a count outside its limits.
-pub fn rule_heading_refusal(controller: usize, count: usize) -> u8
-    ensures { result ≡ rule_heading_refusal controller count }
+pub fn check_rule_heading(controller: usize, count: usize) -> Result<(), Refusal>
+    ensures { refusal_in result ≡ rule_heading_refusal controller count }
 {
     let fits = (controller < Limits::CONTROLLERS) & ((1 <= count) & (count <= Limits::RULE_NODES));
-    pick(fits, Refusal::NONE, Refusal::RULE_LIMITS)
+    unless(Refusal::RuleLimits, fits)
 }
 
 // The heading, then the nodes.
-pub fn rule_refusal(controller: usize, count: usize, nodes: &[u32]) -> u8
-    ensures { result ≡ rule_refusal (rule_of controller count nodes.now) }
+pub fn check_rule(rule: Rule<'_>) -> Result<(), Refusal>
+    ensures { refusal_in result ≡ rule_refusal (rule_in rule.entry) }
 {
-    let heading = rule_heading_refusal(controller, count);
-    if heading != Refusal::NONE {
-        return heading;
-    }
-    nodes_refusal(false, count, nodes)
+    check_rule_heading(rule.controller, rule.count)?;
+    check_nodes(false, rule.count, rule.nodes)
 }
 
 // The count, then the nodes, then the tops.
-pub fn table_refusal(count: usize, nodes: &[u32], weak_top: usize, strong_top: usize) -> u8
-    ensures { result ≡ table_refusal (table_of count nodes.now weak_top strong_top) }
+pub fn check_table(table: Table<'_>) -> Result<(), Refusal>
+    ensures { refusal_in result ≡ table_refusal (table_in table.entry) }
 {
+    let count = table.count;
     let some = (1 <= count) & (count <= Limits::TABLE_NODES);
-    let heading = pick(some, Refusal::NONE, Refusal::RULE_LIMITS);
-    if heading != Refusal::NONE {
-        return heading;
-    }
-    let refusal = nodes_refusal(true, count, nodes);
-    if refusal != Refusal::NONE {
-        return refusal;
-    }
-    let tops = (weak_top < count) & (strong_top < count);
-    pick(tops, Refusal::NONE, Refusal::RULE_LIMITS)
+    unless(Refusal::RuleLimits, some)?;
+    check_nodes(true, count, table.nodes)?;
+    let tops = (table.weak_top < count) & (table.strong_top < count);
+    unless(Refusal::RuleLimits, tops)
 }

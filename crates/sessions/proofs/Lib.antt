@@ -1,3 +1,4 @@
+pub mod CallLaws
 pub mod ArrivalLaws
 pub mod OpeningLaws
 pub mod QueryLaws

@@ -1,84 +1,62 @@
 // A session opens, over whatever stood in lent space.
 ghost use Rattle.std.specs.Prelude.{◌≡◌};
-ghost use Rattle.definitions.specs.Tables.{rule_of};
 ghost use Rattle.definitions.specs.Sessions.{open_masks_refusal, open_refusal};
+ghost use Rattle.rules.specs.Handed.{rule_in};
+ghost use Rattle.rules.specs.Refusals.{refusal_in};
 ghost use Rattle.sessions.specs.Calls.{OpenIs};
 
-use super::arrival::controllers_refusal;
+use super::arrival::check_controllers;
 use super::heading::Heading;
-use lent::{clear_u64, lay_u32};
-use recordings::masks::masks_refusal;
-use rules::choice::{or_else, pick};
-use rules::limits::{Limits, Refusal};
-use rules::table_check::rule_refusal;
-
-// What stands before the masks and the nodes that a session opens on.
-#[derive(Clone, Copy)]
-pub struct Opening {
-    pub controllers: usize,
-    pub controller: usize,
-    pub count: usize,
-}
+use lent::{clear, lay};
+use recordings::masks::check_masks;
+use rules::limits::Limits;
+use rules::refusal::{Refusal, unless};
+use rules::rule::Rule;
+use rules::table_check::check_rule;
 
 // The masks that are there, then a mask missing.
-fn open_masks_refusal(controllers: usize, owned: &[u32]) -> u8
-    ensures { result ≡ open_masks_refusal controllers owned.now }
+#[tactic(auto, using(rules::proofs::RefusalLaws::refusals, crate::proofs::OpeningLaws::missing_is), unfolding(definitions::specs::Sessions::open_masks_refusal))]
+fn check_open_masks(controllers: usize, owned: &[u32]) -> Result<(), Refusal>
+    ensures { refusal_in result ≡ open_masks_refusal controllers owned.now }
 {
-    let meeting = masks_refusal(controllers, owned);
-    let missing = pick(
-        owned.len() < controllers,
-        Refusal::RECORDING_LINES,
-        Refusal::NONE,
-    );
-    or_else(meeting, missing)
+    check_masks(controllers, owned)?;
+    unless(Refusal::RecordingLines, controllers <= owned.len())
 }
 
 // The rule, C, the masks, then the rule's controller.
-fn open_refusal(opening: Opening, owned: &[u32], rule: &[u32]) -> u8
-    ensures { result ≡ open_refusal opening.controllers owned.now (rule_of opening.controller opening.count rule.now) }
+#[tactic(auto, using(rules::proofs::RefusalLaws::refusals), unfolding(definitions::specs::Sessions::open_refusal, definitions::specs::Recordings::controller_refusal))]
+fn check_opening(controllers: usize, owned: &[u32], rule: Rule<'_>) -> Result<(), Refusal>
+    ensures { refusal_in result ≡ open_refusal controllers owned.now (rule_in rule.entry) }
 {
-    let controllers = opening.controllers;
-    let below = pick(
-        opening.controller < controllers,
-        Refusal::NONE,
-        Refusal::NO_CONTROLLER,
-    );
-    let masks = or_else(open_masks_refusal(controllers, owned), below);
-    let limits = or_else(controllers_refusal(controllers), masks);
-    let refusal = rule_refusal(opening.controller, opening.count, rule);
-    or_else(refusal, limits)
+    check_rule(rule)?;
+    check_controllers(controllers)?;
+    check_open_masks(controllers, owned)?;
+    unless(Refusal::NoController, rule.controller < controllers)
 }
 
 // All is checked before anything is written.
+#[tactic(auto, using(crate::proofs::OpeningLaws::open_laws))]
 pub fn open_session(
-    opening: Opening,
+    controllers: usize,
     owned: &[u32],
-    rule: &[u32],
+    rule: Rule<'_>,
     heading: &mut [usize; Heading::NUMBERS],
     masks: &mut [u32],
     nodes: &mut [u32],
     states: &mut [u64],
-) -> u8
-    ensures { OpenIs opening.controllers owned.now (rule_of opening.controller opening.count rule.now) heading.old masks.old nodes.old states.old result heading.new masks.new nodes.new states.new }
+) -> Result<(), Refusal>
+    ensures { OpenIs controllers owned.now (rule_in rule.entry) heading.old masks.old nodes.old states.old (refusal_in result) heading.new masks.new nodes.new states.new }
 {
-    if masks.len() < Limits::CONTROLLERS {
-        return Refusal::LENT_SHORT;
+    let masks_short = masks.len() < Limits::CONTROLLERS;
+    let nodes_short = nodes.len() < Limits::RULE_NODES;
+    let states_short = states.len() < Limits::STATES;
+    if masks_short | nodes_short | states_short {
+        return Err(Refusal::LentShort);
     }
-    if nodes.len() < Limits::RULE_NODES {
-        return Refusal::LENT_SHORT;
-    }
-    if states.len() < Limits::STATES {
-        return Refusal::LENT_SHORT;
-    }
-    let number = open_refusal(opening, owned, rule);
-    if number != Refusal::NONE {
-        return number;
-    }
-    let controllers = opening.controllers;
-    let count = opening.count;
-    lay_u32(owned, controllers, Limits::CONTROLLERS, masks);
-    lay_u32(rule, count, Limits::RULE_NODES, nodes);
-    clear_u64(states, 0, Limits::STATES);
-    *heading = [controllers, opening.controller, count, 0];
-    Refusal::NONE
+    check_opening(controllers, owned, rule)?;
+    lay(owned, controllers, Limits::CONTROLLERS, masks);
+    lay(rule.nodes, rule.count, Limits::RULE_NODES, nodes);
+    clear(states, 0, Limits::STATES);
+    *heading = [controllers, rule.controller, rule.count, 0];
+    Ok(())
 }

@@ -1,48 +1,41 @@
 // A session takes another rule and carries its states over.
 ghost use Rattle.std.specs.Prelude.{◌≡◌};
-ghost use Rattle.definitions.specs.Tables.{rule_of};
 ghost use Rattle.definitions.specs.Sessions.{replacement_refusal};
+ghost use Rattle.rules.specs.Handed.{rule_in};
+ghost use Rattle.rules.specs.Refusals.{refusal_in};
 ghost use Rattle.sessions.specs.Calls.{ReplaceIs};
 
 use super::heading::Heading;
-use lent::lay_u32;
-use rules::choice::{or_else, pick};
-use rules::headings::RuleHeading;
-use rules::limits::{Limits, Refusal};
-use rules::table_check::rule_refusal;
+use lent::lay;
+use rules::limits::Limits;
+use rules::refusal::{Refusal, unless};
+use rules::rule::Rule;
+use rules::table_check::check_rule;
 
 // The rule, then its controller.
-fn replacement_refusal(controllers: usize, given: RuleHeading, rule: &[u32]) -> u8
-    ensures { result ≡ replacement_refusal controllers (rule_of given.controller given.count rule.now) }
+#[tactic(auto, using(rules::proofs::RefusalLaws::refusals), unfolding(definitions::specs::Sessions::replacement_refusal, definitions::specs::Recordings::controller_refusal))]
+fn check_replacement(controllers: usize, given: Rule<'_>) -> Result<(), Refusal>
+    ensures { refusal_in result ≡ replacement_refusal controllers (rule_in given.entry) }
 {
-    let below = pick(
-        given.controller < controllers,
-        Refusal::NONE,
-        Refusal::NO_CONTROLLER,
-    );
-    let refusal = rule_refusal(given.controller, given.count, rule);
-    or_else(refusal, below)
+    check_rule(given)?;
+    unless(Refusal::NoController, given.controller < controllers)
 }
 
 // All is checked before anything is written. No state is looked at: the new rule is judged when verdicts are asked for.
+#[tactic(auto, using(crate::proofs::ReplacementLaws::replace_laws))]
 pub fn replace_rule(
-    given: RuleHeading,
-    rule: &[u32],
+    given: Rule<'_>,
     heading: &mut [usize; Heading::NUMBERS],
     nodes: &mut [u32],
-) -> u8
-    ensures { ReplaceIs (rule_of given.controller given.count rule.now) heading.old nodes.old result heading.new nodes.new }
+) -> Result<(), Refusal>
+    ensures { ReplaceIs (rule_in given.entry) heading.old nodes.old (refusal_in result) heading.new nodes.new }
 {
     if nodes.len() < Limits::RULE_NODES {
-        return Refusal::LENT_SHORT;
+        return Err(Refusal::LentShort);
     }
-    let number = replacement_refusal(heading[Heading::CONTROLLERS], given, rule);
-    if number != Refusal::NONE {
-        return number;
-    }
-    let count = given.count;
-    lay_u32(rule, count, Limits::RULE_NODES, nodes);
+    check_replacement(heading[Heading::CONTROLLERS], given)?;
+    lay(given.nodes, given.count, Limits::RULE_NODES, nodes);
     heading[Heading::CONTROLLER] = given.controller;
-    heading[Heading::COUNT] = count;
-    Refusal::NONE
+    heading[Heading::COUNT] = given.count;
+    Ok(())
 }

@@ -2,6 +2,7 @@
 use mathlib.Core.Path.{◌≡◌, refl, ap, sym, ◌∙◌}
 use Prim.Native.Nat.{ℕ, zero, suc, ◌+◌, ◌-◌, ◌*◌, ◌<◌, ◌≤◌}
 use native.Mathlib.Omega.{arith}
+use native.Mathlib.Decide.{dec_lt}
 use native.Mathlib.Numerals.{add-one}
 use mathlib.Core.Bool.{Bool, true, false}
 use mathlib.Core.List.{List, [], ◌∷◌, ◌++◌}
@@ -18,25 +19,36 @@ use Rattle.theorems.proofs.Choice.{by_test, both_true, pick_true, pick_must}
 use Rattle.theorems.proofs.Inversions.{parsed_must, never_formed, formed_same}
 use Rattle.definitions.specs.Archive.{signal_on}
 use Rattle.signals.specs.Places.{add_signal}
-use Rattle.signals.specs.Laying.{binary_digit, is_signal, laid_on, Room, Laid}
+use Rattle.std.specs.Prelude.{Some, None}
+use Rattle.std.proofs.lemmas.Option.{none-some, same_Some}
+use Rattle.signals.specs.Laying.{binary_digit, digit_read, is_signal, laid_on, Room, Laid}
 
 -- ---- `binary`
--- `binary`, a byte below the digits: `binary_digit` is 2
-pub binary_low : (b : ℕ) → b < 48 → 2 ≡ binary_digit b
-unfolding binary_digit pick
-binary_low b h = rw (lt-leb 48 b h)
+-- `binary`, any byte but 0 and 1: no digit
+pub binary_other : (b : ℕ) → (b ≡ 48 → ⊥) → (b ≡ 49 → ⊥) → None ≡ digit_read b
+unfolding digit_read pick
+binary_other b n m = go (dec_lt b 48)
+  where
+    go : Dec (b < 48) → None ≡ digit_read b
+    go (yes h) = rw (lt-leb 48 b h)
+    go (no h) = rw (le-leb 48 b (omega arith), lt-leb b 49 (omega arith))
 
--- `binary`, a byte above the digits 0 and 1
-pub binary_high : (b : ℕ) → 49 < b → 2 ≡ binary_digit b
-unfolding binary_digit pick
-binary_high b h = rw (le-leb 48 b (omega arith), lt-leb b 49 h)
+-- a digit that was read
+pub digit_was : (b d : ℕ) → Some d ≡ digit_read b → (d ≡ binary_digit b) × (d < 2)
+unfolding digit_read binary_digit pick
+digit_was b d e =
+    by_test (within 48 49 b)
+    (λ h.
+    let p = both_true (leb 48 b) (leb b 49) h in
+    let x = leb-true b 49 p.1 in
+    let v : d ≡ b - 48 = same_Some d (b - 48) (rw h at e) in
+    (rw h v, omega (arith, leb-true 48 b p.0)))
+    (λ h. absurd (none-some d (sym (rw h at e))))
 
--- `binary`, a digit: `binary_digit` is its value
-pub binary_digit_lem : (b : ℕ) → 48 ≤ b → b ≤ 49 → b - 48 ≡ binary_digit b
-unfolding binary_digit pick
-binary_digit_lem b h k = rw (le-leb 48 b h, le-leb b 49 k)
-
-pub ruleset binary_laws = (rules, binary_low, binary_high, binary_digit_lem)
+-- a byte that is no digit
+pub digit_wrong : (b : ℕ) → None ≡ digit_read b → 2 ≤ binary_digit b
+unfolding digit_read binary_digit pick
+digit_wrong b e = by_test (within 48 49 b) (λ h. absurd (none-some (b - 48) (rw h at e))) (λ h. rw h (omega arith))
 
 -- ---- `lay`: what is left to read
 pub record Laying (s : List ℕ) (w : ℕ) (o o' : List ℕ) (k : ℕ) : Type 0 where
@@ -61,10 +73,11 @@ none_signal = refl
 
 module _ (s : List ℕ) (w : ℕ) (o o' : List ℕ) (k : ℕ) (inv : Laying s w o o' k) (room : Room s w o) where
   -- `lay`, all bytes are digits: `is_signal` holds, and the states are `laid_on`
-  pub laying_done : length s ≤ k → Laid s w o true o'
+  pub laying_done : length s ≤ k → Laid s w o 0 o'
+  unfolding pick
   laying_done h =
       let z = drop_of_length-le s {i = k} h in
-      record { answers = sym (inv.tests ∙ rw z none_signal); holds = sym (inv.left ∙ rw (z, laid_none w (drop k o')) (take-append-drop k o')) }
+      record { answers = rw (inv.tests, z, none_signal); holds = sym (inv.left ∙ rw (z, laid_none w (drop k o')) (take-append-drop k o')) }
 
   module _ (h : k < length s) where
     pub laying_inside : k < length o'
@@ -77,59 +90,64 @@ module _ (s : List ℕ) (w : ℕ) (o o' : List ℕ) (k : ℕ) (inv : Laying s w 
         let b = get_or-drop k o 0 0 in
         (sym (rw z at a)) ∙ (rw inv.rest (rw z at b))
 
-    module _ (d : ℕ) (e : d ≡ binary_digit (get_or s k 0)) where
-      -- `lay`, a byte that is no digit: `is_signal` fails there
-      pub laying_stop : 2 ≤ d → Laid s w o false o'
+    -- `lay`, a byte that is no digit: `is_signal` fails there
+    pub laying_stop : None ≡ digit_read (get_or s k 0) → Laid s w o 5 o'
+    unfolding is_signal laid_on pick
+    laying_stop n =
+        let t : ltb (binary_digit (get_or s k 0)) 2 ≡ false = le-ltb (binary_digit (get_or s k 0)) 2 (digit_wrong (get_or s k 0) n) in
+        let c = drop-cons s k 0 h in
+        let c' = drop-cons o' k 0 laying_inside in
+        record {
+          answers = rw (inv.tests, c, t);
+          holds = sym (inv.left ∙ rw (c, c', t) (ap (λ (m : List ℕ). take k o' ++ m) (sym c') ∙ take-append-drop k o'));
+        }
+
+    module _ (d : ℕ) (was : Some d ≡ digit_read (get_or s k 0)) where
+      e : d ≡ binary_digit (get_or s k 0)
+      e = (digit_was (get_or s k 0) d was).0
+
+      l : d < 2
+      l = (digit_was (get_or s k 0) d was).1
+
+      worth : d * w ≤ w
+      worth = go d l
+        where
+          go : (n : ℕ) → n < 2 → n * w ≤ w
+          go zero b = omega arith
+          go (suc zero) b = omega arith
+          go (suc (suc n)) b = absurd (omega arith)
+
+      pub laying_product : Fits w64 (d * w)
+      laying_product = record { fits = omega (arith, worth, room.fits k h) }
+
+      pub laying_sum : Fits w64 (get_or o' k 0 + d * w)
+      laying_sum = record { fits = omega (arith, worth, entry, room.fits k h) }
+
+      -- `lay`, a turn: `laid_on` has one state more
+      pub laying_next : Laying s w o (set o' k (get_or o' k 0 + d * w)) (k + 1)
       unfolding is_signal laid_on pick
-      laying_stop l =
-          let t : ltb (binary_digit (get_or s k 0)) 2 ≡ false = le-ltb (binary_digit (get_or s k 0)) 2 (omega arith) in
+      laying_next =
+          let x = get_or o' k 0 + d * w in
+          let t : ltb (binary_digit (get_or s k 0)) 2 ≡ true = lt-ltb (binary_digit (get_or s k 0)) 2 (omega (arith, e, l)) in
           let c = drop-cons s k 0 h in
           let c' = drop-cons o' k 0 laying_inside in
+          let f = take-suc-set o' k x laying_inside in
+          let g = drop-set-lt (suc k) o' k x (omega arith) in
+          let q : drop (suc k) o' ≡ drop (suc k) o = later inv.rest in
           record {
-            answers = sym (inv.tests ∙ rw (c, t));
-            holds = sym (inv.left ∙ rw (c, c', t) (ap (λ (m : List ℕ). take k o' ++ m) (sym c') ∙ take-append-drop k o'));
+            passed = omega arith;
+            kept = length-set o' k x ∙ inv.kept;
+            rest = rw add-one (g ∙ q);
+            left = inv.left ∙ rw (add-one, c, c', t, ← e, f, g) (sym (append_snoc (take k o') x (laid_on w (drop (suc k) o') (drop (suc k) s))));
+            tests = inv.tests ∙ rw (add-one, c, t);
           }
-
-      module _ (l : d < 2) where
-        worth : d * w ≤ w
-        worth = go d l
-          where
-            go : (n : ℕ) → n < 2 → n * w ≤ w
-            go zero b = omega arith
-            go (suc zero) b = omega arith
-            go (suc (suc n)) b = absurd (omega arith)
-
-        pub laying_product : Fits w64 (d * w)
-        laying_product = record { fits = omega (arith, worth, room.fits k h) }
-
-        pub laying_sum : Fits w64 (get_or o' k 0 + d * w)
-        laying_sum = record { fits = omega (arith, worth, entry, room.fits k h) }
-
-        -- `lay`, a turn: `laid_on` has one state more
-        pub laying_next : Laying s w o (set o' k (get_or o' k 0 + d * w)) (k + 1)
-        unfolding is_signal laid_on pick
-        laying_next =
-            let x = get_or o' k 0 + d * w in
-            let t : ltb (binary_digit (get_or s k 0)) 2 ≡ true = lt-ltb (binary_digit (get_or s k 0)) 2 (omega arith) in
-            let c = drop-cons s k 0 h in
-            let c' = drop-cons o' k 0 laying_inside in
-            let f = take-suc-set o' k x laying_inside in
-            let g = drop-set-lt (suc k) o' k x (omega arith) in
-            let q : drop (suc k) o' ≡ drop (suc k) o = later inv.rest in
-            record {
-              passed = omega arith;
-              kept = length-set o' k x ∙ inv.kept;
-              rest = rw add-one (g ∙ q);
-              left = inv.left ∙ rw (add-one, c, c', t, ← e, f, g) (sym (append_snoc (take k o') x (laid_on w (drop (suc k) o') (drop (suc k) s))));
-              tests = inv.tests ∙ rw (add-one, c, t);
-            }
-          where
-            later : drop k o' ≡ drop k o → drop (suc k) o' ≡ drop (suc k) o
-            later r =
-                let a = drop-drop 1 k o' in
-                let b = drop-drop 1 k o in
-                let z : k + 1 ≡ suc k = omega arith in
-                (sym (rw z at a)) ∙ (ap (drop 1) r ∙ (rw z at b))
+        where
+          later : drop k o' ≡ drop k o → drop (suc k) o' ≡ drop (suc k) o
+          later r =
+              let a = drop-drop 1 k o' in
+              let b = drop-drop 1 k o in
+              let z : k + 1 ≡ suc k = omega arith in
+              (sym (rw z at a)) ∙ (ap (drop 1) r ∙ (rw z at b))
 
 pub ruleset lay_laws = (rules, laying_none, laying_done, laying_inside, laying_stop, laying_product, laying_sum, laying_next)
 

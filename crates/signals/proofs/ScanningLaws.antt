@@ -4,7 +4,7 @@ use Prim.Native.Nat.{ℕ, zero, suc, ◌+◌, ◌-◌, ◌*◌, ◌%◌, ◌^◌
 use native.Mathlib.Nat.{one-mul, mod-eq_of_lt}
 use native.Mathlib.Omega.{arith}
 use lib.Pow.{pow_mono, pow-lt}
-use mathlib.Core.Bool.{Bool, true, false, true≢false, and-false}
+use mathlib.Core.Bool.{Bool, true, false, ◌&&◌, true≢false, and-false, and-true}
 use mathlib.Core.List.{List, [], ◌∷◌}
 use lib.ListN.{length, take, drop, get_or, replicate, length-drop, length-replicate, get_or-replicate}
 use lib.Seq.{length-take-le, ext_get_or, get_or-take}
@@ -12,17 +12,24 @@ use lib.Dec.{ltb, leb, eqb}
 use mir.Syntax.{w64}
 use mir.Val.{Fits}
 use borrow.Author.Rules.{rules}
-use borrow.Author.Tests.{lt-ltb, le-ltb, eq-eqb, ne_eqb, ltb-true, ltb-false, leb-true}
+use borrow.Author.Tests.{lt-ltb, le-ltb, eq-eqb, ltb-true, ltb-false, leb-true, eqb-true}
 use Rattle.definitions.specs.Limits.{accepted, recording_form, recording_lines, atom_count}
 use Rattle.definitions.specs.Bounded.{pick, within}
-use Rattle.definitions.specs.Lines.{tab, before, line_length, is_closed, rest_of, is_empty, formed, malformed, on_parsed, same, worded}
+use Rattle.definitions.specs.Lines.{tab, has, up_to, line_length, is_closed, rest_of, is_empty, formed, malformed, on_parsed, same, worded}
 use Rattle.definitions.specs.Archive.{runs_word, bits_word, signal_word, signal_on, signal, signal_form, SignalScan, signal_stop, more_signals, scan_signals, states_of_signals}
 use Rattle.theorems.proofs.Choice.{by_test, both_true, pick_true, pick_false}
 use Rattle.theorems.proofs.NextLines.{next_malformed, next_read}
 use Rattle.theorems.proofs.ArchiveTexts.{signals_stop, signals_step, signals_back}
-use Rattle.lines.specs.Reading.{FirstLine, end_refusal}
+use Rattle.std.specs.Prelude.{Some, None, Result, Ok, Err}
+use Rattle.rules.specs.Refusals.{number_of}
+use Rattle.rules.specs.declared.refusal.Refusal.{Refusal}
+use Rattle.rules.specs.declared.refusal.Refusal.TheVariants.{RecordingLines}
+use Rattle.rules.proofs.RefusalLaws.{number_some}
+use Rattle.lines.specs.Parts.{split}
+use Rattle.lines.specs.declared.Stop.{Stop}
+use Rattle.lines.specs.Reading.{FirstLine, end_refusal, stopped_number, stopped_at}
 use Rattle.lines.specs.declared.Line.{Line}
-use Rattle.lines.proofs.PartLaws.{part_to_end, empty_yes, empty_no, part_laws}
+use Rattle.lines.proofs.PartLaws.{part_to_end, empty_yes, empty_no, split_no, split_yes}
 use Rattle.lines.proofs.NextLaws.{line_part, line_part_laws, next_unread, end_fine}
 use Rattle.lines.proofs.LoopLaws.{after_line, line_inside}
 use Rattle.signals.specs.Places.{InSignals, place_of, weight, lay_on}
@@ -132,66 +139,78 @@ no_signal [] h = absurd (true≢false h)
 no_signal (x ∷ t) h = by_test (within 48 49 x) (λ e. rw (e, no_signal t (rw (digit_yes x e) at h))) (λ e. rw e)
 
 -- ---- `lay_line`
-module _ (C N j : ℕ) (s : List ℕ) (i : ℕ) (is : i ≡ before tab s) where
-  form_is : i < length s → same (take i s) (signal_word C j) ≡ true → signal_form C N j s ≡ signal N (drop (i + 1) s)
-  unfolding signal_form worded pick
-  form_is h e = rw (← is, e, lt-ltb i (length s) h)
+-- what must hold, and does not
+denied : (z : Bool) (e : Refusal) (n : ℕ) → number_of e ≡ pick z accepted n → (z ≡ false) × (number_of e ≡ n)
+unfolding pick
+denied true e n h = absurd (number_some e h)
+denied false e n h = (refl, h)
 
-  form_other : i < length s → same (take i s) (signal_word C j) ≡ false → signal_form C N j s ≡ malformed
-  unfolding signal_form worded pick
-  form_other h e = rw (← is, e)
+-- what must hold, and does
+granted : (z : Bool) (n : ℕ) → (n ≡ 0 → ⊥) → accepted ≡ pick z accepted n → z ≡ true
+unfolding pick
+granted true n some h = refl
+granted false n some h = absurd (some (sym h))
 
-  form_none : length s ≤ i → signal_form C N j s ≡ malformed
+module _ (C N j : ℕ) (s o : List ℕ) where
+  malformed_line : signal_form C N j s ≡ malformed → LineLaid C N j s o recording_form o
+  malformed_line e = record { bound = λ k. omega arith; laid = λ q. absurd (omega arith); refused = λ q. (refl, e) }
+
+  -- `lay_line`, no tab: `signal_form` is malformed
+  pub line_none : None ≡ split tab s → LineLaid C N j s o recording_form o
   unfolding signal_form worded
-  form_none h = pick_false _ _ _ (rw (← is, le-ltb i (length s) h) (and-false (same (take i s) (signal_word C j))))
+  line_none e = malformed_line (pick_false _ _ _ (rw (split_no tab s e) (and-false (same (up_to tab s) (signal_word C j)))))
 
-  module _ (o : List ℕ) where
-    nothing : signal_form C N j s ≡ malformed → LineLaid C N j s o false o
-    nothing e = record { bound = λ k. omega arith; laid = λ q. absurd (true≢false (sym q)); refused = λ q. e }
+  module _ (w f : List ℕ) (parts : Some (w, f) ≡ split tab s) (q : Bool) (qs : q ≡ same w (signal_word C j)) where
+    opened : (same (up_to tab s) (signal_word C j) && has tab s) ≡ q
+    opened = let p = split_yes tab s w f parts in rw (← p.front, p.there, ← qs) (and-true q)
 
-    -- `lay_line`, no tab: `signal_form` is malformed
-    pub line_none : length s ≤ i → LineLaid C N j s o false o
-    line_none h = nothing (form_none h)
+    -- `lay_line`, another word: `signal_form` is malformed
+    pub line_other : (e : Refusal) → number_of e ≡ pick q accepted recording_form → LineLaid C N j s o (number_of e) o
+    unfolding signal_form worded
+    line_other e h = let d = denied q e recording_form h in rw d.1 (malformed_line (pick_false _ _ _ (opened ∙ d.0)))
 
-    module _ (h : i < length s) (q : Bool) (qs : q ≡ same (take i s) (signal_word C j)) where
-      -- `lay_line`, another word: `signal_form` is malformed
-      pub line_other : q ≡ false → LineLaid C N j s o false o
-      line_other e = nothing (form_other h (sym qs ∙ e))
+    module _ (y : accepted ≡ pick q accepted recording_form) where
+      form_is : signal_form C N j s ≡ signal N f
+      unfolding signal_form worded
+      form_is = let p = split_yes tab s w f parts in pick_true _ _ _ (opened ∙ granted q recording_form (λ n. omega arith) y) ∙ ap (signal N) (sym p.back)
 
-      module _ (y : q ≡ true) (f : List ℕ) (fs : f ≡ drop (i + 1) s) where
-        -- `lay_line`, another number of digits: `signal_form` is malformed
-        pub line_long : (length f ≡ N → ⊥) → LineLaid C N j s o false o
+      -- `lay_line`, another number of digits: `signal_form` is malformed
+      pub line_long : (e : Refusal) → number_of e ≡ pick (eqb (length f) N) accepted recording_form → LineLaid C N j s o (number_of e) o
+      unfolding signal
+      line_long e h = let d = denied (eqb (length f) N) e recording_form h in rw d.1 (malformed_line (form_is ∙ pick_false _ _ _ d.0))
+
+      module _ (z : accepted ≡ pick (eqb (length f) N) accepted recording_form) (p : ℕ) (ps : p ≡ place_of C j) (r : LineRoom C N j o) where
+        l : length f ≡ N
+        l = eqb-true (length f) N (granted (eqb (length f) N) recording_form (λ n. omega arith) z)
+
+        weighs : 1 * 2 ^ p % 2 ^ 64 ≡ weight C j
+        weighs = weight_of C j r.turn p ps
+
+        pub line_room : Room f (1 * 2 ^ p % 2 ^ 64) o
+        line_room = record { enough = omega (arith, r.enough, l); fits = λ k b. rw weighs (r.fits k (omega (arith, l))) }
+
+        form_signal : signal_form C N j s ≡ signal_on f
         unfolding signal
-        line_long n = nothing (form_is h (sym qs ∙ y) ∙ pick_false _ _ _ (rw (← fs) (ne_eqb (length f) N n)))
+        form_signal = form_is ∙ pick_true _ _ _ (eq-eqb (length f) N l)
 
-        module _ (l : length f ≡ N) (p : ℕ) (ps : p ≡ place_of C j) (r : LineRoom C N j o) where
-          weighs : 1 * 2 ^ p % 2 ^ 64 ≡ weight C j
-          weighs = weight_of C j r.turn p ps
+        one_laid : (o' : List ℕ) → o' ≡ laid_on (weight C j) o f → is_signal f ≡ true → OneLaid C N j s o o'
+        one_laid o' e t =
+            let v = some_signal f t in
+            let g = signal_laid f v.value v.read in
+            let c : length (take N o) ≡ length f = length-take-le N o r.enough ∙ sym l in
+            let x : take N o' ≡ laid_on (weight C j) (take N o) f = rw (e, ← l) (laid_front (weight C j) f o) in
+            record { value = v.value; read = form_signal ∙ v.read; holds = x ∙ g.holds (weight C j) (take N o) c }
 
-          pub line_room : Room f (1 * 2 ^ p % 2 ^ 64) o
-          line_room = record { enough = omega (arith, r.enough); fits = λ k b. rw weighs (r.fits k (omega arith)) }
-
-          form_signal : signal_form C N j s ≡ signal_on f
-          unfolding signal
-          form_signal = form_is h (sym qs ∙ y) ∙ (rw (← fs) (pick_true _ _ _ (eq-eqb (length f) N l)))
-
-          one_laid : (o' : List ℕ) → o' ≡ laid_on (weight C j) o f → is_signal f ≡ true → OneLaid C N j s o o'
-          one_laid o' e t =
-              let v = some_signal f t in
-              let g = signal_laid f v.value v.read in
-              let c : length (take N o) ≡ length f = length-take-le N o r.enough ∙ sym l in
-              let x : take N o' ≡ laid_on (weight C j) (take N o) f = rw (e, ← l) (laid_front (weight C j) f o) in
-              record { value = v.value; read = form_signal ∙ v.read; holds = x ∙ g.holds (weight C j) (take N o) c }
-
-          -- `lay_line`, the field's bytes decide: `signal_form` is their signal, or malformed
-          pub line_laid : (z : Bool) (o' : List ℕ) → Laid f (1 * 2 ^ p % 2 ^ 64) o z o' → LineLaid C N j s o z o'
-          line_laid z o' a =
-              let e : o' ≡ laid_on (weight C j) o f = a.holds ∙ ap (λ (w : ℕ). laid_on w o f) weighs in
-              record {
-                bound = λ k. rw e (laid_bound (weight C j) f o k);
-                laid = λ t. one_laid o' e (sym a.answers ∙ t);
-                refused = λ t. form_signal ∙ no_signal f (sym a.answers ∙ t);
-              }
+        -- `lay_line`, the field's bytes decide: `signal_form` is their signal, or malformed
+        pub line_laid : (n : ℕ) (o' : List ℕ) → Laid f (1 * 2 ^ p % 2 ^ 64) o n o' → LineLaid C N j s o n o'
+        unfolding pick
+        line_laid n o' a =
+            let e : o' ≡ laid_on (weight C j) o f = a.holds ∙ ap (λ (w : ℕ). laid_on w o f) weighs in
+            record {
+              bound = λ k. rw e (laid_bound (weight C j) f o k);
+              laid = λ t. one_laid o' e (granted (is_signal f) recording_form (λ q. omega arith) (sym t ∙ a.answers));
+              refused = λ t. by_test (is_signal f) (λ y. absurd (t (a.answers ∙ rw y))) (λ y. (a.answers ∙ rw y, form_signal ∙ no_signal f y));
+            }
 
 pub line_turn : (C N j : ℕ) (o : List ℕ) → LineRoom C N j o → InSignals C j
 line_turn C N j o r = r.turn
@@ -199,7 +218,7 @@ line_turn C N j o r = r.turn
 pub line_shift : (C N j : ℕ) (o : List ℕ) → LineRoom C N j o → (p : ℕ) → p ≡ place_of C j → p < 64
 line_shift C N j o r p e = place_shift C j r.turn p e
 
-pub ruleset line_laws = (rules, part_laws, line_none, line_other, line_long, line_turn, line_shift, line_room, line_laid)
+pub ruleset line_laws = (rules, line_none, line_other, line_long, line_turn, line_shift, line_room, line_laid)
 
 -- ---- `lay_next`
 module _ (C N j len : ℕ) (t o : List ℕ) (room : NextRoom C N j len t o) where
@@ -215,45 +234,36 @@ module _ (C N j len : ℕ) (t o : List ℕ) (room : NextRoom C N j len t o) wher
   pub next_line_room : LineRoom C N j o
   next_line_room = room.line
 
-  module _ (n : ℕ) (ns : n ≡ end_refusal recording_lines recording_form t) where
-    -- `lay_next`, no line, or one that is not closed: `next_signal` has that refusal
-    pub signal_unread : (n ≡ 0 → ⊥) → NextLaid C N j t o n o
-    signal_unread z = record {
-      bound = λ k. omega arith;
-      laid = λ q. absurd (z q);
-      denied = λ q. next_unread recording_lines recording_form t n ns (signal_form C N j) (λ l. accepted) z;
-    }
+  -- `lay_next`, no line, or one that is not closed: `next_signal` has that refusal
+  pub signal_unread : (e : Refusal) → number_of e ≡ end_refusal recording_lines recording_form t → NextLaid C N j t o (number_of e) o
+  signal_unread e is = record {
+    bound = λ k. omega arith;
+    laid = λ q. absurd (number_some e q);
+    denied = λ q. next_unread recording_lines recording_form t (signal_form C N j) (λ l. accepted) e is;
+  }
 
-    module _ (z : n ≡ 0) (b : Bool) (o' : List ℕ) (a : LineLaid C N j (take len t) o b o') where
-      closed : is_closed t ≡ true
-      closed = end_fine recording_lines recording_form t n ns (omega arith) (omega arith) z
-
-      -- `lay_next`, another form: `next_signal` is refused by its form
-      pub signal_malformed : b ≡ false → NextLaid C N j t o 5 o'
-      signal_malformed e = record {
+  -- `lay_next`, the line is there: `next_signal` is what the line is
+  pub signal_lined : accepted ≡ end_refusal recording_lines recording_form t → (n : ℕ) (o' : List ℕ) → LineLaid C N j (take len t) o n o' → NextLaid C N j t o n o'
+  signal_lined z n o' a =
+      let closed : is_closed t ≡ true = end_fine recording_lines recording_form t (omega arith) (omega arith) z in
+      record {
         bound = a.bound;
-        laid = λ q. absurd (omega arith);
-        denied = λ q. next_malformed recording_lines recording_form (signal_form C N j) (λ l. accepted) t closed (rw (line_part t len room.ends) at (a.refused e));
-      }
-
-      -- `lay_next`, accepted: `next_signal` is the line's signal
-      pub signal_read : b ≡ true → NextLaid C N j t o 0 o'
-      signal_read e =
-          let u = a.laid e in
-          record {
-            bound = a.bound;
-            laid = λ q. record {
+        laid = λ q.
+            let u = a.laid q in
+            record {
               value = u.value;
               is = next_read recording_lines recording_form (signal_form C N j) (λ l. accepted) t closed u.value (rw (line_part t len room.ends) at u.read) refl;
               holds = u.holds;
             };
-            denied = λ q. absurd (q refl);
-          }
+        denied = λ q.
+            let d = a.refused q in
+            rw d.0 (next_malformed recording_lines recording_form (signal_form C N j) (λ l. accepted) t closed (rw (line_part t len room.ends) at d.1));
+      }
 
 pub next_length : (C N j len : ℕ) (t o : List ℕ) → NextRoom C N j len t o → len ≡ line_length t
 next_length C N j len t o r = r.ends
 
-pub ruleset next_laws = (rules, next_within, next_counts, next_line_room, next_length, signal_unread, signal_malformed, signal_read)
+pub ruleset next_laws = (rules, next_within, next_counts, next_line_room, next_length, signal_unread, signal_lined)
 
 -- ---- `scan_signals`: what is left to read and to lay
 pub record SignalsLeft (C N start : ℕ) (text o o' : List ℕ) (at j : ℕ) : Type 0 where
@@ -295,30 +305,33 @@ laid_states C N start text o room z =
 
 module _ (C N start : ℕ) (text o o' : List ℕ) (at j : ℕ) (inv : SignalsLeft C N start text o o' at j) (room : ScanRoom C N start text o) where
   -- the reading ends here
-  ends_here : (n : ℕ) → scan_signals C N ((C + atom_count) - j) j (drop at text) ≡ signal_stop n (drop at text) → (o'' : List ℕ) → (n ≡ 0 → o'' ≡ o')
-      → SignalsScanned C N start text (record { number = n; at = at }) o''
+  ends_here : (r : Result ℕ Stop) → at ≡ stopped_at r → scan_signals C N ((C + atom_count) - j) j (drop at text) ≡ signal_stop (stopped_number r) (drop at text) → (o'' : List ℕ)
+      → (stopped_number r ≡ 0 → o'' ≡ o') → SignalsScanned C N start text r o''
   unfolding lay_on
-  ends_here n e o'' same =
-      let k : (scan_signals C N (C + atom_count) 0 (drop start text)).number ≡ n = inv.number ∙ ap (λ (s : SignalScan). s.number) e in
+  ends_here r p e o'' kept =
+      let k : (scan_signals C N (C + atom_count) 0 (drop start text)).number ≡ stopped_number r = inv.number ∙ ap (λ (s : SignalScan). s.number) e in
       record {
         number = sym k;
-        inside = inv.inside;
-        rest = sym (inv.rest ∙ ap (λ (s : SignalScan). s.rest) e);
-        states = λ z. rw (same z) (sym (inv.lays ∙ ap (λ (s : SignalScan). lay_on C j (take N o') s.signals) e) ∙ laid_states C N start text o room (k ∙ z));
+        inside = rw (← p) inv.inside;
+        rest = rw (← p) (sym (inv.rest ∙ ap (λ (s : SignalScan). s.rest) e));
+        states = λ z. rw (kept z) (sym (inv.lays ∙ ap (λ (s : SignalScan). lay_on C j (take N o') s.signals) e) ∙ laid_states C N start text o room (k ∙ z));
       }
 
-  last_line : (n : ℕ) → n ≡ pick (ltb at (length text)) recording_lines accepted → n ≡ pick (is_empty (drop at text)) accepted recording_lines
-  last_line n e =
-      by_test (ltb at (length text))
-      (λ y. e ∙ (pick_true _ _ _ y ∙ sym (pick_false _ _ _ (empty_no (drop at text) (λ q. omega (arith, length-drop at text, ltb-true at (length text) y))))))
-      (λ y. e ∙ (pick_false _ _ _ y ∙ sym (pick_true _ _ _ (empty_yes (drop at text) (omega (arith, length-drop at text, ltb-false at (length text) y))))))
-
-  -- `scan_signals`, all signals are read: `scan_signals` is accepted, or refused where bytes are left
-  pub signals_done : (n : ℕ) → n ≡ pick (ltb at (length text)) recording_lines accepted → C + atom_count ≤ j → SignalsScanned C N start text (record { number = n; at = at }) o'
+  last : C + atom_count ≤ j → (n : ℕ) → n ≡ pick (is_empty (drop at text)) accepted recording_lines → scan_signals C N ((C + atom_count) - j) j (drop at text) ≡ signal_stop n (drop at text)
   unfolding scan_signals
-  signals_done n e h =
-      let z : (C + atom_count) - j ≡ 0 = omega arith in
-      ends_here n (rw (z, last_line n e)) o' (λ q. refl)
+  last h n e = let z : (C + atom_count) - j ≡ 0 = omega arith in rw (z, e)
+
+  -- `scan_signals`, all signals are read and nothing is left: `scan_signals` is accepted
+  pub signals_done : C + atom_count ≤ j → length text ≤ at → SignalsScanned C N start text (Ok at) o'
+  signals_done h l =
+      let e = pick_true (is_empty (drop at text)) accepted recording_lines (empty_yes (drop at text) (omega (arith, length-drop at text))) in
+      ends_here (Ok at) refl (last h accepted (sym e)) o' (λ q. refl)
+
+  -- `scan_signals`, all signals are read and bytes are left: `scan_signals` is refused
+  pub signals_more : C + atom_count ≤ j → at < length text → SignalsScanned C N start text (Err (record { refusal = RecordingLines; at = at })) o'
+  signals_more h l =
+      let e = pick_false (is_empty (drop at text)) accepted recording_lines (empty_no (drop at text) (λ q. omega (arith, length-drop at text))) in
+      ends_here (Err (record { refusal = RecordingLines; at = at })) refl (last h recording_lines (sym e)) o' (λ q. refl)
 
   module _ (h : j < C + atom_count) (l : Line) (is : FirstLine (take (length text - at) (drop at text)) l) where
     one_less_lem : (C + atom_count) - j ≡ suc ((C + atom_count) - (j + 1))
@@ -340,13 +353,14 @@ module _ (C N start : ℕ) (text o o' : List ℕ) (at j : ℕ) (inv : SignalsLef
       };
     }
 
-    module _ (r : ℕ) (o'' : List ℕ) (a : NextLaid C N j (take (length text - at) (drop at text)) o' r o'') where
-      -- `scan_signals`, a refused line: `scan_signals` stops at that line with its refusal
-      pub signals_refused : (r ≡ 0 → ⊥) → SignalsScanned C N start text (record { number = r; at = at }) o''
-      signals_refused z =
-          let d = rw (part_to_end text at) at (a.denied z) in
-          ends_here r (rw one_less_lem (signals_stop C N ((C + atom_count) - (j + 1)) j (drop at text) r d)) o'' (λ q. absurd (z q))
+    -- `scan_signals`, a refused line: `scan_signals` stops at that line with its refusal
+    pub signals_refused : (e : Refusal) (o'' : List ℕ) → NextLaid C N j (take (length text - at) (drop at text)) o' (number_of e) o''
+        → SignalsScanned C N start text (Err (record { refusal = e; at = at })) o''
+    signals_refused e o'' a =
+        let d = rw (part_to_end text at) at (a.denied (number_some e)) in
+        ends_here (Err (record { refusal = e; at = at })) refl (rw one_less_lem (signals_stop C N ((C + atom_count) - (j + 1)) j (drop at text) (number_of e) d)) o'' (λ q. absurd (number_some e q))
 
+    module _ (o'' : List ℕ) (a : NextLaid C N j (take (length text - at) (drop at text)) o' 0 o'') where
       signals_inside : at + l.next ≤ length text
       signals_inside = line_inside text at l line_ends inv.inside
 
@@ -354,10 +368,10 @@ module _ (C N start : ℕ) (text o o' : List ℕ) (at j : ℕ) (inv : SignalsLef
       signals_next_fits q = record { fits = omega (arith, signals_inside) }
 
       -- `scan_signals`, a turn: `scan_signals` has one signal more, and it is laid
-      pub signals_next : r ≡ 0 → length o'' ≡ length o' → SignalsLeft C N start text o o'' (at + l.next) (j + 1)
+      pub signals_next : length o'' ≡ length o' → SignalsLeft C N start text o o'' (at + l.next) (j + 1)
       unfolding lay_on
-      signals_next e keep =
-          let u = a.laid e in
+      signals_next keep =
+          let u = a.laid refl in
           let m = rw (part_to_end text at) at u.is in
           let p : scan_signals C N ((C + atom_count) - j) j (drop at text) ≡ more_signals u.value (scan_signals C N ((C + atom_count) - (j + 1)) (j + 1) (drop (at + l.next) text))
           = rw (one_less_lem, ← after_line text at l line_ends) (signals_step C N ((C + atom_count) - (j + 1)) j (drop at text) u.value (rest_of (drop at text)) m) in
@@ -375,4 +389,4 @@ module _ (C N start : ℕ) (text o o' : List ℕ) (at j : ℕ) (inv : SignalsLef
 pub signals_few : (C N start : ℕ) (text o : List ℕ) → ScanRoom C N start text o → Fits w64 (C + 32)
 signals_few C N start text o r = record { fits = omega (arith, r.few) }
 
-pub ruleset scan_laws = (rules, signals_few, signals_start, signals_done, signals_room, signals_refused, signals_next_fits, signals_next)
+pub ruleset scan_laws = (rules, signals_few, signals_start, signals_done, signals_more, signals_room, signals_refused, signals_next_fits, signals_next)

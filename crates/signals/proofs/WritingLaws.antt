@@ -85,10 +85,8 @@ module _ (states : List ℕ) (place at : ℕ) (o o' : List ℕ) (k : ℕ) (inv :
       }
 
   -- `put_signal`, all states are passed: the digits are `digits_of`
-  pub writing_done : length states ≤ k → Printed (digits_of place states) o at (at + k) o'
-  writing_done h =
-      let e : k ≡ length states = omega (arith, inv.passed) in
-      record { next = rw e (ap (λ (n : ℕ). at + n) (sym (digits_length place states))); lies = inv.lies ∙ rw (take_all k states h) }
+  pub writing_done : length states ≤ k → Printed (digits_of place states) o at (at + length states) o'
+  writing_done h = record { next = ap (λ (n : ℕ). at + n) (sym (digits_length place states)); lies = inv.lies ∙ rw (take_all k states h) }
 
   pub writing_end : length o < 2 ^ 64 → Fits w64 (at + k)
   writing_end b = record { fits = omega (arith, w.room, inv.passed) }

@@ -1,9 +1,10 @@
 -- What a line of a signal, and all of them, leave in the states.
-use Rattle.std.specs.Prelude.{◌≡◌, ℕ, ◌+◌, ◌^◌, ◌<◌, ◌≤◌, Bool, true, false, List, length, take, drop, get_or}
-use Rattle.definitions.specs.Limits.{accepted, max_controllers, atom_count}
+use Rattle.std.specs.Prelude.{◌≡◌, ℕ, ◌+◌, ◌^◌, ◌<◌, ◌≤◌, Bool, List, length, take, drop, get_or, Result}
+use Rattle.definitions.specs.Limits.{accepted, recording_form, max_controllers, atom_count}
 use Rattle.definitions.specs.Lines.{line_length, rest_of, formed, malformed, refused, read}
 use Rattle.definitions.specs.Archive.{signal_form, next_signal, scan_signals, states_of_signals}
-use Rattle.lines.specs.declared.Stopped.{Stopped}
+use Rattle.lines.specs.declared.Stop.{Stop}
+use Rattle.lines.specs.Reading.{stopped_number, stopped_at}
 use Rattle.signals.specs.Places.{InSignals, weight, add_signal}
 
 -- what a line of signal j asks of its caller
@@ -18,11 +19,11 @@ pub record OneLaid (C N j : ℕ) (s o o' : List ℕ) : Type 0 where
   pub read : signal_form C N j s ≡ formed value
   pub holds : take N o' ≡ add_signal (weight C j) (take N o) value
 
--- the line s was read as that of signal j, or it is malformed
-pub record LineLaid (C N j : ℕ) (s o : List ℕ) (r : Bool) (o' : List ℕ) : Type 0 where
+-- the line s was read as that of signal j, or it is malformed, by the number r
+pub record LineLaid (C N j : ℕ) (s o : List ℕ) (r : ℕ) (o' : List ℕ) : Type 0 where
   pub bound : (k : ℕ) → get_or o' k 0 ≤ get_or o k 0 + weight C j
-  pub laid : r ≡ true → OneLaid C N j s o o'
-  pub refused : r ≡ false → signal_form C N j s ≡ malformed
+  pub laid : r ≡ accepted → OneLaid C N j s o o'
+  pub refused : (r ≡ accepted → ⊥) → (r ≡ recording_form) × (signal_form C N j s ≡ malformed)
 
 -- what the next line of a text asks of its caller
 pub record NextRoom (C N j len : ℕ) (t o : List ℕ) : Type 0 where
@@ -49,8 +50,8 @@ pub record ScanRoom (C N start : ℕ) (text o : List ℕ) : Type 0 where
   pub zeros : (k : ℕ) → k < N → get_or o k 0 ≡ 0
 
 -- the lines were read; accepted, the first N states are those of the signals
-pub record SignalsScanned (C N start : ℕ) (text : List ℕ) (r : Stopped) (o' : List ℕ) : Type 0 where
-  pub number : r.number ≡ (scan_signals C N (C + atom_count) 0 (drop start text)).number
-  pub inside : r.at ≤ length text
-  pub rest : drop r.at text ≡ (scan_signals C N (C + atom_count) 0 (drop start text)).rest
-  pub states : r.number ≡ accepted → take N o' ≡ states_of_signals C N (scan_signals C N (C + atom_count) 0 (drop start text)).signals
+pub record SignalsScanned (C N start : ℕ) (text : List ℕ) (r : Result ℕ Stop) (o' : List ℕ) : Type 0 where
+  pub number : stopped_number r ≡ (scan_signals C N (C + atom_count) 0 (drop start text)).number
+  pub inside : stopped_at r ≤ length text
+  pub rest : drop (stopped_at r) text ≡ (scan_signals C N (C + atom_count) 0 (drop start text)).rest
+  pub states : stopped_number r ≡ accepted → take N o' ≡ states_of_signals C N (scan_signals C N (C + atom_count) 0 (drop start text)).signals

@@ -1,45 +1,40 @@
 // The lines of an archive text after its masks, read into the states: each line adds its signal to them.
 ghost use Rattle.std.specs.Prelude.{◌≡◌};
-ghost use Rattle.definitions.specs.Lines.{line_length, same};
+ghost use Rattle.definitions.specs.Lines.{same};
 ghost use Rattle.definitions.specs.Archive.{signal_word};
-ghost use Rattle.signals.specs.Laying.{binary_digit, Room, Laid};
+ghost use Rattle.rules.specs.Refusals.{refusal_in};
+ghost use Rattle.signals.specs.Laying.{digit_read, Room, Laid};
 ghost use Rattle.signals.specs.Scanning.{LineRoom, LineLaid, NextLaid, NextRoom, ScanRoom, SignalsScanned};
 
 use super::place;
-use lines::{Stopped, end_refusal, first_line, scan};
-use rules::choice;
-use rules::limits::{Limits, Refusal};
+use lines::{Stop, check_end, first_line, scan};
+use rules::limits::Limits;
+use rules::refusal::{Refusal, unless};
 
-// The value of a digit 0 or 1; 2 of any other byte.
-fn binary(b: u8) -> u64
-    ensures { result ≡ binary_digit b }
+// The value of a digit 0 or 1.
+fn binary(b: u8) -> Option<u64>
+    ensures { result ≡ digit_read b }
 {
-    if b < b'0' {
-        return 2;
+    match b {
+        b'0' => Some(0),
+        b'1' => Some(1),
+        _ => None,
     }
-    if b'1' < b {
-        return 2;
-    }
-    (b - b'0') as u64
 }
 
-// Adds the signal `s` to the states: a digit 1 of state k adds `weight` to it. False at the first byte that is no digit 0 or 1.
-fn lay(s: &[u8], weight: u64, states: &mut [u64]) -> bool
+// Adds the signal `s` to the states, up to the first byte that is no digit: a digit 1 of state k adds `weight` to it.
+fn lay(s: &[u8], weight: u64, states: &mut [u64]) -> Result<(), Refusal>
     requires { Room s.now weight states.old }
-    ensures { Laid s.now weight states.old result states.new }
+    ensures { Laid s.now weight states.old (refusal_in result) states.new }
 {
-    let mut k = 0;
-    while k < s.len() {
-        let d = binary(s[k]);
-        if d < 2 {
-            let x = states[k];
-            states[k] = x + d * weight;
-            k += 1;
-        } else {
-            return false;
-        }
+    for (k, b) in s.iter().enumerate() {
+        let Some(d) = binary(*b) else {
+            return Err(Refusal::RecordingForm);
+        };
+        let x = states[k];
+        states[k] = x + d * weight;
     }
-    true
+    Ok(())
 }
 
 // Whether `word` opens the line of signal j.
@@ -52,25 +47,26 @@ fn opens(controllers: usize, j: usize, word: &[u8]) -> bool
     scan::same(word, b"bits")
 }
 
-// Adds the line of signal j to the states. False where it is not of its form.
-fn lay_line(controllers: usize, count: usize, j: usize, s: &[u8], states: &mut [u64]) -> bool
+// Adds the line of signal j to the states.
+fn lay_line(
+    controllers: usize,
+    count: usize,
+    j: usize,
+    s: &[u8],
+    states: &mut [u64],
+) -> Result<(), Refusal>
     requires { LineRoom controllers count j states.old }
-    ensures { LineLaid controllers count j s.now states.old result states.new }
+    ensures { LineLaid controllers count j s.now states.old (refusal_in result) states.new }
 {
-    let i = scan::until_byte(s, scan::TAB);
-    if i < s.len() {
-        if opens(controllers, j, &s[..i]) {
-            let field = scan::after(s, i);
-            if field.len() == count {
-                let weight = 1 << place(controllers, j);
-                return lay(field, weight, states);
-            }
-        }
-    }
-    false
+    let Some((word, field)) = scan::split(s, scan::TAB) else {
+        return Err(Refusal::RecordingForm);
+    };
+    unless(Refusal::RecordingForm, opens(controllers, j, word))?;
+    unless(Refusal::RecordingForm, field.len() == count)?;
+    lay(field, 1 << place(controllers, j), states)
 }
 
-// The next line, of `len` bytes, as that of signal j: its refusal, or 0 and its signal is added to the states.
+// Adds the next line, of `len` bytes, as that of signal j to the states.
 fn lay_next(
     controllers: usize,
     count: usize,
@@ -78,18 +74,12 @@ fn lay_next(
     t: &[u8],
     len: usize,
     states: &mut [u64],
-) -> u8
+) -> Result<(), Refusal>
     requires { NextRoom controllers count j len t.now states.old }
-    ensures { NextLaid controllers count j t.now states.old result states.new }
+    ensures { NextLaid controllers count j t.now states.old (refusal_in result) states.new }
 {
-    let unread = end_refusal(t, len, Refusal::RECORDING_LINES, Refusal::RECORDING_FORM);
-    if unread != Refusal::NONE {
-        return unread;
-    }
-    if lay_line(controllers, count, j, &t[..len], states) {
-        return Refusal::NONE;
-    }
-    Refusal::RECORDING_FORM
+    check_end(t, len, Refusal::RecordingLines, Refusal::RecordingForm)?;
+    lay_line(controllers, count, j, &t[..len], states)
 }
 
 // The lines from `start` to the end of the text, into the states, which are zero, up to the first refusal.
@@ -99,25 +89,22 @@ pub fn scan_signals(
     controllers: usize,
     count: usize,
     states: &mut [u64],
-) -> Stopped
+) -> Result<usize, Stop>
     requires { ScanRoom controllers count start text.now states.old }
     ensures { SignalsScanned controllers count start text.now result states.new }
 {
     let mut at = start;
-    let mut j = 0;
-    while j < controllers + Limits::ATOMS {
+    for j in 0..controllers + Limits::ATOMS {
         let t = &text[at..];
         let line = first_line(t);
-        let refusal = lay_next(controllers, count, j, t, line.len, states);
-        if refusal != Refusal::NONE {
-            return Stopped {
-                number: refusal,
-                at: at,
-            };
+        if let Err(refusal) = lay_next(controllers, count, j, t, line.len, states) {
+            return Err(Stop { refusal, at });
         }
-        at = at + line.next;
-        j += 1;
+        at += line.next;
     }
-    let number = choice::pick(at < text.len(), Refusal::RECORDING_LINES, Refusal::NONE);
-    Stopped { number, at }
+    if at < text.len() {
+        let refusal = Refusal::RecordingLines;
+        return Err(Stop { refusal, at });
+    }
+    Ok(at)
 }

@@ -22,12 +22,10 @@ fn put_signal(states: &[u64], place: usize, at: usize, text: &mut [u8]) -> usize
     requires { Writable states.now place at text.old }
     ensures { Printed (digits_of place states.now) text.old at result text.new }
 {
-    let mut k = 0;
-    while k < states.len() {
-        text[at + k] = digit(states[k], place);
-        k += 1;
+    for (k, state) in states.iter().enumerate() {
+        text[at + k] = digit(*state, place);
     }
-    at + k
+    at + states.len()
 }
 
 // The line of signal j, without its end.
@@ -49,12 +47,9 @@ pub fn put_signals(controllers: usize, states: &[u64], start: usize, text: &mut 
     ensures { Printed (signals_text controllers 0 (signals_of controllers states.now)) text.old start result text.new }
 {
     let mut at = start;
-    let mut j = 0;
-    while j < controllers + Limits::ATOMS {
+    for j in 0..controllers + Limits::ATOMS {
         let end = put_line(controllers, j, states, at, text);
-        let next = put_byte(scan::NEWLINE, end, text);
-        at = next;
-        j += 1;
+        at = put_byte(scan::NEWLINE, end, text);
     }
     at
 }

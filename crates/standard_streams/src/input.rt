@@ -1,34 +1,14 @@
 // Standard input, read to its end.
-ghost use Rattle.std.specs.Prelude.{◌≤◌, length};
+use std::io::{self, Read, Stdin};
 
-use std::io::{Read, Stdin};
-
-// How many bytes were read, and whether a read failed.
-#[derive(Clone, Copy)]
-pub struct Input {
-    pub count: usize,
-    pub failed: bool,
-}
-
-// Reads until `space` is full or the input ends; a read that fails ends it too.
-pub fn read_input(mut input: Stdin, space: &mut [u8]) -> Input
-    ensures { result.count ≤ length space.new }
-{
+// Reads until `space` is full or the input ends, and hands back what was read.
+pub fn read_input(mut input: Stdin, space: &mut [u8]) -> io::Result<&[u8]> {
     let mut count = 0;
     while count < space.len() {
-        match input.read(&mut space[count..]) {
-            Ok(0) => break,
-            Ok(more) => count += more,
-            Err(_) => {
-                return Input {
-                    count: count,
-                    failed: true,
-                };
-            }
+        match input.read(&mut space[count..])? {
+            0 => break,
+            more => count += more,
         }
     }
-    Input {
-        count: count,
-        failed: false,
-    }
+    Ok(&space[..count])
 }

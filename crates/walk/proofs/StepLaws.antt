@@ -4,9 +4,8 @@ use mathlib.Core.Bool.{Bool, true, false, not, ◌&&◌, ◌||◌}
 use mathlib.Core.List.{List}
 use Prim.Native.Nat.{ℕ, suc, ◌-◌}
 use native.Mathlib.Omega.{arith}
-use borrow.Author.Rules.{rules}
 use Rattle.definitions.specs.Bounded.{pick, tabulate}
-use Rattle.definitions.specs.Nodes.{Or, Until, Since, kind_of}
+use Rattle.definitions.specs.Nodes.{Not, Or, Until, Since}
 use Rattle.definitions.specs.Readings.{next_at, until_at, prev_at, since_at}
 use Rattle.theorems.proofs.Recursions.{until_recursion, since_recursion, prev_recursion}
 use Rattle.theorems.proofs.Tabulations.{tabulated, tabulate_at, tabulate_same}
@@ -16,8 +15,6 @@ use Rattle.mark_words.specs.Marks.{mark_at}
 use Rattle.rows.specs.Marks.{marks, Whole, Made}
 use Rattle.rows.specs.declared.Row.{Row}
 use Rattle.rows.proofs.PackedLaws.{marks_length, retold}
-use Rattle.rules.specs.Kinds.{is_leaf}
-use Rattle.rules.proofs.KindLaws.{kind_not, kind_or, kind_next, kind_until, kind_prev, kind_since}
 use Rattle.walk.specs.declared.step.Step.{Step}
 use Rattle.walk.specs.Steps.{Twin, Even, mark_of, Marks, OfFirst, Reached, Stepped}
 
@@ -69,9 +66,9 @@ or_takes true true true = refl
 or_takes true true false = refl
 
 -- `or_step`: "an or that is yes takes its first yes operand, one that is no takes both" (`first_marks`, `second_marks` of Or)
-pub or_step : (w u p c r s : Row) → Even w u p p → Marks c u.count (λ k. mark_of u k && not (mark_of p k)) → Marks r w.count (λ k. mark_of w k && not (mark_of c k))
-    → Marks s w.count (λ k. mark_of w k && not (mark_of p k)) → Stepped Or w u p p (step_of r s)
-or_step w u p c r s E mc mr ms = record {
+pub or_step : (w u p q c r s : Row) → Even w u p q → Marks c u.count (λ k. mark_of u k && not (mark_of p k)) → Marks r w.count (λ k. mark_of w k && not (mark_of c k))
+    → Marks s w.count (λ k. mark_of w k && not (mark_of p k)) → Stepped Or w u p q (step_of r s)
+or_step w u p q c r s E mc mr ms = record {
   first = marks_same r w.count w.count (λ k. mark_of w k && not (mark_of c k)) (λ k. mark_of w k && (not (mark_of u k) || mark_of p k)) mr refl
       (λ k l. ap (λ (z : Bool). mark_of w k && not z) (reads c u.count (λ k. mark_of u k && not (mark_of p k)) mc k (rw E.own_count l)) ∙ or_takes (mark_of w k) (mark_of u k) (mark_of p k));
   second = ms;
@@ -161,30 +158,10 @@ module _ (w u p q on from reach : Row) (s : Step) (E : Even w u p q) (mo : Marks
 whole_marks : (r : Row) → Whole r → marks r ≡ tabulate r.count (mark_of r)
 whole_marks r v = tabulated (marks r) r.count (mark_of r) (marks_length r v) (λ k l. refl)
 
-module _ (kind : ℕ) (w u p q : Row) (s : Step) (E : Even w u p q) where
+module _ (w u p q : Row) (s : Step) (E : Even w u p q) where
   itself : Marks w w.count (mark_of w)
   itself = record { whole = E.wanted; count = refl; marked = whole_marks w E.wanted }
 
-  -- `step_of`: a law for each kind, to `first_marks` and `second_marks` of that kind
-  pub step_not : kind ≡ 2 → OfFirst w s → Stepped (kind_of kind) w u p q s
-  step_not e o = rw (e, kind_not) (record { first = rw o.first itself; second = o.second })
-
-  pub step_or : kind ≡ 3 → Stepped Or w u p p s → Stepped (kind_of kind) w u p q s
-  step_or e S = rw (e, kind_or) (record { first = S.first; second = S.second })
-
-  pub or_even : Even w u p p
-  or_even = record { wanted = E.wanted; own = E.own; first = E.first; second = E.first; own_count = E.own_count; first_count = E.first_count; second_count = E.first_count }
-
-  pub step_next : kind ≡ 4 → (r : Row) → Marks r w.count (prev_at (mark_of w)) → OfFirst r s → Stepped (kind_of kind) w u p q s
-  step_next e r m o = rw (e, kind_next) (record { first = rw o.first m; second = rw m.count at o.second })
-
-  pub step_until : kind ≡ 5 → Stepped Until w u p q s → Stepped (kind_of kind) w u p q s
-  step_until e S = rw (e, kind_until) S
-
-  pub step_prev : kind ≡ 6 → (r : Row) → Marks r w.count (next_at false w.count (mark_of w)) → OfFirst r s → Stepped (kind_of kind) w u p q s
-  step_prev e r m o = rw (e, kind_prev) (record { first = rw o.first m; second = rw m.count at o.second })
-
-  pub step_since : (kind ≡ 2 → ⊥) → (kind ≡ 3 → ⊥) → (kind ≡ 4 → ⊥) → (kind ≡ 5 → ⊥) → (kind ≡ 6 → ⊥) → is_leaf (kind_of kind) ≡ false → Stepped Since w u p q s → Stepped (kind_of kind) w u p q s
-  step_since n2 n3 n4 n5 n6 h S = rw (kind_since kind n2 n3 n4 n5 n6 h) S
-
-pub ruleset step_laws = (rules, but_not_made, of_first, or_step, reached_step, until_step, since_step, step_not, step_or, or_even, step_next, step_until, step_prev, step_since)
+  -- `step_of`: of the kinds that take of their first operand alone, a law for each, to `first_marks` and `second_marks` of that kind
+  pub step_not : OfFirst w s → Stepped Not w u p q s
+  step_not o = record { first = rw o.first itself; second = o.second }

@@ -1,28 +1,36 @@
 -- One law for each return of a step in both readings.
 use mathlib.Core.Path.{◌≡◌, refl}
-use Prim.Native.Nat.{ℕ}
-use borrow.Author.Rules.{rules}
-use Rattle.definitions.specs.Nodes.{Kind, True, Atom, Not, Or, Next, Until, Prev, Since, Run, End, Unknown, kind_of}
+use Rattle.definitions.specs.Nodes.{Kind, True, Atom, Not, Or, Next, Until, Prev, Since, Run, End, Unknown}
 use Rattle.definitions.specs.Bounded.{tabulate}
 use Rattle.theorems.proofs.EvidenceRows.{first_marks, second_marks}
 use Rattle.rows.specs.declared.Row.{Row}
 use Rattle.rows.proofs.PackedLaws.{recounted}
 use Rattle.rows.specs.declared.pair.Pair.{Pair}
 use Rattle.rows.specs.Pairs.{rows_in, PairMade}
-use Rattle.rules.proofs.KindLaws.{kind_not}
-use Rattle.rules.proofs.KindLaws.{kind_cases}
+use Rattle.rules.specs.Kinds.{kind_in}
+use Rattle.rules.specs.declared.kind.Kind as told
+use Rattle.rules.specs.declared.kind.Kind.TheVariants as code
 use Rattle.walk.specs.declared.step.Step.{Step}
 use Rattle.walk.specs.Steps.{mark_of, Marks, Stepped, PairsEven, pair_under, taken_first, taken_second, both_of, TakenMade}
 
 -- `under`: not swaps the readings (`pair_under`), no other kind does
-pub under_not : (kind : ℕ) (weak strong : Row) → kind ≡ 2 → record { weak = strong; strong = weak } ≡ pair_under (kind_of kind) weak strong
+pub under_not : (kind : told.Kind) (weak strong : Row) → kind ≡ code.Not → record { weak = strong; strong = weak } ≡ pair_under (kind_in kind) weak strong
 unfolding pair_under
-under_not kind weak strong e = rw (e, kind_not)
+under_not kind weak strong e = rw e
 
-pub under_other : (kind : ℕ) (weak strong : Row) → (kind ≡ 2 → ⊥) → record { weak = weak; strong = strong } ≡ pair_under (kind_of kind) weak strong
+pub under_other : (kind : told.Kind) (weak strong : Row) → (kind ≡ code.Not → ⊥) → record { weak = weak; strong = strong } ≡ pair_under (kind_in kind) weak strong
 unfolding pair_under
-under_other kind weak strong = kind_cases (λ k K. (k ≡ 2 → ⊥) → record { weak = weak; strong = strong } ≡ pair_under K weak strong)
-    (λ n. refl) (λ n. refl) (λ n. absurd (n refl)) (λ n. refl) (λ n. refl) (λ n. refl) (λ n. refl) (λ n. refl) (λ n. refl) (λ n. refl) (λ k l n. refl) kind
+under_other code.True weak strong n = refl
+under_other code.Atom weak strong n = refl
+under_other code.Not weak strong n = absurd (n refl)
+under_other code.Or weak strong n = refl
+under_other code.Next weak strong n = refl
+under_other code.Until weak strong n = refl
+under_other code.Prev weak strong n = refl
+under_other code.Since weak strong n = refl
+under_other code.Run weak strong n = refl
+under_other code.End weak strong n = refl
+under_other code.Unknown weak strong n = refl
 
 -- the rows of both readings, for the readings of the operands
 module _ (w u p q : Pair) (E : PairsEven w u p q) (a b : Step) where
@@ -70,9 +78,6 @@ module _ (w u p q : Pair) (E : PairsEven w u p q) (a b : Step) where
   second_made Unknown x y = record { weak = x.second; strong = strong_second Unknown y }
 
   -- `take`: a step in each reading makes what is taken in both (`taken_first`, `taken_second`)
-  pub taken_made : (kind : ℕ) → Stepped (kind_of kind) w.weak u.weak p.weak q.weak a → Stepped (kind_of kind) w.strong u.strong p.strong q.strong b
-      → (f s : Pair) → f ≡ pair_under (kind_of kind) a.first b.first → s ≡ pair_under (kind_of kind) a.second b.second
-      → TakenMade (kind_of kind) w u p q (record { first = f; second = s })
-  taken_made kind x y f s e g = record { first = rw e (first_made (kind_of kind) x y); second = rw g (second_made (kind_of kind) x y) }
-
-pub ruleset taken_laws = (rules, under_not, under_other, taken_made)
+  pub taken_made : (K : Kind) → Stepped K w.weak u.weak p.weak q.weak a → Stepped K w.strong u.strong p.strong q.strong b
+      → (f s : Pair) → f ≡ pair_under K a.first b.first → s ≡ pair_under K a.second b.second → TakenMade K w u p q (record { first = f; second = s })
+  taken_made K x y f s e g = record { first = rw e (first_made K x y); second = rw g (second_made K x y) }

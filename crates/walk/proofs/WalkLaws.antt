@@ -2,15 +2,13 @@
 use mathlib.Core.Path.{◌≡◌, refl, sym, ap, ap₂, ◌∙◌}
 use mathlib.Core.Bool.{Bool, true, false, ◌&&◌, ◌||◌, and-false, or-false, true≢false}
 use mathlib.Core.List.{List, [], ◌∷◌}
-use Prim.Native.Nat.{ℕ, zero, suc, ◌+◌, ◌-◌, ◌*◌, ◌<◌, ◌≤◌}
+use Prim.Native.Nat.{ℕ, zero, suc, ◌+◌, ◌-◌, ◌<◌, ◌≤◌}
 use native.Mathlib.Nat.{zero-add}
 use native.Mathlib.Omega.{arith}
 use lib.Dec.{eqb}
 use lib.ListN.{length, drop, get_or, drop_of_length-le}
 use lib.Seq.{drop-cons}
-use borrow.Author.Rules.{rules}
-use Rattle.definitions.specs.Limits.{pair_words}
-use Rattle.definitions.specs.Nodes.{Kind, True, Atom, Not, Or, Next, Until, Prev, Since, Run, End, Unknown, Node, node, kind_of, no_node, node_at}
+use Rattle.definitions.specs.Nodes.{Kind, True, Atom, Not, Or, Next, Until, Prev, Since, Run, End, Unknown, Node, node, no_node, node_at}
 use Rattle.definitions.specs.Tables.{nodes_in}
 use Rattle.definitions.specs.Readings.{Trace, Rows, no_rows, row_of, read_from, rows_of}
 use Rattle.definitions.specs.Evidence.{under, rows_by, takes, walk_node, walk_nodes, same_reading, start_rows, wanted_rows}
@@ -23,49 +21,22 @@ use Rattle.theorems.proofs.EvidenceTurns.{turn_of}
 use Rattle.mark_words.specs.Marks.{mark_at}
 use Rattle.rules.specs.Meaning.{meaning, OfWord}
 use Rattle.rules.specs.declared.node.Node as code
-use Rattle.rows.specs.declared.pair.Pair.{Pair}
-use Rattle.rules.specs.Kinds.{is_leaf, Fit}
-use Rattle.rows.specs.Pairs.{rows_in, PairMade, Operable, pair_of_node}
-use Rattle.rows.proofs.PairLaws.{rows_in_lem, both_made}
+use Rattle.rules.specs.Kinds.{kind_in, is_leaf, Fit}
+use Rattle.rules.specs.declared.kind.Kind as told
+use Rattle.rows.specs.Pairs.{rows_in, PairMade, pair_of_node}
+use Rattle.rows.proofs.PairLaws.{rows_in_lem}
 use Rattle.rules.proofs.NodeLists.{nodes_length}
 use Rattle.walk.specs.declared.taken.Taken.{Taken}
-use Rattle.walk.specs.Steps.{PairsEven, both_of, taken_first, taken_second, TakenMade}
+use Rattle.walk.specs.Steps.{both_of, taken_first, taken_second, TakenMade}
 use Rattle.walk.specs.Wanted.{Wished, Held, started, wished}
-use Rattle.walk.specs.Walking.{Laid, Taking, OperatorReady, word_node, Turning, turn_first, turn_second, Turned, Walkable, Walked}
+use Rattle.walk.specs.Walking.{Laid, OperatorReady, word_node, Turning, turn_first, turn_second, Turned, Walkable, Walked}
 use Rattle.walk.proofs.WantedLaws.{both_at, pair_by, held_by_lem, held_over, pair_recounted, wish_held}
 
 -- ---- pairs that are held
 
--- four pairs over n places
-even_pairs : (w u p q : Pair) (n : ℕ) (a b c d : Rows) → PairMade w n a → PairMade u n b → PairMade p n c → PairMade q n d → PairsEven w u p q
-even_pairs w u p q n a b c d mw mu mp mq = record {
-  weak = record {
-    wanted = mw.weak.whole;
-    own = mu.weak.whole;
-    first = mp.weak.whole;
-    second = mq.weak.whole;
-    own_count = mu.weak.count ∙ sym mw.weak.count;
-    first_count = mp.weak.count ∙ sym mw.weak.count;
-    second_count = mq.weak.count ∙ sym mw.weak.count;
-  };
-  strong = record {
-    wanted = mw.strong.whole;
-    own = mu.strong.whole;
-    first = mp.strong.whole;
-    second = mq.strong.whole;
-    own_count = mu.strong.count ∙ sym mw.strong.count;
-    first_count = mp.strong.count ∙ sym mw.strong.count;
-    second_count = mq.strong.count ∙ sym mw.strong.count;
-  };
-  count = mw.strong.count ∙ sym mw.weak.count;
-}
-
 -- pairs that hold some rows hold whole ones
 pub held_laid : (n count : ℕ) (l : List ℕ) (f : ℕ → Rows) → Held n count l f → Laid n count l
 held_laid n count l f H = record { pairs = λ j c. rw (rows_in_lem (pair_of_node l j) n (f j) (H.pairs j c)) (H.pairs j c) }
-
-laid_fewer : (n count m : ℕ) (l : List ℕ) → m ≤ count → Laid n count l → Laid n m l
-laid_fewer n count m l h H = record { pairs = λ j c. H.pairs j (omega arith) }
 
 -- ---- a leaf takes nothing
 
@@ -142,74 +113,30 @@ module _ (x : Node) (n : ℕ) (w u p q : Rows) where
 turned_over : (m k n : ℕ) (x y : Node) (rows l l' : List ℕ) → k ≡ n → x ≡ y → Turned x m k rows l l' → Turned y m n rows l l'
 turned_over m k n x y rows l l' e g U = rw (e, g) at U
 
--- the pairs as they were loaded
-module _ (kind first second m : ℕ) (rows wanted : List ℕ) (ready : Taking kind first second m rows wanted) (w u p q : Pair)
-    (ew : w ≡ pair_of_node wanted m) (eu : u ≡ pair_of_node rows m) (ep : p ≡ pair_of_node rows first) (eq : q ≡ pair_of_node rows second) where
-  pub taking_even : PairsEven w u p q
-  taking_even = rw (ew, eu, ep, eq) ready.even
-
-  -- `taken_by`
-  pub taking_done : (t : Taken) → TakenMade (kind_of kind) w u p q t
-      → TakenMade (kind_of kind) (pair_of_node wanted m) (pair_of_node rows m) (pair_of_node rows first) (pair_of_node rows second) t
-  taking_done t made = rw (ew, eu, ep, eq) at made
-
 -- an operator
-module _ (kind first second m n : ℕ) (rows wanted : List ℕ) (T : OperatorReady kind first second m n rows wanted) where
+module _ (kind : told.Kind) (first second m n : ℕ) (rows wanted : List ℕ) (T : OperatorReady kind first second m n rows wanted) where
   abbrev operator_node : Node
-  operator_node = node (kind_of kind) first second
-
-  rows_made : (j : ℕ) → j < m + 1 → PairMade (pair_of_node rows j) n (rows_in (pair_of_node rows j))
-  rows_made j h = T.rows_laid.pairs j h
+  operator_node = node (kind_in kind) first second
 
   wanted_made : (j : ℕ) → j < m + 1 → PairMade (pair_of_node wanted j) n (rows_in (pair_of_node wanted j))
   wanted_made j h = T.wanted_laid.pairs j h
 
-  pub turn_taking : Taking kind first second m rows wanted
-  turn_taking = record {
-    operator = T.operator;
-    own_room = omega (arith, T.rows_room);
-    first_room = omega (arith, T.rows_room, T.first_early);
-    second_room = omega (arith, T.rows_room, T.second_early);
-    wanted_room = omega (arith, T.wanted_room);
-    even = even_pairs (pair_of_node wanted m) (pair_of_node rows m) (pair_of_node rows first) (pair_of_node rows second) n
-        (rows_in (pair_of_node wanted m)) (rows_in (pair_of_node rows m)) (rows_in (pair_of_node rows first)) (rows_in (pair_of_node rows second))
-        (wanted_made m (omega arith)) (rows_made m (omega arith)) (rows_made first (omega (arith, T.first_early))) (rows_made second (omega (arith, T.second_early)));
-  }
-
-  module _ (t : Taken) (made : TakenMade (kind_of kind) (pair_of_node wanted m) (pair_of_node rows m) (pair_of_node rows first) (pair_of_node rows second) t) where
+  module _ (t : Taken) (made : TakenMade (kind_in kind) (pair_of_node wanted m) (pair_of_node rows m) (pair_of_node rows first) (pair_of_node rows second) t) where
     places : (pair_of_node wanted m).weak.count ≡ n
     places = (wanted_made m (omega arith)).weak.count
 
     first_made : PairMade t.first n (turn_first operator_node m n rows wanted)
-    first_made = pair_recounted t.first (pair_of_node wanted m).weak.count n (λ c. both_of (taken_first (kind_of kind) c (rows_in (pair_of_node wanted m)) (rows_in (pair_of_node rows m))
+    first_made = pair_recounted t.first (pair_of_node wanted m).weak.count n (λ c. both_of (taken_first (kind_in kind) c (rows_in (pair_of_node wanted m)) (rows_in (pair_of_node rows m))
         (rows_in (pair_of_node rows first)) (rows_in (pair_of_node rows second)))) places made.first
 
     second_made : PairMade t.second n (turn_second operator_node m n rows wanted)
-    second_made = pair_recounted t.second (pair_of_node wanted m).weak.count n (λ c. both_of (taken_second (kind_of kind) c (rows_in (pair_of_node wanted m)) (rows_in (pair_of_node rows m))
+    second_made = pair_recounted t.second (pair_of_node wanted m).weak.count n (λ c. both_of (taken_second (kind_in kind) c (rows_in (pair_of_node wanted m)) (rows_in (pair_of_node rows m))
         (rows_in (pair_of_node rows first)) (rows_in (pair_of_node rows second)))) places made.second
 
-    pub first_room_lem : first * pair_words + pair_words ≤ length wanted
-    first_room_lem = omega (arith, T.first_early, T.wanted_room)
-
-    pub first_operable : Operable (pair_of_node wanted first) t.first
-    first_operable =
-        both_made (pair_of_node wanted first) t.first n (rows_in (pair_of_node wanted first)) (turn_first operator_node m n rows wanted)
-        (wanted_made first (omega (arith, T.first_early))) first_made
-
     module _ (l' : List ℕ) (kept : length l' ≡ length wanted) (W : Wished wanted first t.first l') where
-      pub second_room_lem : second * pair_words + pair_words ≤ length l'
-      second_room_lem = omega (arith, T.second_early, T.wanted_room)
-
       after_first : (count : ℕ) (f : ℕ → Rows) → m < count → Held n count wanted f → Held n count l' (wished n f first (turn_first operator_node m n rows wanted))
       after_first count f c H =
           wish_held n count wanted l' f first t.first (turn_first operator_node m n rows wanted) H (omega (arith, T.first_early)) first_made W
-
-      pub second_operable : Operable (pair_of_node l' second) t.second
-      second_operable =
-          let F : Rows = turn_first operator_node m n rows wanted in
-          let g : ℕ → Rows = wished n (λ j. rows_in (pair_of_node wanted j)) first F in
-          both_made (pair_of_node l' second) t.second n (g second) (turn_second operator_node m n rows wanted)
-          ((after_first (m + 1) (λ j. rows_in (pair_of_node wanted j)) (omega arith) T.wanted_laid).pairs second (omega (arith, T.second_early))) second_made
 
       -- `turn_operator`
       pub operator_done : (l'' : List ℕ) → Wished l' second t.second l'' → Turned operator_node m n rows wanted l''
@@ -218,13 +145,9 @@ module _ (kind first second m n : ℕ) (rows wanted : List ℕ) (T : OperatorRea
             (turn_second operator_node m n rows wanted) (after_first count f c H) (omega (arith, T.second_early)) second_made X;
       }
 
-pub ruleset operator_laws = (rules, turn_taking, first_room_lem, first_operable, second_room_lem, second_operable, operator_done)
-
-pub ruleset taken_laws = (rules, taking_even, taking_done)
-
 -- any node
 module _ (nodes : List ℕ) (m n : ℕ) (rows wanted : List ℕ) (T : Turning nodes m n rows wanted) (x : code.Node) (word : OfWord (get_or nodes m 0) x)
-    (leaf : Bool) (tested : leaf ≡ is_leaf (kind_of x.kind)) where
+    (leaf : Bool) (tested : leaf ≡ is_leaf (kind_in x.kind)) where
   fit : Fit m (meaning x)
   fit = rw word.meant T.fit
 
@@ -233,10 +156,10 @@ module _ (nodes : List ℕ) (m n : ℕ) (rows wanted : List ℕ) (T : Turning no
   turn_leaf t = turned_over m n n (meaning x) (word_node nodes m) rows wanted wanted refl word.meant (record { adds = λ count f c H. record { pairs = λ j d. pairs count f H j d } })
     where
       none_first : (w u p q : Rows) (e : Bool) (k : ℕ) → first_taken (meaning x) n w u p q e k ≡ false
-      none_first w u p q e k = leaf_first n (kind_of x.kind) _ _ _ _ k (sym tested ∙ t)
+      none_first w u p q e k = leaf_first n (kind_in x.kind) _ _ _ _ k (sym tested ∙ t)
 
       none_second : (w u p q : Rows) (e : Bool) (k : ℕ) → second_taken (meaning x) n w u p q e k ≡ false
-      none_second w u p q e k = leaf_second n (kind_of x.kind) _ _ _ _ k (sym tested ∙ t)
+      none_second w u p q e k = leaf_second n (kind_in x.kind) _ _ _ _ k (sym tested ∙ t)
 
       pairs : (count : ℕ) (f : ℕ → Rows) → Held n count wanted f → (j : ℕ) → j < count →
           PairMade (pair_of_node wanted j) n (wished n (wished n f x.first (turn_first (meaning x) m n rows wanted)) x.second (turn_second (meaning x) m n rows wanted) j)
@@ -250,24 +173,6 @@ module _ (nodes : List ℕ) (m n : ℕ) (rows wanted : List ℕ) (T : Turning no
           (H.pairs j d)
           (λ e k h. sym (wished_body (meaning x) n w u p q f x.first x.second j e k h
           ∙ rw (none_first w u p q e k, none_second w u p q e k, and-false (eqb j x.first), and-false (eqb j x.second), or-false (mark_at (row_of e (f j)) k))))
-
-  module _ (operator : leaf ≡ false) where
-    pub turn_operator : OperatorReady x.kind x.first x.second m n rows wanted
-    turn_operator = record {
-      operator = sym tested ∙ operator;
-      first_early = fit.first (sym tested ∙ operator);
-      second_early = fit.second (sym tested ∙ operator);
-      rows_room = T.rows_room;
-      wanted_room = T.wanted_room;
-      rows_laid = T.rows_laid;
-      wanted_laid = T.wanted_laid;
-    }
-
-    -- `turn` of an operator
-    pub turn_done : (l' : List ℕ) → Turned (node (kind_of x.kind) x.first x.second) m n rows wanted l' → Turned (word_node nodes m) m n rows wanted l'
-    turn_done l' U = turned_over m n n (meaning x) (word_node nodes m) rows wanted l' refl word.meant U
-
-pub ruleset turn_laws = (rules, turn_leaf, turn_operator, turn_done)
 
 -- ---- all turns
 
@@ -381,16 +286,6 @@ module _ (nodes : List ℕ) (count n : ℕ) (rows : List ℕ) (weak : Bool) (fir
   long : length (nodes_in count nodes) ≡ count
   long = nodes_length nodes count so.able.counted
 
-  pub walk_turning : 0 < m → Turning nodes (m - 1) n rows l
-  walk_turning h = record {
-    counted = omega (arith, so.within, so.able.counted);
-    fit = so.able.fit (m - 1) (omega (arith, so.within));
-    rows_room = omega (arith, so.within, so.able.rows_room);
-    wanted_room = omega (arith, so.within, so.able.wanted_room);
-    rows_laid = laid_fewer n count (m - 1 + 1) rows (omega (arith, so.within)) so.able.rows_laid;
-    wanted_laid = laid_fewer n count (m - 1 + 1) l (omega (arith, so.within)) so.laid;
-  }
-
   -- `walk`: a turn more, and all turns
   pub walk_more : 0 < m → (l' : List ℕ) → length l' ≡ length l → Turned (word_node nodes (m - 1)) (m - 1) n rows l l' → Walking nodes count n rows weak first (m - 1) l'
   walk_more h l' kept U = record {
@@ -428,5 +323,3 @@ module _ (nodes : List ℕ) (count n : ℕ) (rows : List ℕ) (weak : Bool) (fir
   pub walk_done : m ≤ 0 → Walked nodes count n rows weak l
   unfolding wanted_rows
   walk_done h = let e : m ≡ 0 = omega arith in record { wants = rw e at so.wants }
-
-pub ruleset walk_laws = (rules, walk_start, walk_turning, walk_more, walk_done)

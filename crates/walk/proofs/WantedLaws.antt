@@ -2,14 +2,12 @@
 use mathlib.Core.Path.{◌≡◌, refl, sym, ap, ◌∙◌}
 use mathlib.Core.Bool.{Bool, true, false, not, ◌&&◌, ◌||◌, or-false}
 use mathlib.Core.List.{List}
-use Prim.Native.Nat.{ℕ, zero, suc, ◌+◌, ◌-◌, ◌*◌, ◌<◌, ◌≤◌}
+use Prim.Native.Nat.{ℕ, zero, suc, ◌-◌, ◌<◌, ◌≤◌}
 use native.Mathlib.Omega.{arith}
 use native.Mathlib.Decide.{ℕ_discrete}
 use lib.Dec.{eqb}
 use lib.ListN.{length}
-use borrow.Author.Rules.{rules}
 use borrow.Author.Tests.{eq-eqb, ne_eqb}
-use Rattle.definitions.specs.Limits.{pair_words}
 use Rattle.definitions.specs.Bounded.{tabulate}
 use Rattle.definitions.specs.Nodes.{Or}
 use Rattle.definitions.specs.Readings.{Rows, row_of, prev_at}
@@ -18,44 +16,28 @@ use Rattle.theorems.proofs.Recursions.{prev_recursion}
 use Rattle.theorems.proofs.Tabulations.{tabulate_at, tabulated}
 use Rattle.theorems.proofs.Semantics.{Agree}
 use Rattle.mark_words.specs.Marks.{mark_at}
-use Rattle.rows.specs.Marks.{marks, Whole, Made}
+use Rattle.rows.specs.Marks.{marks, Made}
 use Rattle.rows.specs.declared.Row.{Row}
 use Rattle.rows.proofs.PackedLaws.{marks_length, retold}
 use Rattle.rows.proofs.RowLaws.{not_on, prev_on}
 use Rattle.rows.specs.declared.pair.Pair.{Pair}
-use Rattle.rows.specs.Pairs.{PairMade, PairWhole, PairStored, Operable, operated, pair_of_node}
-use Rattle.rules.proofs.KindLaws.{kind_or}
-use Rattle.rows.proofs.PairLaws.{pair_of, or_pair, rows_in_lem, both_made}
+use Rattle.rows.specs.Pairs.{PairMade, PairStored, Operable, operated, pair_of_node}
+use Rattle.rows.proofs.PairLaws.{pair_of, or_pair, rows_in_lem}
 use Rattle.walk.specs.Steps.{both_of}
 use Rattle.walk.specs.Wanted.{Wished, Held, none, chosen, started, wished}
 
 -- ---- wanted
 
 module _ (l : List ℕ) (j : ℕ) (p taken : Pair) (e : p ≡ pair_of_node l j) (o : Operable (pair_of_node l j) taken) where
-  pub weak_whole : Whole p.weak
-  weak_whole = rw e o.first_weak
-
-  pub strong_whole : Whole p.strong
-  strong_whole = rw e o.first_strong
-
-  pub weak_even : p.weak.count ≡ taken.weak.count
-  weak_even = rw e (sym o.second_first)
-
-  pub strong_even : p.strong.count ≡ taken.strong.count
-  strong_even = rw e (o.first_even ∙ sym o.second_even)
-
   -- `want`
   pub wish_done : (weak strong : Row) (l' : List ℕ)
       → Made weak p.weak.count (tabulate p.weak.count (λ k. mark_at (marks p.weak) k || mark_at (marks taken.weak) k))
       → Made strong p.strong.count (tabulate p.strong.count (λ k. mark_at (marks p.strong) k || mark_at (marks taken.strong) k))
       → PairStored l j (pair_of weak strong) l' → Wished l j taken l'
   wish_done weak strong l' a b u = record {
-    here = rw u.here (rw (e, kind_or) at (or_pair 3 p taken weak strong (rw e o) refl a b));
+    here = rw u.here (rw e at (or_pair p taken weak strong (rw e o) a b));
     others = u.others;
   }
-
-pub both_whole : (weak strong : Row) (n m : ℕ) (a b : List Bool) → Made weak n a → Made strong m b → PairWhole (pair_of weak strong)
-both_whole weak strong n m a b v u = record { weak = v.whole; strong = u.whole }
 
 -- ---- what is held
 
@@ -109,27 +91,6 @@ pub record Blanking (n count : ℕ) (entry : List ℕ) (i : ℕ) (l : List ℕ) 
   pub kept : length l ≡ length entry
   pub held : Held n i l (λ j. none n)
 
-pub blank_none : (n count : ℕ) (entry : List ℕ) → Blanking n count entry 0 entry
-blank_none n count entry = record { within = omega arith; kept = refl; held = record { pairs = λ j h. absurd (omega arith) } }
-
-module _ (n count : ℕ) (entry : List ℕ) (row : Row) (i : ℕ) (l : List ℕ) (made : Made row n (tabulate n (λ k. false))) (so : Blanking n count entry i l) where
-  pub blank_whole : PairWhole (pair_of row row)
-  blank_whole = record { weak = made.whole; strong = made.whole }
-
-  pub blank_room : count * pair_words ≤ length entry → i < count → i * pair_words + pair_words ≤ length l
-  blank_room room h = omega (arith, so.kept)
-
-  pub blank_more : i < count → (l' : List ℕ) → length l' ≡ length l → PairStored l i (pair_of row row) l' → Blanking n count entry (i + 1) l'
-  blank_more h l' kept u = record { within = omega arith; kept = kept ∙ so.kept; held = record { pairs = λ j c. go j c (ℕ_discrete j i) } }
-    where
-      go : (j : ℕ) → j < i + 1 → Dec (j ≡ i) → PairMade (pair_of_node l' j) n (none n)
-      go j c (yes e) = rw (e, u.here) (record { weak = made; strong = made })
-      go j c (no e) = rw (u.others j e) (so.held.pairs j (omega arith))
-
--- `blank`
-pub blank_done : (n count : ℕ) (entry : List ℕ) (i : ℕ) (l : List ℕ) → Blanking n count entry i l → count ≤ i → Held n count l (λ j. none n)
-blank_done n count entry i l so h = let e : i ≡ count = omega (arith, so.within) in rw e at so.held
-
 -- ---- the rule at place 0
 
 first_alone : (n : ℕ) (full before here : Row) → Made full n (tabulate n (λ k. true)) → Made before full.count (tabulate full.count (prev_at (mark_at (marks full))))
@@ -163,9 +124,6 @@ module _ (n count : ℕ) (weak : Bool) (l : List ℕ) (p : Pair) (some : 0 < cou
   inside : count - 1 < count
   inside = omega arith
 
-  pub start_operable : Operable (pair_of_node l (count - 1)) p
-  start_operable = both_made (pair_of_node l (count - 1)) p n (none n) (chosen n weak) (H.pairs (count - 1) inside) m
-
   -- `start`: the wanted places before the first turn are `started`
   pub start_done : (l' : List ℕ) → Wished l (count - 1) p l' → Held n count l' (started n count weak)
   unfolding chosen
@@ -182,6 +140,3 @@ module _ (n count : ℕ) (weak : Bool) (l : List ℕ) (p : Pair) (some : 0 < cou
           go : Dec (j ≡ count - 1) → eqb j (count - 1) ≡ eqb (suc j) count
           go (yes e) = eq-eqb j (count - 1) e ∙ sym (eq-eqb (suc j) count (omega arith))
           go (no e) = ne_eqb j (count - 1) e ∙ sym (ne_eqb (suc j) count (λ q. e (omega arith)))
-
-pub ruleset wanted_laws =
-    (rules, weak_whole, strong_whole, weak_even, strong_even, both_whole, wish_done, blank_none, blank_whole, blank_room, blank_more, blank_done, chosen_weak, chosen_strong, start_operable, start_done)

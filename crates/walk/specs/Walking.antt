@@ -1,12 +1,13 @@
 -- The walk from the rule: what a node's turn asks and leaves, and all turns.
 use Rattle.std.specs.Prelude.{◌≡◌, Bool, false, List, ℕ, ◌+◌, ◌*◌, ◌<◌, ◌≤◌, length, get_or}
 use Rattle.definitions.specs.Limits.{max_states, pair_words}
-use Rattle.definitions.specs.Nodes.{Node, node_of, kind_of}
+use Rattle.definitions.specs.Nodes.{Node, node_of}
 use Rattle.definitions.specs.Tables.{nodes_in}
 use Rattle.definitions.specs.Readings.{Trace, Rows, no_rows, rows_of}
 use Rattle.definitions.specs.Evidence.{wanted_rows}
 use Rattle.theorems.proofs.RuleNodes.{RuleNodes}
-use Rattle.rules.specs.Kinds.{is_leaf, Fit}
+use Rattle.rules.specs.Kinds.{kind_in, is_leaf, Fit}
+use Rattle.rules.specs.declared.kind.Kind as code
 use Rattle.rows.specs.Pairs.{rows_in, pair_of_node}
 use Rattle.walk.specs.Steps.{PairsEven, both_of, taken_first, taken_second}
 use Rattle.walk.specs.Wanted.{Held, wished}
@@ -16,8 +17,8 @@ abbrev pub Laid : ℕ → ℕ → List ℕ → Type 0
 Laid n count l = Held n count l (λ j. rows_in (pair_of_node l j))
 
 -- an operator with its rows, its operands' rows and its wanted places
-pub record Taking (kind first second m : ℕ) (rows wanted : List ℕ) : Type 0 where
-  pub operator : is_leaf (kind_of kind) ≡ false
+pub record Taking (kind : code.Kind) (first second m : ℕ) (rows wanted : List ℕ) : Type 0 where
+  pub operator : is_leaf (kind_in kind) ≡ false
   pub own_room : m * pair_words + pair_words ≤ length rows
   pub first_room : first * pair_words + pair_words ≤ length rows
   pub second_room : second * pair_words + pair_words ≤ length rows
@@ -25,8 +26,8 @@ pub record Taking (kind first second m : ℕ) (rows wanted : List ℕ) : Type 0 
   pub even : PairsEven (pair_of_node wanted m) (pair_of_node rows m) (pair_of_node rows first) (pair_of_node rows second)
 
 -- an operator's turn: rows and wanted places of the nodes up to it, which is node m
-pub record OperatorReady (kind first second m n : ℕ) (rows wanted : List ℕ) : Type 0 where
-  pub operator : is_leaf (kind_of kind) ≡ false
+pub record OperatorReady (kind : code.Kind) (first second m n : ℕ) (rows wanted : List ℕ) : Type 0 where
+  pub operator : is_leaf (kind_in kind) ≡ false
   pub first_early : first < m
   pub second_early : second < m
   pub rows_room : (m + 1) * pair_words ≤ length rows

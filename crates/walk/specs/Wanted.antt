@@ -18,10 +18,6 @@ pub record Wished (entry : List ℕ) (j : ℕ) (taken : Pair) (exit : List ℕ) 
 pub record Held (n count : ℕ) (l : List ℕ) (f : ℕ → Rows) : Type 0 where
   pub pairs : (j : ℕ) → j < count → PairMade (pair_of_node l j) n (f j)
 
--- the mark at place k of node j in a reading
-abbrev pub mark_in : List ℕ → ℕ → Bool → ℕ → Bool
-mark_in l j weak k = mark_at (row_of weak (rows_in (pair_of_node l j))) k
-
 -- rows without a mark
 abbrev pub none : ℕ → Rows
 none n = both_of (λ e. tabulate n (λ k. false))

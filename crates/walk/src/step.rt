@@ -1,14 +1,23 @@
 // A step in one reading: from the node's wanted places, its own row and its operands' rows.
 ghost use Rattle.std.specs.Prelude.{◌≡◌, not, false, ◌&&◌};
 ghost use Rattle.definitions.specs.Bounded.{tabulate};
-ghost use Rattle.definitions.specs.Nodes.{kind_of, Or, Until, Since};
+ghost use Rattle.definitions.specs.Nodes.{Or, Until, Since};
 ghost use Rattle.mark_words.specs.Marks.{mark_at};
 ghost use Rattle.rows.specs.Marks.{marks, Whole, Made};
-ghost use Rattle.rules.specs.Kinds.{is_leaf};
+ghost use Rattle.rules.specs.Kinds.{kind_in, is_leaf};
 ghost use Rattle.walk.specs.Steps.{Twin, Even, OfFirst, Reached, Stepped};
 
 use rows::Row;
-use rules::node::Node;
+use rules::kind::Kind;
+
+// What stands around an operator, a row or a pair each: its wanted places, its own, and those of its operands.
+#[derive(Clone, Copy)]
+pub struct Operator<T> {
+    pub wanted: T,
+    pub own: T,
+    pub first: T,
+    pub second: T,
+}
 
 // The places that are taken of the first operand, and of the second.
 #[derive(Clone, Copy)]
@@ -36,66 +45,66 @@ fn of_first(places: Row) -> Step
 }
 
 // "an or that is yes takes its first yes operand, one that is no takes both"
-fn or_step(wanted: Row, own: Row, p: Row) -> Step
-    requires { Even wanted own p p }
-    ensures { Stepped Or wanted own p p result }
+fn or_step(operator: Operator<Row>) -> Step
+    requires { Even operator.wanted operator.own operator.first operator.second }
+    ensures { Stepped Or operator.wanted operator.own operator.first operator.second result }
 {
     Step {
-        first: but_not(wanted, but_not(own, p)),
-        second: but_not(wanted, p),
+        first: but_not(operator.wanted, but_not(operator.own, operator.first)),
+        second: but_not(operator.wanted, operator.first),
     }
 }
 
-// Of the places that an until or a since came to: a yes takes p where q is no and q where it is yes, a no takes p where that is no, and q.
-fn reached(places: Row, own: Row, p: Row, q: Row) -> Step
-    requires { Even places own p q }
-    ensures { Reached places own p q result }
+// Of the places that an until or a since came to, which are the wanted ones here: a yes takes the first operand where the second is no and the second where it
+// is yes, a no takes the first where that is no, and the second.
+fn reached(operator: Operator<Row>) -> Step
+    requires { Even operator.wanted operator.own operator.first operator.second }
+    ensures { Reached operator.wanted operator.own operator.first operator.second result }
 {
-    let held = but_not(own, q);
-    let failed = but_not(own.not(), p);
+    let held = but_not(operator.own, operator.second);
+    let failed = but_not(operator.own.not(), operator.first);
     Step {
-        first: places.and(held.or(failed)),
-        second: but_not(places, held),
+        first: operator.wanted.and(held.or(failed)),
+        second: but_not(operator.wanted, held),
     }
 }
 
-// An until hands its question on to the next place where p is yes and q is no.
-fn until_step(wanted: Row, own: Row, p: Row, q: Row) -> Step
-    requires { Even wanted own p q }
-    ensures { Stepped Until wanted own p q result }
+// An until hands its question on to the next place where its first operand is yes and its second is no.
+fn until_step(operator: Operator<Row>) -> Step
+    requires { Even operator.wanted operator.own operator.first operator.second }
+    ensures { Stepped Until operator.wanted operator.own operator.first operator.second result }
 {
-    let from = but_not(p, q).prev();
-    reached(from.since(wanted), own, p, q)
+    let from = but_not(operator.first, operator.second).prev();
+    reached(Operator {
+        wanted: from.since(operator.wanted),
+        ..operator
+    })
 }
 
 // A since hands it on to the place before.
-fn since_step(wanted: Row, own: Row, p: Row, q: Row) -> Step
-    requires { Even wanted own p q }
-    ensures { Stepped Since wanted own p q result }
+fn since_step(operator: Operator<Row>) -> Step
+    requires { Even operator.wanted operator.own operator.first operator.second }
+    ensures { Stepped Since operator.wanted operator.own operator.first operator.second result }
 {
-    let from = but_not(p, q).next(false);
-    reached(from.until(wanted, false), own, p, q)
+    let from = but_not(operator.first, operator.second).next(false);
+    reached(Operator {
+        wanted: from.until(operator.wanted, false),
+        ..operator
+    })
 }
 
-// The step of kinds 2 to 7.
-pub fn step_of(kind: u8, wanted: Row, own: Row, p: Row, q: Row) -> Step
-    requires { (is_leaf (kind_of kind) ≡ false) × (Even wanted own p q) }
-    ensures { Stepped (kind_of kind) wanted own p q result }
+// The step of an operator.
+pub fn step_of(kind: Kind, operator: Operator<Row>) -> Step
+    requires { (is_leaf (kind_in kind) ≡ false) × (Even operator.wanted operator.own operator.first operator.second) }
+    ensures { Stepped (kind_in kind) operator.wanted operator.own operator.first operator.second result }
 {
-    if kind == Node::NOT {
-        return of_first(wanted);
+    match kind {
+        Kind::Not => of_first(operator.wanted),
+        Kind::Or => or_step(operator),
+        Kind::Next => of_first(operator.wanted.prev()),
+        Kind::Until => until_step(operator),
+        Kind::Prev => of_first(operator.wanted.next(false)),
+        Kind::Since => since_step(operator),
+        Kind::True | Kind::Atom | Kind::Run | Kind::End | Kind::Unknown => unreachable!(),
     }
-    if kind == Node::OR {
-        return or_step(wanted, own, p);
-    }
-    if kind == Node::NEXT {
-        return of_first(wanted.prev());
-    }
-    if kind == Node::UNTIL {
-        return until_step(wanted, own, p, q);
-    }
-    if kind == Node::PREV {
-        return of_first(wanted.next(false));
-    }
-    since_step(wanted, own, p, q)
 }

@@ -1,13 +1,12 @@
 // A step in both readings.
 ghost use Rattle.std.specs.Prelude.{◌≡◌, false};
-ghost use Rattle.definitions.specs.Nodes.{kind_of};
-ghost use Rattle.rules.specs.Kinds.{is_leaf};
+ghost use Rattle.rules.specs.Kinds.{kind_in, is_leaf};
 ghost use Rattle.walk.specs.Steps.{PairsEven, pair_under, TakenMade};
 
-use super::step::step_of;
+use super::step::{Operator, step_of};
 use rows::Row;
 use rows::pair::Pair;
-use rules::node::Node;
+use rules::kind::Kind;
 
 // What is taken of the first operand, and of the second.
 #[derive(Clone, Copy)]
@@ -16,28 +15,49 @@ pub struct Taken {
     pub second: Pair,
 }
 
+impl Operator<Pair> {
+    fn weak(self) -> Operator<Row>
+        ensures { result ≡ record { wanted = self.wanted.weak; own = self.own.weak; first = self.first.weak; second = self.second.weak } }
+    {
+        Operator {
+            wanted: self.wanted.weak,
+            own: self.own.weak,
+            first: self.first.weak,
+            second: self.second.weak,
+        }
+    }
+
+    fn strong(self) -> Operator<Row>
+        ensures { result ≡ record { wanted = self.wanted.strong; own = self.own.strong; first = self.first.strong; second = self.second.strong } }
+    {
+        Operator {
+            wanted: self.wanted.strong,
+            own: self.own.strong,
+            first: self.first.strong,
+            second: self.second.strong,
+        }
+    }
+}
+
 // "a not passes on", in the other reading.
-fn under(kind: u8, weak: Row, strong: Row) -> Pair
-    ensures { result ≡ pair_under (kind_of kind) weak strong }
+fn under(kind: Kind, weak: Row, strong: Row) -> Pair
+    ensures { result ≡ pair_under (kind_in kind) weak strong }
 {
-    if kind == Node::NOT {
+    if kind == Kind::Not {
         return Pair {
             weak: strong,
             strong: weak,
         };
     }
-    Pair {
-        weak: weak,
-        strong: strong,
-    }
+    Pair { weak, strong }
 }
 
-pub fn take(kind: u8, wanted: Pair, own: Pair, p: Pair, q: Pair) -> Taken
-    requires { (is_leaf (kind_of kind) ≡ false) × (PairsEven wanted own p q) }
-    ensures { TakenMade (kind_of kind) wanted own p q result }
+pub fn take(kind: Kind, operator: Operator<Pair>) -> Taken
+    requires { (is_leaf (kind_in kind) ≡ false) × (PairsEven operator.wanted operator.own operator.first operator.second) }
+    ensures { TakenMade (kind_in kind) operator.wanted operator.own operator.first operator.second result }
 {
-    let weak = step_of(kind, wanted.weak, own.weak, p.weak, q.weak);
-    let strong = step_of(kind, wanted.strong, own.strong, p.strong, q.strong);
+    let weak = step_of(kind, operator.weak());
+    let strong = step_of(kind, operator.strong());
     Taken {
         first: under(kind, weak.first, strong.first),
         second: under(kind, weak.second, strong.second),

@@ -15,14 +15,7 @@ pub fn want(wanted: &mut [u64], j: usize, taken: Pair)
     let p = pair_of_node(wanted, j);
     let weak = p.weak.or(taken.weak);
     let strong = p.strong.or(taken.strong);
-    store_pair(
-        wanted,
-        j,
-        Pair {
-            weak: weak,
-            strong: strong,
-        },
-    );
+    store_pair(wanted, j, Pair { weak, strong });
 }
 
 fn blank(count: usize, n: usize, wanted: &mut [u64])
@@ -31,14 +24,7 @@ fn blank(count: usize, n: usize, wanted: &mut [u64])
 {
     let row = Row::none(n);
     for j in 0..count {
-        store_pair(
-            wanted,
-            j,
-            Pair {
-                weak: row,
-                strong: row,
-            },
-        );
+        store_pair(wanted, j, Pair::both(row));
     }
 }
 

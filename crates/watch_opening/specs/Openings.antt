@@ -1,55 +1,44 @@
 -- What the text of an opening comes to.
-use Rattle.std.specs.Prelude.{◌≡◌, ℕ, ◌≤◌, Bool, List, [], ◌++◌, length, take, drop}
-use Rattle.definitions.specs.Limits.{accepted, max_controllers, max_rule_nodes, max_states, max_input_bytes}
-use Rattle.definitions.specs.Lines.{NextLine, refused, read}
+use Rattle.std.specs.Prelude.{◌≡◌, ℕ, ◌≤◌, Bool, List, [], ◌++◌, length, take, drop, Result, Ok, Err}
+use Rattle.definitions.specs.Limits.{accepted, max_controllers, max_input_bytes}
 use Rattle.definitions.specs.Program.{refused_text}
 use Rattle.definitions.specs.Sessions.{Space, leaves}
 use Rattle.definitions.specs.Watching as watching
 use Rattle.definitions.specs.Watching.{scan_session, Opened, Unfinished, Refuses, Opens, empty_space, status_text, Watch, opening_step}
+use Rattle.lines.specs.declared.Stop.{Stop}
+use Rattle.rules.specs.Refusals.{number_of}
 use Rattle.printing.specs.Printing.{Printed, OutputIs}
 use Rattle.session_status.specs.Status.{max_printed}
 use Rattle.watch_opening.specs.declared.phase.Phase.{Phase}
 use Rattle.watch_opening.specs.declared.phase.Phase.TheVariants.{Opening, Running, Ruling, Ended}
 use Rattle.watch_opening.specs.declared.phase.Stepped.{Stepped}
-use Rattle.watch_opening.specs.declared.ControllersRead.{ControllersRead}
-use Rattle.watch_opening.specs.declared.ControllersRead.TheVariants as session
-use Rattle.watch_opening.specs.declared.SessionScanned.{SessionScanned}
 
--- C of the `session` line, or its refusal
-unfoldable pub session_answer : NextLine ℕ → ControllersRead
-session_answer (refused number) = session.Refused number
-session_answer (read C rest) = session.Controllers C
+-- the lines after the line `-` are accepted: their masks are laid over the start of lent space
+pub record SessionRead (text : List ℕ) (C : ℕ) (owned' : List ℕ) : Type 0 where
+  pub number : accepted ≡ (scan_session text).number
+  pub controllers : C ≡ (scan_session text).controllers
+  pub few : C ≤ max_controllers
+  pub masks : take C owned' ≡ (scan_session text).masks
 
--- the lines after the line `-` were read; accepted, the masks are laid over the start of lent space
-pub record SessionIs (text : List ℕ) (r : SessionScanned) (owned' : List ℕ) : Type 0 where
-  pub number : r.number ≡ (scan_session text).number
-  pub controllers : r.controllers ≡ (scan_session text).controllers
-  pub inside : r.rest_at ≤ length text
-  pub rest : drop r.rest_at text ≡ (scan_session text).rest
-  pub few : r.controllers ≤ max_controllers
-  pub masks : r.number ≡ accepted → take r.controllers owned' ≡ (scan_session text).masks
+-- a line of them is refused
+pub record SessionStopped (text : List ℕ) (stop : Stop) : Type 0 where
+  pub number : number_of stop.refusal ≡ (scan_session text).number
+  pub inside : stop.at ≤ length text
+  pub rest : drop stop.at text ≡ (scan_session text).rest
 
--- a line of a text, and space for what is printed of it
-pub record RefuseRoom (text : List ℕ) (at : ℕ) (output : List ℕ) : Type 0 where
-  pub inside : at ≤ length text
+-- they were read
+abbrev pub SessionIs : List ℕ → Result ℕ Stop → List ℕ → Type 0
+SessionIs text (Ok C) owned' = SessionRead text C owned'
+SessionIs text (Err stop) owned' = SessionStopped text stop
+
+-- a text, and space for what is printed of it
+pub record OpenRoom (text output : List ℕ) : Type 0 where
   pub fits : length text ≤ max_input_bytes
   pub room : max_printed ≤ length output
 
--- lent space of just its full size
-pub record Sized (masks nodes states : List ℕ) : Type 0 where
-  pub masks_full : length masks ≡ max_controllers
-  pub nodes_full : length nodes ≡ max_rule_nodes
-  pub states_full : length states ≡ max_states
-
--- the rule text, lent space, and space for what is printed
-pub record OpenRoom (rule masks nodes states output : List ℕ) : Type 0 where
-  pub fits : length rule ≤ max_input_bytes
-  pub sized : Sized masks nodes states
-  pub room : max_printed ≤ length output
-
--- both texts likewise
-pub record TextsRoom (rule session masks nodes states output : List ℕ) : Type 0 where
-  pub opens : OpenRoom rule masks nodes states output
+-- the rule text and the session's lines likewise
+pub record TextsRoom (rule session output : List ℕ) : Type 0 where
+  pub opens : OpenRoom rule output
   pub fits : length session ≤ max_input_bytes
 
 -- where the program is after the opening's next line

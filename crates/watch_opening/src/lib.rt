@@ -4,210 +4,166 @@
 
 pub mod phase;
 
-ghost use Rattle.std.specs.Prelude.{◌≡◌, ◌≤◌, length, drop};
+ghost use Rattle.std.specs.Prelude.{◌≡◌, ◌≤◌, not, ◌&&◌, eqb, length, drop};
 ghost use Rattle.definitions.specs.Limits.{max_controllers};
 ghost use Rattle.definitions.specs.Lines.{line_length, line_of};
-ghost use Rattle.definitions.specs.Tables.{rule_of};
-ghost use Rattle.definitions.specs.Sessions.{lent_space, Open};
+ghost use Rattle.definitions.specs.Sessions.{Open};
 ghost use Rattle.definitions.specs.Watching.{session_line, Refuses, opened_by, opened_texts};
-ghost use Rattle.watch_opening.specs.Openings.{session_answer, SessionIs, RefuseRoom, RefusedIs, OpenRoom, OpenStep, TextsRoom, OpeningIs};
+ghost use Rattle.lines.specs.Told.{told, next_told};
+ghost use Rattle.report.specs.Reporting.{LineRoom};
+ghost use Rattle.rules.specs.Handed.{rule_in};
+ghost use Rattle.rules.specs.Refusals.{number_of};
+ghost use Rattle.session_status.specs.Spaces.{space_in};
+ghost use Rattle.watch_opening.specs.Openings.{SessionIs, RefusedIs, OpenRoom, OpenStep, TextsRoom, OpeningIs};
 
 use fields::form;
-use fields::number::Field;
-use lines::{end_refusal, first_line};
+use lines::{Stop, check_end, first_line};
 use phase::{OUTPUT_BYTES, Phase, Stepped};
 use program_input::split;
 use recording_reader::scan::scan_masks;
-use report::put_refused;
+use report::{put_refused, put_stopped};
 use rule_reader::scan_rule;
-use rules::limits::{Limits, Refusal};
+use rules::limits::Limits;
+use rules::refusal::Refusal;
+use rules::rule::Rule;
 use session_status::put_status;
-use sessions::arrival::controllers_refusal;
-use sessions::heading::Heading;
-use sessions::opening::{Opening, open_session};
+use session_status::space::Space;
+use sessions::arrival::check_controllers;
+use sessions::opening::open_session;
 
-// C, or the refusal.
-#[derive(Clone, Copy)]
-pub enum ControllersRead {
-    Controllers(usize),
-    Refused(u8),
-}
-
-// What the lines after the line `-` gave: the refusal or 0, C, and the place of the refused line.
-#[derive(Clone, Copy)]
-pub struct SessionScanned {
-    pub number: u8,
-    pub controllers: usize,
-    pub rest_at: usize,
-}
-
-// The next line, of `len` bytes, as a `session` line.
-fn next_session(t: &[u8], len: usize) -> ControllersRead
+// The next line, of `len` bytes, as a `session` line: C.
+fn next_session(t: &[u8], len: usize) -> Result<usize, Refusal>
     requires { len ≡ line_length t.now }
-    ensures { result ≡ session_answer (session_line t.now) }
+    ensures { told result ≡ next_told (λ C. C) (session_line t.now) }
 {
-    let unread = end_refusal(t, len, Refusal::RECORDING_LINES, Refusal::RECORDING_FORM);
-    if unread != Refusal::NONE {
-        return ControllersRead::Refused(unread);
-    }
-    let Field::Number(controllers) = form::worded_decimal(&t[..len], b"session") else {
-        return ControllersRead::Refused(Refusal::RECORDING_FORM);
-    };
-    let refusal = controllers_refusal(controllers as usize);
-    if refusal != Refusal::NONE {
-        return ControllersRead::Refused(refusal);
-    }
-    ControllersRead::Controllers(controllers as usize)
+    check_end(t, len, Refusal::RecordingLines, Refusal::RecordingForm)?;
+    let number = form::worded_decimal(&t[..len], b"session");
+    let controllers = number.ok_or(Refusal::RecordingForm)? as usize;
+    check_controllers(controllers)?;
+    Ok(controllers)
 }
 
-// The `session` line, then as many `owns` lines as it says, into `owned`.
-fn scan_session(text: &[u8], owned: &mut [u32]) -> SessionScanned
+// Only lines are missing, and more may come.
+pub fn lacks_lines(ended: bool, refusal: Refusal, missing: Refusal) -> bool
+    ensures { result ≡ (not ended && eqb (number_of refusal) (number_of missing)) }
+{
+    !ended & (refusal.number() == missing.number())
+}
+
+// The `session` line, then as many `owns` lines as it says, into `owned`: C.
+fn scan_session(text: &[u8], owned: &mut [u32]) -> Result<usize, Stop>
     requires { max_controllers ≤ length owned.old }
     ensures { SessionIs text.now result owned.new }
 {
     let line = first_line(text);
-    match next_session(text, line.len) {
-        ControllersRead::Controllers(controllers) => {
-            let stopped = scan_masks(text, line.next, controllers, owned);
-            SessionScanned {
-                number: stopped.number,
-                controllers: controllers,
-                rest_at: stopped.at,
-            }
-        }
-        ControllersRead::Refused(number) => {
-            SessionScanned {
-                number: number,
-                controllers: 0,
-                rest_at: 0,
-            }
-        }
-    }
+    let read = next_session(text, line.len);
+    let controllers = read.map_err(|refusal| Stop { refusal, at: 0 })?;
+    scan_masks(text, line.next, controllers, owned)?;
+    Ok(controllers)
 }
 
-// Prints the line that begins at `at`, without its ending; nothing more is read.
-fn refuse(number: u8, text: &[u8], at: usize, output: &mut [u8]) -> Stepped
-    requires { RefuseRoom text.now at output.old }
-    ensures { RefusedIs (Refuses number (line_of (drop at text.now))) output.old result output.new }
+// Prints the line that is refused, without its ending; nothing more is read.
+fn refuse(stop: Stop, text: &[u8], output: &mut [u8]) -> Stepped
+    requires { LineRoom text.now stop.at output.old }
+    ensures { RefusedIs (Refuses (number_of stop.refusal) (line_of (drop stop.at text.now))) output.old result output.new }
 {
-    let t = &text[at..];
-    let line = first_line(t);
-    let len = line.len;
-    let printed = put_refused(number as u32, &t[..len], output);
     Stepped {
         phase: Phase::Ended,
-        printed: printed,
+        printed: put_stopped(stop, text, output),
     }
 }
 
 // Opens the session; the line of its refusal is the rule's first.
 fn open_read(
-    opening: Opening,
+    controllers: usize,
     owned: &[u32],
-    words: &[u32],
-    rule: &[u8],
-    heading: &mut [usize; Heading::NUMBERS],
-    masks: &mut [u32],
-    nodes: &mut [u32],
-    states: &mut [u64],
+    rule: Rule<'_>,
+    text: &[u8],
+    space: &mut Space,
     output: &mut [u8],
 ) -> Stepped
-    requires { OpenRoom rule.now masks.old nodes.old states.old output.old }
-    ensures { OpenStep (opened_by rule.now (Open opening.controllers owned.now (rule_of opening.controller opening.count words.now))) (lent_space heading.old masks.old nodes.old states.old) output.old result (lent_space heading.new masks.new nodes.new states.new) output.new }
+    requires { OpenRoom text.now output.old }
+    ensures { OpenStep (opened_by text.now (Open controllers owned.now (rule_in rule.entry))) (space_in space.old) output.old result (space_in space.new) output.new }
 {
-    let number = open_session(opening, owned, words, heading, masks, nodes, states);
-    if number != Refusal::NONE {
-        return refuse(number, rule, 0, output);
-    }
-    let printed = put_status(heading, masks, nodes, states, output);
-    Stepped {
-        phase: Phase::Running,
-        printed: printed,
+    let opened = open_session(
+        controllers,
+        owned,
+        rule,
+        &mut space.heading,
+        &mut space.masks,
+        &mut space.nodes,
+        &mut space.states,
+    );
+    match opened {
+        Ok(()) => Stepped {
+            phase: Phase::Running,
+            printed: put_status(space, output),
+        },
+        Err(refusal) => refuse(Stop { refusal, at: 0 }, text, output),
     }
 }
 
 // The rule text, then the lines after the line `-`.
 fn open_texts(
     ended: bool,
-    rule: &[u8],
+    text: &[u8],
     session: &[u8],
-    heading: &mut [usize; Heading::NUMBERS],
-    masks: &mut [u32],
-    nodes: &mut [u32],
-    states: &mut [u64],
+    space: &mut Space,
     output: &mut [u8],
 ) -> Stepped
-    requires { TextsRoom rule.now session.now masks.old nodes.old states.old output.old }
-    ensures { OpenStep (opened_texts ended rule.now session.now) (lent_space heading.old masks.old nodes.old states.old) output.old result (lent_space heading.new masks.new nodes.new states.new) output.new }
+    requires { TextsRoom text.now session.now output.old }
+    ensures { OpenStep (opened_texts ended text.now session.now) (space_in space.old) output.old result (space_in space.new) output.new }
 {
-    let mut words = [0u32; Limits::RULE_NODES];
-    let ruled = scan_rule(rule, &mut words);
-    if ruled.number != Refusal::NONE {
-        return refuse(ruled.number, rule, ruled.rest_at, output);
-    }
-    let mut owned = [0u32; Limits::CONTROLLERS];
-    let scanned = scan_session(session, &mut owned);
-    if scanned.number != Refusal::NONE {
-        if !ended & (scanned.number == Refusal::RECORDING_LINES) {
-            return Stepped {
-                phase: Phase::Opening,
-                printed: 0,
-            };
-        }
-        return refuse(scanned.number, session, scanned.rest_at, output);
-    }
-    let controllers = scanned.controllers;
-    let count = ruled.count;
-    let opening = Opening {
-        controllers: controllers,
-        controller: ruled.controller,
-        count: count,
+    let mut nodes = [0u32; Limits::RULE_NODES];
+    let heading = match scan_rule(text, &mut nodes) {
+        Ok(heading) => heading,
+        Err(stop) => return refuse(stop, text, output),
     };
-    open_read(
-        opening,
-        &owned[..controllers],
-        &words[..count],
-        rule,
-        heading,
-        masks,
-        nodes,
-        states,
-        output,
-    )
+    let mut owned = [0u32; Limits::CONTROLLERS];
+    match scan_session(session, &mut owned) {
+        Ok(controllers) => {
+            let rule = Rule {
+                controller: heading.controller,
+                count: heading.count,
+                nodes: &nodes[..heading.count],
+            };
+            open_read(
+                controllers,
+                &owned[..controllers],
+                rule,
+                text,
+                space,
+                output,
+            )
+        }
+        Err(stop) => {
+            if lacks_lines(ended, stop.refusal, Refusal::RecordingLines) {
+                return Stepped {
+                    phase: Phase::Opening,
+                    printed: 0,
+                };
+            }
+            refuse(stop, session, output)
+        }
+    }
 }
 
 // The whole text so far. Without a line `-` it is read at the end of the input only.
-pub fn open(
-    ended: bool,
-    text: &[u8],
-    heading: &mut [usize; Heading::NUMBERS],
-    masks: &mut [u32; Limits::CONTROLLERS],
-    nodes: &mut [u32; Limits::RULE_NODES],
-    states: &mut [u64; Limits::STATES],
-    output: &mut [u8; OUTPUT_BYTES],
-) -> Stepped
-    ensures { OpeningIs ended text.now (lent_space heading.old masks.old nodes.old states.old) output.old result (lent_space heading.new masks.new nodes.new states.new) output.new }
+pub fn open(ended: bool, text: &[u8], space: &mut Space, output: &mut [u8; OUTPUT_BYTES]) -> Stepped
+    ensures { OpeningIs ended text.now (space_in space.old) output.old result (space_in space.new) output.new }
 {
     if Limits::INPUT_BYTES < text.len() {
-        return refuse(Refusal::INPUT_LONG, &text[..0], 0, output);
+        return Stepped {
+            phase: Phase::Ended,
+            printed: put_refused(Refusal::InputLong, &text[..0], output),
+        };
     }
     let parts = split(text);
-    let rule_end = parts.rule_end;
-    let session_at = parts.recording_at;
-    if !ended & (rule_end == text.len()) {
+    if !ended & (parts.rule.len() == text.len()) {
         return Stepped {
             phase: Phase::Opening,
             printed: 0,
         };
     }
-    open_texts(
-        ended,
-        &text[..rule_end],
-        &text[session_at..],
-        heading,
-        masks,
-        nodes,
-        states,
-        output,
-    )
+    open_texts(ended, parts.rule, parts.recording, space, output)
 }

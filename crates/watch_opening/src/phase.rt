@@ -2,7 +2,7 @@
 use rules::limits::Limits;
 
 // The opening's text comes; a session is held; the text of its new rule comes; nothing more is read.
-#[derive(Clone, Copy)]
+#[derive(Clone, Copy, PartialEq, Eq)]
 pub enum Phase {
     Opening,
     Running,

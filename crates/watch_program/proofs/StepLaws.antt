@@ -31,28 +31,29 @@ silent output = printed_all [] output 0 output (printed_none output 0)
 
 -- ---- `take_line`
 module _ (line : List ℕ) (h : Space) (output : List ℕ) where
-  -- `take_line`, the end of the input: nothing more is printed
-  pub line_end_lem : length line ≡ 0 → SteppedIs (event_step line h) line h output (record { phase = Ended; printed = 0 }) h output
-  unfolding event_step pick
-  line_end_lem z = rw (eq-eqb (length line) 0 z) (record { watch = refl; left = refl; printed = silent output })
-
-  module _ (z : length line ≡ 0 → ⊥) (b : Bool) (bs : b ≡ begins_rule line) where
-    -- `take_line`, the word `rule`: `event_step` is `rule_step` of the line
-    pub line_rule_lem : b ≡ true → (r : Stepped) (h' : Space) (output' : List ℕ) → SteppedIs (rule_step false line h) line h output r h' output' →
-        SteppedIs (event_step line h) line h output r h' output'
+  module _ (z : Bool) (zs : z ≡ is_empty line) where
+    -- `take_line`, the end of the input: nothing more is printed
+    pub line_end_lem : z ≡ true → SteppedIs (event_step line h) line h output (record { phase = Ended; printed = 0 }) h output
     unfolding event_step pick
-    line_rule_lem t r h' output' s = rw (ne_eqb (length line) 0 z, ← bs, t) s
+    line_end_lem e = rw (← zs, e) (record { watch = refl; left = refl; printed = silent output })
 
-    -- `take_line`, another word: `event_step` is `line_step`
-    pub line_event : b ≡ false → (r : ℕ) (h' : Space) (output' : List ℕ) → EventIs line h output r h' output' →
-        SteppedIs (event_step line h) line h output (record { phase = Running; printed = r }) h' output'
-    unfolding event_step pick
-    line_event f r h' output' u =
-        rw (ne_eqb (length line) 0 z, ← bs, f) (record {
-          watch = u.watch;
-          left = sym (ap (λ (w : watching.Watch). space_after w h) u.watch);
-          printed = printed_all _ output r output' u.printed;
-        })
+    module _ (n : z ≡ false) (b : Bool) (bs : b ≡ begins_rule line) where
+      -- `take_line`, the word `rule`: `event_step` is `rule_step` of the line
+      pub line_rule_lem : b ≡ true → (r : Stepped) (h' : Space) (output' : List ℕ) → SteppedIs (rule_step false line h) line h output r h' output' →
+          SteppedIs (event_step line h) line h output r h' output'
+      unfolding event_step pick
+      line_rule_lem t r h' output' s = rw (← zs, n, ← bs, t) s
+
+      -- `take_line`, another word: `event_step` is `line_step`
+      pub line_event : b ≡ false → (r : ℕ) (h' : Space) (output' : List ℕ) → EventIs line h output r h' output' →
+          SteppedIs (event_step line h) line h output (record { phase = Running; printed = r }) h' output'
+      unfolding event_step pick
+      line_event f r h' output' u =
+          rw (← zs, n, ← bs, f) (record {
+            watch = u.watch;
+            left = sym (ap (λ (w : watching.Watch). space_after w h) u.watch);
+            printed = printed_all _ output r output' u.printed;
+          })
 
 pub ruleset line_laws = (rules, line_end_lem, line_rule_lem, line_event)
 

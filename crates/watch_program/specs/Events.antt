@@ -1,36 +1,36 @@
 -- What an event is, what its call answers and leaves, and what is printed of it.
-use Rattle.std.specs.Prelude.{◌≡◌, ℕ, ◌≤◌, List, length}
+use Rattle.std.specs.Prelude.{◌≡◌, ℕ, ◌≤◌, List, length, Option, Some, None}
 use Rattle.definitions.specs.Limits.{recording_form}
 use Rattle.definitions.specs.Lines.{Parsed, formed, malformed}
-use Rattle.definitions.specs.Sessions.{Space, lent_space, Call, Arrive, Withdraw, number_of, leaves}
+use Rattle.definitions.specs.Sessions.{Space, Call, Arrive, Withdraw, number_of, leaves}
 use Rattle.definitions.specs.Watching.{Running, line_step}
 use Rattle.printing.specs.Printing.{Printed}
 use Rattle.session_status.specs.Status.{max_printed}
 use Rattle.watch_program.specs.declared.event.Event.{Event}
-use Rattle.watch_program.specs.declared.event.Event.TheVariants.{Arrival, Withdrawal, Malformed}
+use Rattle.watch_program.specs.declared.event.Event.TheVariants.{Arrival, Withdrawal}
 
 -- the call that each case is
-unfoldable pub meant : Event → Parsed Call
-meant (Arrival s) = formed (Arrive s)
-meant Withdrawal = formed Withdraw
-meant Malformed = malformed
+unfoldable pub meant : Option Event → Parsed Call
+meant (Some (Arrival s)) = formed (Arrive s)
+meant (Some Withdrawal) = formed Withdraw
+meant None = malformed
 
 -- its number; 5 where the line is no event
-unfoldable pub event_number : Event → Space → ℕ
-event_number (Arrival s) h = number_of (Arrive s) h
-event_number Withdrawal h = number_of Withdraw h
-event_number Malformed h = recording_form
+unfoldable pub event_number : Option Event → Space → ℕ
+event_number (Some (Arrival s)) h = number_of (Arrive s) h
+event_number (Some Withdrawal) h = number_of Withdraw h
+event_number None h = recording_form
 
 -- what it leaves
-unfoldable pub event_leaves : Event → Space → Space
-event_leaves (Arrival s) h = leaves (Arrive s) h
-event_leaves Withdrawal h = leaves Withdraw h
-event_leaves Malformed h = h
+unfoldable pub event_leaves : Option Event → Space → Space
+event_leaves (Some (Arrival s)) h = leaves (Arrive s) h
+event_leaves (Some Withdrawal) h = leaves Withdraw h
+event_leaves None h = h
 
--- an event was taken or refused, whatever the nodes are, which are not lent
-pub record Taken (e : Event) (heading masks states : List ℕ) (number : ℕ) (heading' states' : List ℕ) : Type 0 where
-  pub answered : (nodes : List ℕ) → number ≡ event_number e (lent_space heading masks nodes states)
-  pub left : (nodes : List ℕ) → lent_space heading' masks nodes states' ≡ event_leaves e (lent_space heading masks nodes states)
+-- an event was taken or refused
+pub record Taken (e : Option Event) (h : Space) (number : ℕ) (h' : Space) : Type 0 where
+  pub answered : number ≡ event_number e h
+  pub left : h' ≡ event_leaves e h
 
 -- a line of a text, and space for what is printed of it
 pub record RefusedRoom (at : ℕ) (text output : List ℕ) : Type 0 where

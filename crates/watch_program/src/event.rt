@@ -2,21 +2,22 @@
 ghost use Rattle.std.specs.Prelude.{◌≡◌, ◌≤◌, length, drop};
 ghost use Rattle.definitions.specs.Lines.{line_length};
 ghost use Rattle.definitions.specs.Program.{refused_text};
-ghost use Rattle.definitions.specs.Sessions.{lent_space};
 ghost use Rattle.definitions.specs.Watching.{call_of, event_text};
 ghost use Rattle.printing.specs.Printing.{Printed};
+ghost use Rattle.rules.specs.Refusals.{number_of, refusal_in};
+ghost use Rattle.session_status.specs.Spaces.{space_in};
 ghost use Rattle.session_status.specs.Status.{max_printed};
 ghost use Rattle.watch_program.specs.Events.{meant, Taken, RefusedRoom, EventIs};
 
 use at_lines::{WORD_DIGITS, mark_digits};
 use fields::form;
-use fields::form::Pair;
-use lines::{first_line, scan};
+use lines::{Stop, first_line, scan};
 use recordings::state::state_of;
 use report::put_refused;
-use rules::choice::least;
-use rules::limits::{Limits, Refusal};
+use rules::limits::Limits;
+use rules::refusal::Refusal;
 use session_status::put_status;
+use session_status::space::Space;
 use sessions::arrival::arrive;
 use sessions::heading::Heading;
 use sessions::withdrawal::withdraw;
@@ -25,75 +26,62 @@ use sessions::withdrawal::withdraw;
 pub enum Event {
     Arrival(u64),
     Withdrawal,
-    Malformed,
 }
 
 // The line, of `len` bytes without its ending, in a session of so many controllers.
-fn event_of(controllers: usize, line: &[u8], len: usize) -> Event
+#[tactic(auto, using(crate::proofs::EventLaws::event_laws))]
+fn event_of(controllers: usize, line: &[u8], len: usize) -> Option<Event>
     requires { len ≡ line_length line.now }
     ensures { meant result ≡ call_of controllers line.now }
 {
     if len == line.len() {
-        return Event::Malformed;
+        return None;
     }
-    if scan::same(&line[..len], b"withdraw") {
-        return Event::Withdrawal;
+    let line = &line[..len];
+    if scan::same(line, b"withdraw") {
+        return Some(Event::Withdrawal);
     }
-    let Pair::Numbers(marks, word) = form::worded_hexadecimals(
-        &line[..len],
-        b"at",
-        mark_digits(controllers),
-        WORD_DIGITS,
-    ) else {
-        return Event::Malformed;
-    };
-    Event::Arrival(state_of(marks, word))
+    let digits = mark_digits(controllers);
+    let (marks, word) = form::worded_hexadecimals(line, b"at", digits, WORD_DIGITS)?;
+    Some(Event::Arrival(state_of(marks, word)))
 }
 
-// The call's number, or 5 where it is none.
-fn take_event(
-    event: Event,
-    heading: &mut [usize; Heading::NUMBERS],
-    masks: &[u32],
-    states: &mut [u64],
-) -> u8
-    ensures { Taken event heading.old masks.now states.old result heading.new states.new }
+// The call's refusal, or 5 where it is none.
+fn take_event(event: Option<Event>, space: &mut Space) -> Result<(), Refusal>
+    ensures { Taken event (space_in space.old) (refusal_in result) (space_in space.new) }
 {
     match event {
-        Event::Arrival(state) => arrive(state, heading, masks, states),
-        Event::Withdrawal => withdraw(heading, states),
-        Event::Malformed => Refusal::RECORDING_FORM,
+        Some(Event::Arrival(state)) => arrive(
+            state,
+            &mut space.heading,
+            &space.masks,
+            &mut space.states,
+        ),
+        Some(Event::Withdrawal) => withdraw(&mut space.heading, &mut space.states),
+        None => Err(Refusal::RecordingForm),
     }
 }
 
-// Prints the line that begins at `at`: at most its first 1,024 bytes, without its ending.
-pub fn refuse_line(number: u8, text: &[u8], at: usize, output: &mut [u8]) -> usize
-    requires { RefusedRoom at text.now output.old }
-    ensures { Printed (refused_text number (event_text (drop at text.now))) output.old 0 result output.new }
+// Prints the line that is refused: at most its first 1,024 bytes, without its ending.
+pub fn refuse_line(stop: Stop, text: &[u8], output: &mut [u8]) -> usize
+    requires { RefusedRoom stop.at text.now output.old }
+    ensures { Printed (refused_text (number_of stop.refusal) (event_text (drop stop.at text.now))) output.old 0 result output.new }
 {
-    let line = &text[at..];
+    let line = &text[stop.at..];
     let first = first_line(line);
-    let shown = least(first.len, Limits::LINE_BYTES);
-    put_refused(number as u32, &line[..shown], output)
+    let shown = first.len.min(Limits::LINE_BYTES);
+    put_refused(stop.refusal, &line[..shown], output)
 }
 
 // Takes the event of a line, and prints the session's line, or the refused line itself.
-pub fn follow(
-    line: &[u8],
-    heading: &mut [usize; Heading::NUMBERS],
-    masks: &[u32],
-    nodes: &[u32],
-    states: &mut [u64],
-    text: &mut [u8],
-) -> usize
+pub fn follow(line: &[u8], space: &mut Space, text: &mut [u8]) -> usize
     requires { max_printed ≤ length text.old }
-    ensures { EventIs line.now (lent_space heading.old masks.now nodes.now states.old) text.old result (lent_space heading.new masks.now nodes.now states.new) text.new }
+    ensures { EventIs line.now (space_in space.old) text.old result (space_in space.new) text.new }
 {
     let first = first_line(line);
-    let event = event_of(heading[Heading::CONTROLLERS], line, first.len);
-    let number = take_event(event, heading, masks, states);
-    if number != Refusal::NONE {
-        return refuse_line(number, line, 0, text);
+    let event = event_of(space.heading[Heading::CONTROLLERS], line, first.len);
+    match take_event(event, space) {
+        Ok(()) => put_status(space, text),
+        Err(refusal) => refuse_line(Stop { refusal, at: 0 }, line, text),
     }
-    put_status(heading, masks, nodes, states, text)
 }

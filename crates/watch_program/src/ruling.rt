@@ -1,19 +1,24 @@
 // The text of a new rule, so far: it lacks only lines, a line of it is refused, or the session takes it.
 ghost use Rattle.std.specs.Prelude.{◌≡◌, ◌≤◌, length};
-ghost use Rattle.definitions.specs.Tables.{rule_of};
-ghost use Rattle.definitions.specs.Sessions.{lent_space, Replace};
+ghost use Rattle.definitions.specs.Sessions.{Replace};
 ghost use Rattle.definitions.specs.Watching.{begins_rule, calls, rule_so_far, rule_step};
+ghost use Rattle.rules.specs.Handed.{rule_in};
+ghost use Rattle.session_status.specs.Spaces.{space_in};
 ghost use Rattle.session_status.specs.Status.{max_printed};
 ghost use Rattle.watch_opening.specs.Openings.{SteppedIs};
+ghost use Rattle.watch_opening.specs.declared.phase.Phase.TheVariants.{Running};
 
 use super::event::refuse_line;
-use lines::{first_line, scan};
+use lines::{Stop, first_line, scan};
+use report::put_refused;
 use rule_reader::scan_rule;
-use rules::headings::RuleHeading;
-use rules::limits::{Limits, Refusal};
+use rules::limits::Limits;
+use rules::refusal::Refusal;
+use rules::rule::Rule;
 use session_status::put_status;
-use sessions::heading::Heading;
+use session_status::space::Space;
 use sessions::replacement::replace_rule;
+use watch_opening::lacks_lines;
 use watch_opening::phase::{Phase, Stepped};
 
 // Whether the first field of a line is the word `rule`.
@@ -21,105 +26,66 @@ pub fn begins_rule(text: &[u8]) -> bool
     ensures { result ≡ begins_rule text.now }
 {
     let first = first_line(text);
-    let len = first.len;
-    let line = &text[..len];
+    let line = &text[..first.len];
     let end = scan::until_byte(line, scan::TAB);
     scan::same(&line[..end], b"rule")
 }
 
-// The session takes the rule that was read; the line of its refusal is the text's first.
-fn replace_read(
-    given: RuleHeading,
-    words: &[u32],
-    text: &[u8],
-    heading: &mut [usize; Heading::NUMBERS],
-    masks: &[u32],
-    nodes: &mut [u32],
-    states: &[u64],
-    output: &mut [u8],
-) -> Stepped
-    requires { max_printed ≤ length output.old }
-    ensures { SteppedIs (calls text.now (lent_space heading.old masks.now nodes.old states.now) (Replace (rule_of given.controller given.count words.now))) text.now (lent_space heading.old masks.now nodes.old states.now) output.old result (lent_space heading.new masks.now nodes.new states.now) output.new }
+// The session goes on, with so much printed.
+fn running(printed: usize) -> Stepped
+    ensures { result ≡ record { phase = Running; printed = printed } }
 {
-    let number = replace_rule(given, words, heading, nodes);
-    if number != Refusal::NONE {
-        let refused = refuse_line(number, text, 0, output);
-        return Stepped {
-            phase: Phase::Running,
-            printed: refused,
-        };
-    }
-    let printed = put_status(heading, masks, nodes, states, output);
     Stepped {
         phase: Phase::Running,
-        printed: printed,
+        printed,
+    }
+}
+
+// The session takes the rule that was read; the line of its refusal is the text's first.
+fn replace_read(given: Rule<'_>, text: &[u8], space: &mut Space, output: &mut [u8]) -> Stepped
+    requires { max_printed ≤ length output.old }
+    ensures { SteppedIs (calls text.now (space_in space.old) (Replace (rule_in given.entry))) text.now (space_in space.old) output.old result (space_in space.new) output.new }
+{
+    match replace_rule(given, &mut space.heading, &mut space.nodes) {
+        Ok(()) => running(put_status(space, output)),
+        Err(refusal) => running(refuse_line(Stop { refusal, at: 0 }, text, output)),
     }
 }
 
 // The whole text so far. A line that can't be part of it ends it, and is not read as an event.
-fn take_text(
-    ended: bool,
-    text: &[u8],
-    heading: &mut [usize; Heading::NUMBERS],
-    masks: &[u32],
-    nodes: &mut [u32],
-    states: &[u64],
-    output: &mut [u8],
-) -> Stepped
+fn take_text(ended: bool, text: &[u8], space: &mut Space, output: &mut [u8]) -> Stepped
     requires { max_printed ≤ length output.old }
-    ensures { SteppedIs (rule_so_far ended text.now (lent_space heading.old masks.now nodes.old states.now)) text.now (lent_space heading.old masks.now nodes.old states.now) output.old result (lent_space heading.new masks.now nodes.new states.now) output.new }
+    ensures { SteppedIs (rule_so_far ended text.now (space_in space.old)) text.now (space_in space.old) output.old result (space_in space.new) output.new }
 {
-    let mut words = [0u32; Limits::RULE_NODES];
-    let ruled = scan_rule(text, &mut words);
-    if ruled.number != Refusal::NONE {
-        if !ended & (ruled.number == Refusal::RULE_LINES) {
-            return Stepped {
-                phase: Phase::Ruling,
-                printed: 0,
+    let mut nodes = [0u32; Limits::RULE_NODES];
+    match scan_rule(text, &mut nodes) {
+        Ok(heading) => {
+            let given = Rule {
+                controller: heading.controller,
+                count: heading.count,
+                nodes: &nodes[..heading.count],
             };
+            replace_read(given, text, space, output)
         }
-        let refused = refuse_line(ruled.number, text, ruled.rest_at, output);
-        return Stepped {
-            phase: Phase::Running,
-            printed: refused,
-        };
+        Err(stop) => {
+            if lacks_lines(ended, stop.refusal, Refusal::RuleLines) {
+                return Stepped {
+                    phase: Phase::Ruling,
+                    printed: 0,
+                };
+            }
+            running(refuse_line(stop, text, output))
+        }
     }
-    let count = ruled.count;
-    let given = RuleHeading {
-        controller: ruled.controller,
-        count: count,
-    };
-    replace_read(
-        given,
-        &words[..count],
-        text,
-        heading,
-        masks,
-        nodes,
-        states,
-        output,
-    )
 }
 
 // The whole text so far, if it isn't too long.
-pub fn take_rule(
-    ended: bool,
-    text: &[u8],
-    heading: &mut [usize; Heading::NUMBERS],
-    masks: &[u32],
-    nodes: &mut [u32],
-    states: &[u64],
-    output: &mut [u8],
-) -> Stepped
+pub fn take_rule(ended: bool, text: &[u8], space: &mut Space, output: &mut [u8]) -> Stepped
     requires { max_printed ≤ length output.old }
-    ensures { SteppedIs (rule_step ended text.now (lent_space heading.old masks.now nodes.old states.now)) text.now (lent_space heading.old masks.now nodes.old states.now) output.old result (lent_space heading.new masks.now nodes.new states.now) output.new }
+    ensures { SteppedIs (rule_step ended text.now (space_in space.old)) text.now (space_in space.old) output.old result (space_in space.new) output.new }
 {
     if Limits::INPUT_BYTES < text.len() {
-        let refused = refuse_line(Refusal::INPUT_LONG, text, text.len(), output);
-        return Stepped {
-            phase: Phase::Running,
-            printed: refused,
-        };
+        return running(put_refused(Refusal::InputLong, &text[..0], output));
     }
-    take_text(ended, text, heading, masks, nodes, states, output)
+    take_text(ended, text, space, output)
 }

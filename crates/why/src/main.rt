@@ -2,42 +2,37 @@
 // behind it, on standard output. On standard error it says where a refused line stands, or what could not be read or written.
 #![tactic(auto)]
 
-use program_input::asked::{Asked, asked_by};
-use refused_line::refused_line;
-use report::REFUSED;
+use program_input::asked::asked_by;
+use refused_line::{Line, refused_line};
+use report::is_refused;
 use rules::limits::Limits;
-use standard_streams::failures;
-use standard_streams::input::read_input;
-use standard_streams::told_line::say_line;
-use std::io::Stderr;
+use standard_streams::program::run;
+use why_program::{OUTPUT_BYTES, why};
 
 // Where a reading was asked for, the refused line of the texts after that line. An input that is too long has none.
-fn say_refused(errors: Stderr, input: &[u8]) {
+fn asked_line(input: &[u8]) -> Option<Line> {
     if Limits::INPUT_BYTES < input.len() {
-        return;
+        return None;
     }
-    if let Asked::Reading(_, at) = asked_by(input) {
-        say_line(errors, refused_line(&input[at..]));
-    }
+    refused_line(asked_by(input).ok()?.texts)
 }
 
 fn main(rt: HostRuntime) {
-    // One byte more than the limit tells an input that is too long.
-    let mut space = [0u8; Limits::INPUT_BYTES + 1];
-    let input = read_input(rt.stdin(), &mut space);
-    if input.failed {
-        failures::say_unread(rt.stderr(), b"why");
-        return;
-    }
-    let length = input.count;
-    let mut output = [0u8; why_program::OUTPUT_BYTES];
-    let printed = why_program::why(&space[..length], &mut output);
-    if rt.stdout().write_all(&output[..printed]).is_ok() {
+    let mut output = [0u8; OUTPUT_BYTES];
+    run(
+        rt,
+        "why",
+        |input| {
+            let printed = why(input, &mut output);
+            &output[..printed]
+        },
         // What was accepted has no refused line, and is not read again.
-        if output[0] == REFUSED {
-            say_refused(rt.stderr(), &space[..length]);
-        }
-    } else {
-        failures::say_unwritten(rt.stderr(), b"why");
-    }
+        |input, printed| {
+            if is_refused(printed) {
+                asked_line(input)
+            } else {
+                None
+            }
+        },
+    );
 }

@@ -1,9 +1,9 @@
--- `of_judgement` meets its contract: one law for each case of the answer (CaseLaws).
+-- `of_judgement` meets its contract (CaseLaws: case_laws).
 use Rattle.c_answers.proofs.CaseLaws.{case_laws}
 use Rattle.c_answers.proofs.of_judgement.Goals as goal
 
-pub returns-in-Judged : goal.returns-in-Judged
-returns-in-Judged c = search case_laws
+pub returns-in-Ok : goal.returns-in-Ok
+returns-in-Ok c = search case_laws
 
-pub returns-in-Refused : goal.returns-in-Refused
-returns-in-Refused c = search case_laws
+pub returns-in-Err : goal.returns-in-Err
+returns-in-Err c = search case_laws

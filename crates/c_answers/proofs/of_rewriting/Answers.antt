@@ -1,9 +1,9 @@
--- `of_rewriting` meets its contract: one law for each case of the answer (CaseLaws).
+-- `of_rewriting` meets its contract (CaseLaws: case_laws).
 use Rattle.c_answers.proofs.CaseLaws.{case_laws}
 use Rattle.c_answers.proofs.of_rewriting.Goals as goal
 
-pub returns-in-Rewritten : goal.returns-in-Rewritten
-returns-in-Rewritten c = search case_laws
+pub returns-in-Ok : goal.returns-in-Ok
+returns-in-Ok c = search case_laws
 
-pub returns-in-Refused : goal.returns-in-Refused
-returns-in-Refused c = search case_laws
+pub returns-in-Err : goal.returns-in-Err
+returns-in-Err c = search case_laws

@@ -1,12 +1,12 @@
--- `of_session_verdicts` meets its contract: one law for each case of the answer (CaseLaws).
+-- `of_session_verdicts` meets its contract (CaseLaws: case_laws).
 use Rattle.c_answers.proofs.CaseLaws.{case_laws}
 use Rattle.c_answers.proofs.of_session_verdicts.Goals as goal
 
-pub returns-in-NoState : goal.returns-in-NoState
-returns-in-NoState c = search case_laws
+pub returns-in-Ok-Some : goal.returns-in-Ok-Some
+returns-in-Ok-Some c = search case_laws
 
-pub returns-in-Judged : goal.returns-in-Judged
-returns-in-Judged c = search case_laws
+pub returns-in-Ok-None : goal.returns-in-Ok-None
+returns-in-Ok-None c = search case_laws
 
-pub returns-in-Refused : goal.returns-in-Refused
-returns-in-Refused c = search case_laws
+pub returns-in-Err : goal.returns-in-Err
+returns-in-Err c = search case_laws

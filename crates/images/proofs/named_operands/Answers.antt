@@ -1,6 +1,6 @@
--- `named_operands` meets its contract (ImageLaws, `names_laws`).
-use Rattle.images.proofs.ImageLaws.{names_laws}
+-- `named_operands` meets its contract (ImageLaws, `names_are`).
+use Rattle.images.proofs.ImageLaws.{names_are}
 use Rattle.images.proofs.named_operands.Goals as goal
 
 pub returns : goal.returns
-returns c = search names_laws
+returns c = search names_are

@@ -1,30 +1,9 @@
--- `judge_texts` meets its contract (OutputLaws: texts_laws).
-use Rattle.judge_program.proofs.OutputLaws.{texts_laws}
+-- `judge_texts` meets its contract (OutputLaws: judged_printed, refused_printed).
+use Rattle.judge_program.proofs.OutputLaws.{judged_printed, refused_printed}
 use Rattle.judge_program.proofs.judge_texts.Goals as goal
 
-pub slice_bounds-nodes-end : goal.slice_bounds-nodes-end
-slice_bounds-nodes-end c = search texts_laws
+pub returns-in-Ok : goal.returns-in-Ok
+returns-in-Ok c = let h = c.in-Ok.ensures in search (judged_printed, h)
 
-pub slice_bounds-put_judged-end : goal.slice_bounds-put_judged-end
-slice_bounds-put_judged-end c = search texts_laws
-
-pub slice_bounds-masks-end : goal.slice_bounds-masks-end
-slice_bounds-masks-end c = search texts_laws
-
-pub slice_bounds-put_judged-end-in-Tables : goal.slice_bounds-put_judged-end-in-Tables
-slice_bounds-put_judged-end-in-Tables c = search texts_laws
-
-pub slice_bounds-states-end : goal.slice_bounds-states-end
-slice_bounds-states-end c = search texts_laws
-
-pub slice_bounds-put_judged-end-in-Tables-2 : goal.slice_bounds-put_judged-end-in-Tables-2
-slice_bounds-put_judged-end-in-Tables-2 c = search texts_laws
-
-pub put_judged-requires : goal.put_judged-requires
-put_judged-requires c = search texts_laws
-
-pub returns-in-Refused : goal.returns-in-Refused
-returns-in-Refused c = search texts_laws
-
-pub returns-in-Tables : goal.returns-in-Tables
-returns-in-Tables c = search texts_laws
+pub returns-in-Err : goal.returns-in-Err
+returns-in-Err c = let h = c.in-Err.ensures in search (refused_printed, h)

@@ -1,29 +1,16 @@
--- `kind_of_word` meets its contract: one law for each return (WordLaws).
-use Rattle.definitions.specs.RuleText.{word_kind}
-use Rattle.kind_words.specs.Words.{late_kind}
-use Rattle.kind_words.proofs.WordLaws.{word_laws}
+-- `kind_of_word` meets its contract: the library's search is that of the definition (WordLaws, `kind_found`).
+use Rattle.std.proofs.Common.{rules}
+use Rattle.std.proofs.lemmas.Iterator.{YieldsList-from_slice}
+use Rattle.std.proofs.lemmas.Iterator.Consumers.{YieldsList-from_copied}
+use Rattle.std.proofs.lemmas.Iterator.Search.{find_from_yields_List}
+use Rattle.definitions.specs.Lines.{same}
+use Rattle.definitions.specs.RuleText.{kind_word}
+use Rattle.rules.specs.Kinds.{kind_in}
+use Rattle.kind_words.proofs.WordLaws.{kinds, kind_found}
 use Rattle.kind_words.proofs.kind_of_word.Goals as goal
 
-pub returns-then-same : goal.returns-then-same
-unfolding word_kind late_kind
-returns-then-same c = search word_laws depth 9
-
-pub returns-then-same-2 : goal.returns-then-same-2
-unfolding word_kind late_kind
-returns-then-same-2 c = search word_laws depth 9
-
-pub returns-then-same-3 : goal.returns-then-same-3
-unfolding word_kind late_kind
-returns-then-same-3 c = search word_laws depth 9
-
-pub returns-then-same-4 : goal.returns-then-same-4
-unfolding word_kind late_kind
-returns-then-same-4 c = search word_laws depth 9
-
-pub returns-then-same-5 : goal.returns-then-same-5
-unfolding word_kind late_kind
-returns-then-same-5 c = search word_laws depth 9
-
 pub returns : goal.returns
-unfolding word_kind late_kind
-returns c = search word_laws depth 9
+returns c =
+    rw c.unwrap_or.ensures
+    (kind_found c.args.w.now c.find.result
+    (find_from_yields_List (λ k. same c.args.w.now (kind_word (kind_in k))) _ _ c.find.result c.find.ensures.ran (YieldsList-from_copied (YieldsList-from_slice kinds cc)) (λ x b q k. search rules)))

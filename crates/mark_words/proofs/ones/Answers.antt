@@ -3,8 +3,5 @@ use Rattle.std.proofs.Common.{arith}
 use Rattle.mark_words.proofs.WordLaws.{full_shl}
 use Rattle.mark_words.proofs.ones.Goals as goal
 
-pub overflow_sub-result : goal.overflow_sub-result
-overflow_sub-result c = omega (arith, full_shl c.before.args.n (omega arith))
-
 pub returns : goal.returns
 returns c = omega (arith, full_shl c.before.args.n (omega arith))

@@ -1,15 +1,17 @@
--- Carried by LineLaws: read_short, read_refused, read_accepted.
-use Rattle.one_line.proofs.LineLaws.{read_laws, read_short, read_refused, read_accepted}
+-- `read_line` meets its contract (LineLaws).
+use Rattle.std.proofs.Common.{arith}
+use Rattle.one_line.proofs.LineLaws.{read_short, read_refused, read_ready, read_accepted}
 use Rattle.one_line.proofs.read_line.Goals as goal
 
 pub returns-then-nodes-lt-RULE_NODES : goal.returns-then-nodes-lt-RULE_NODES
 returns-then-nodes-lt-RULE_NODES c = search read_short
 
-pub returns-then-number-ne-NONE : goal.returns-then-number-ne-NONE
-returns-then-number-ne-NONE c = search read_refused
+pub arrows-requires : goal.arrows-requires
+arrows-requires c = read_ready _ _ _ _ c.in-Ok.ensures.refusal c.in-Ok.ensures.spelt _ c.start-out.ensures
 
-pub arrows-end-requires : goal.arrows-end-requires
-arrows-end-requires c = search read_laws
+pub returns-in-Ok : goal.returns-in-Ok
+returns-in-Ok c =
+    read_accepted _ _ _ _ c.in-Ok.ensures.refusal c.in-Ok.ensures.spelt _ c.start-out.ensures _ _ c.arrows.ensures _ (omega arith) _ c.lay.ensures
 
-pub returns : goal.returns
-returns c = search read_accepted
+pub returns-in-Err : goal.returns-in-Err
+returns-in-Err c = read_refused _ _ _ (omega arith) _ _ c.in-Err.ensures.refusal c.clear.ensures

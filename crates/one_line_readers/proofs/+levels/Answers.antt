@@ -1,144 +1,139 @@
--- Carried by ReadLaws: arrows_read, arrows_stop; ors_start and ors_again (the turns), ors_stop; ands_start and ands_again (the turns), ands_stop;
--- untils_read, untils_stop; prefixes_read, prefixes_primary; primaries_bracket, primaries_true, primaries_atom; `measure` falls by the laws
--- whose names have `falls` in them.
-use Rattle.std.proofs.Common.{rules}
-use Rattle.one_line_readers.proofs.ReadLaws.{ands_again, ands_dual, ands_falls, ands_laws, ands_less, ands_not, ands_ready, ands_stop, arrows_falling, arrows_not, arrows_read, arrows_ready, arrows_stop, arrows_write_after, ors_again, ors_falling, ors_fits, ors_laws, ors_less, ors_ready, ors_stop, ors_write_after, prefixes_falling, prefixes_last, prefixes_laws, prefixes_primary, prefixes_read, prefixes_ready, primaries_laws, untils_falling, untils_index, untils_laws, untils_read, untils_ready, untils_stop, untils_write_after}
+-- The cycle meets its contracts: a law for each call and each return (ReadLaws). `measure` falls by the laws whose names begin with `falls`.
+use Rattle.std.proofs.Common.{rules, arith}
+use Rattle.one_line_readers.proofs.ReadLaws.{falls, falls_after, falls_after_until, falls_after_prefix, read_last, arrows_stop, arrows_not, arrows_ready, arrows_join, arrows_read, ors_start, ors_stop, ors_ready, ors_join, ors_less, ors_again, ands_start, ands_stop, ands_not, ands_ready, ands_dual, ands_less, ands_again, untils_stop, untils_ready, untils_join, untils_read, prefixes_primed, prefixes_open, prefixes_ready, prefixes_close, prefixes_read, prefixes_primary, primaries_some, primaries_known, primaries_depth, primaries_falls, primaries_ready, primaries_closed, primaries_bracket, primaries_true_put, primaries_true, primaries_atom_put, primaries_atom}
 use Rattle.one_line_readers.proofs.+levels.Goals as goal
 
-pub ands-untils-p-requires : goal.ands-untils-p-requires
-ands-untils-p-requires t c = search ands_laws
+pub arrows-ors-rest-requires : goal.arrows-ors-rest-requires
+arrows-ors-rest-requires t c = (search (rules, falls), search rules)
 
-pub ands-not-n-requires : goal.ands-not-n-requires
-ands-not-n-requires t c = search ands_not
+pub arrows-returns-in_default : goal.arrows-returns-in_default
+arrows-returns-in_default t c = search (arrows_stop, c.in_default.ensures)
 
-pub ands-untils-q-requires : goal.ands-untils-q-requires
-ands-untils-q-requires t c = (search ands_falls, (search rules, search ands_ready))
+pub arrows-not-requires : goal.arrows-not-requires
+arrows-not-requires t c = search (arrows_not, c.in-Some.ensures)
 
-pub ands-dual-end-requires : goal.ands-dual-end-requires
-ands-dual-end-requires t c = search ands_dual
+pub arrows-arrows-end-requires : goal.arrows-arrows-end-requires
+arrows-arrows-end-requires t c = (search (rules, falls_after, c.in-Some.ensures), search (arrows_ready, c.in-Some.ensures))
 
-pub ands-loop-nodes-smaller : goal.ands-loop-nodes-smaller
-ands-loop-nodes-smaller t c = search ands_less
-
-pub ands-loop-nodes-preserved : goal.ands-loop-nodes-preserved
-ands-loop-nodes-preserved t c = search ands_again
-
-pub ands-returns : goal.ands-returns
-ands-returns t c = search ands_stop
-
-pub arrows-ors-p-requires : goal.arrows-ors-p-requires
-arrows-ors-p-requires t c = (search arrows_falling, (search rules, search rules))
-
-pub arrows-not-n-requires : goal.arrows-not-n-requires
-arrows-not-n-requires t c = search arrows_not
-
-pub arrows-arrows-q-requires : goal.arrows-arrows-q-requires
-arrows-arrows-q-requires t c = (search arrows_falling, (search rules, search arrows_ready))
-
-pub arrows-bounds-nodes-e : goal.arrows-bounds-nodes-e
-arrows-bounds-nodes-e t c = search arrows_write_after
-
-pub arrows-returns-then-peek-eq-IMPLIES : goal.arrows-returns-then-peek-eq-IMPLIES
-arrows-returns-then-peek-eq-IMPLIES t c = search arrows_read
+pub arrows-join-requires : goal.arrows-join-requires
+arrows-join-requires t c = search (arrows_join, c.in-Some.ensures)
 
 pub arrows-returns : goal.arrows-returns
-arrows-returns t c = search arrows_stop
+arrows-returns t c = search (arrows_read, c.in-Some.ensures)
 
-pub ors-ands-p-requires : goal.ors-ands-p-requires
-ors-ands-p-requires t c = search ors_laws
+pub ors-ands-rest-requires : goal.ors-ands-rest-requires
+ors-ands-rest-requires t c = (search (rules, falls), search rules)
 
-pub ors-ands-q-requires : goal.ors-ands-q-requires
-ors-ands-q-requires t c = (search ors_falling, (search rules, search ors_ready))
+pub ors-loop-after-init : goal.ors-loop-after-init
+ors-loop-after-init t c = search ors_start
 
-pub ors-overflow_sub-m : goal.ors-overflow_sub-m
-ors-overflow_sub-m t c = search ors_laws
+pub ors-last-p-requires : goal.ors-last-p-requires
+ors-last-p-requires t c = search read_last
 
-pub ors-overflow_sub-e : goal.ors-overflow_sub-e
-ors-overflow_sub-e t c = search ors_laws
+pub ors-ands-rest-requires-in-Some : goal.ors-ands-rest-requires-in-Some
+ors-ands-rest-requires-in-Some t c = (search (rules, falls_after, c.in-Some.ensures), search (ors_ready, c.in-Some.ensures))
 
-pub ors-bounds-nodes-e : goal.ors-bounds-nodes-e
-ors-bounds-nodes-e t c = search ors_write_after
+pub ors-join-requires : goal.ors-join-requires
+ors-join-requires t c = search (ors_join, c.in-Some.ensures)
 
-pub ors-loop-a-smaller : goal.ors-loop-a-smaller
-ors-loop-a-smaller t c = search ors_less
+pub ors-loop-after-smaller : goal.ors-loop-after-smaller
+ors-loop-after-smaller t c = search (ors_less, c.in-Some.ensures)
 
-pub ors-loop-a-preserved : goal.ors-loop-a-preserved
-ors-loop-a-preserved t c = search (ors_again, ors_fits)
+pub ors-loop-after-preserved : goal.ors-loop-after-preserved
+ors-loop-after-preserved t c = search (ors_again, c.in-Some.ensures)
 
 pub ors-returns : goal.ors-returns
-ors-returns t c = search ors_stop
+ors-returns t c = search (ors_stop, c.in_default.ensures)
 
-pub prefixes-open_prefix-n-requires : goal.prefixes-open_prefix-n-requires
-prefixes-open_prefix-n-requires t c = search prefixes_laws
+pub ands-untils-rest-requires : goal.ands-untils-rest-requires
+ands-untils-rest-requires t c = (search (rules, falls), search rules)
 
-pub prefixes-overflow_add-next : goal.prefixes-overflow_add-next
-prefixes-overflow_add-next t c = search prefixes_laws
+pub ands-loop-after-init : goal.ands-loop-after-init
+ands-loop-after-init t c = search ands_start
 
-pub prefixes-prefixes-p-requires : goal.prefixes-prefixes-p-requires
-prefixes-prefixes-p-requires t c = (search prefixes_falling, (search rules, search prefixes_ready))
+pub ands-not-requires : goal.ands-not-requires
+ands-not-requires t c = search (ands_not, c.in-Some.ensures)
 
-pub prefixes-close_prefix-end-requires : goal.prefixes-close_prefix-end-requires
-prefixes-close_prefix-end-requires t c = search prefixes_last
+pub ands-untils-rest-requires-in-Some : goal.ands-untils-rest-requires-in-Some
+ands-untils-rest-requires-in-Some t c = (search (rules, falls_after, c.in-Some.ensures), search (ands_ready, c.in-Some.ensures))
 
-pub prefixes-returns-then-is_prefix : goal.prefixes-returns-then-is_prefix
-prefixes-returns-then-is_prefix t c = search prefixes_read
+pub ands-dual-requires : goal.ands-dual-requires
+ands-dual-requires t c = search (ands_dual, c.in-Some.ensures)
 
-pub prefixes-primaries-requires : goal.prefixes-primaries-requires
-prefixes-primaries-requires t c = search prefixes_laws
+pub ands-loop-after-smaller : goal.ands-loop-after-smaller
+ands-loop-after-smaller t c = search (ands_less, c.in-Some.ensures)
 
-pub prefixes-returns : goal.prefixes-returns
-prefixes-returns t c = search prefixes_primary
+pub ands-loop-after-preserved : goal.ands-loop-after-preserved
+ands-loop-after-preserved t c = search (ands_again, c.in-Some.ensures)
 
-pub primaries-overflow_sub-left : goal.primaries-overflow_sub-left
-primaries-overflow_sub-left t c = search primaries_laws
+pub ands-returns : goal.ands-returns
+ands-returns t c = search (ands_stop, c.in_default.ensures)
 
-pub primaries-arrows-p-requires : goal.primaries-arrows-p-requires
-primaries-arrows-p-requires t c = search primaries_laws
+pub untils-prefixes-rest-requires : goal.untils-prefixes-rest-requires
+untils-prefixes-rest-requires t c = (search (rules, falls), search rules)
 
-pub primaries-overflow_add-result : goal.primaries-overflow_add-result
-primaries-overflow_add-result t c = search primaries_laws
+pub untils-returns-in_default : goal.untils-returns-in_default
+untils-returns-in_default t c = search (untils_stop, c.in_default.ensures)
 
-pub primaries-returns-then-c-eq-OPENING : goal.primaries-returns-then-c-eq-OPENING
-primaries-returns-then-c-eq-OPENING t c = search primaries_laws
+pub untils-last-p-requires : goal.untils-last-p-requires
+untils-last-p-requires t c = search read_last
 
-pub primaries-bounds-nodes-made : goal.primaries-bounds-nodes-made
-primaries-bounds-nodes-made t c = search primaries_laws
+pub untils-untils-end-requires : goal.untils-untils-end-requires
+untils-untils-end-requires t c = (search (rules, falls_after_until, c.in-Some.ensures), search (untils_ready, c.in-Some.ensures))
 
-pub primaries-returns-then-c-eq-TRUTH : goal.primaries-returns-then-c-eq-TRUTH
-primaries-returns-then-c-eq-TRUTH t c = search primaries_laws
-
-pub primaries-overflow_sub-c : goal.primaries-overflow_sub-c
-primaries-overflow_sub-c t c = search primaries_laws
-
-pub primaries-bounds-nodes-made-2 : goal.primaries-bounds-nodes-made-2
-primaries-bounds-nodes-made-2 t c = search primaries_laws
-
-pub primaries-overflow_add-result-2 : goal.primaries-overflow_add-result-2
-primaries-overflow_add-result-2 t c = search primaries_laws
-
-pub primaries-returns : goal.primaries-returns
-primaries-returns t c = search primaries_laws
-
-pub untils-prefixes-p-requires : goal.untils-prefixes-p-requires
-untils-prefixes-p-requires t c = (search untils_falling, (search rules, search rules))
-
-pub untils-overflow_add-next : goal.untils-overflow_add-next
-untils-overflow_add-next t c = search untils_index
-
-pub untils-untils-q-requires : goal.untils-untils-q-requires
-untils-untils-q-requires t c = (search untils_falling, (search rules, search untils_ready))
-
-pub untils-overflow_sub-m : goal.untils-overflow_sub-m
-untils-overflow_sub-m t c = search untils_laws
-
-pub untils-overflow_sub-e : goal.untils-overflow_sub-e
-untils-overflow_sub-e t c = search untils_laws
-
-pub untils-bounds-nodes-e : goal.untils-bounds-nodes-e
-untils-bounds-nodes-e t c = search untils_write_after
-
-pub untils-returns-then-is_until : goal.untils-returns-then-is_until
-untils-returns-then-is_until t c = search untils_read
+pub untils-join-requires : goal.untils-join-requires
+untils-join-requires t c = search (untils_join, c.in-Some.ensures)
 
 pub untils-returns : goal.untils-returns
-untils-returns t c = search untils_stop
+untils-returns t c = search (untils_read, c.in-Some.ensures)
+
+pub prefixes-primaries-requires : goal.prefixes-primaries-requires
+prefixes-primaries-requires t c = (search (rules, falls), search (prefixes_primed, c.in_default.ensures))
+
+pub prefixes-returns-in_default : goal.prefixes-returns-in_default
+prefixes-returns-in_default t c = search prefixes_primary
+
+pub prefixes-open_prefix-b-requires : goal.prefixes-open_prefix-b-requires
+prefixes-open_prefix-b-requires t c = search (prefixes_open, c.in-Some.ensures)
+
+pub prefixes-prefixes-rest-requires : goal.prefixes-prefixes-rest-requires
+prefixes-prefixes-rest-requires t c = (search (rules, falls_after_prefix, c.in-Some.ensures), search (prefixes_ready, c.in-Some.ensures))
+
+pub prefixes-close_prefix-requires : goal.prefixes-close_prefix-requires
+prefixes-close_prefix-requires t c = search (prefixes_close, c.in-Some.ensures)
+
+pub prefixes-returns : goal.prefixes-returns
+prefixes-returns t c = search (prefixes_read, c.in-Some.ensures)
+
+pub primaries-tail-after-requires : goal.primaries-tail-after-requires
+primaries-tail-after-requires t c = search primaries_some
+
+pub primaries-bounds-0 : goal.primaries-bounds-0
+primaries-bounds-0 t c = search primaries_some
+
+pub primaries-overflow_sub-left : goal.primaries-overflow_sub-left
+primaries-overflow_sub-left t c = search primaries_depth
+
+pub primaries-arrows-requires : goal.primaries-arrows-requires
+primaries-arrows-requires t c = (search primaries_falls, search primaries_ready)
+
+pub primaries-tail-requires : goal.primaries-tail-requires
+primaries-tail-requires t c = search primaries_closed
+
+pub primaries-put-requires : goal.primaries-put-requires
+primaries-put-requires t c = search primaries_true_put
+
+pub primaries-put-requires-in-Atom : goal.primaries-put-requires-in-Atom
+primaries-put-requires-in-Atom t c = primaries_atom_put c.requires _ _ _ c.in-Atom.is c.tail-after.ensures (omega arith)
+
+pub primaries-unreachable-requires : goal.primaries-unreachable-requires
+primaries-unreachable-requires t c = primaries_known c.requires _ c.in_default.not-Opening c.in_default.not-True c.in_default.not-Atom
+
+pub primaries-returns-in-Opening : goal.primaries-returns-in-Opening
+primaries-returns-in-Opening t c = search primaries_bracket
+
+pub primaries-returns-in-True : goal.primaries-returns-in-True
+primaries-returns-in-True t c = search primaries_true
+
+pub primaries-returns-in-Atom : goal.primaries-returns-in-Atom
+primaries-returns-in-Atom t c = search primaries_atom

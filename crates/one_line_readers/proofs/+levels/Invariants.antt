@@ -1,35 +1,36 @@
--- What falls from call to call, and what the loops of `ors` and `ands` keep.
-use Rattle.std.proofs.Common.{◌-◌, take, length}
+-- What falls from call to call, and what the loops of `ors` and `ands` keep: what was read so far.
+use Rattle.std.proofs.Common.{length}
 use Rattle.definitions.specs.OneLineGrammar.{Ors, Ands}
-use Rattle.one_line_readers.proofs.ReadLaws.{Turn, measure}
+use Rattle.one_line_readers.specs.Reading.{Read}
+use Rattle.one_line_readers.proofs.ReadLaws.{measure}
 use Rattle.one_line_readers.proofs.+levels.Given as goal
 
 abbrev pub decreases-ands : goal.decreases-ands
-decreases-ands l = measure l.left (length (take l.count l.codes.now)) l.at 4
+decreases-ands l = measure l.left (length l.signs.now) 4
 
 abbrev pub decreases-arrows : goal.decreases-arrows
-decreases-arrows l = measure l.left (length (take l.count l.codes.now)) l.at 6
+decreases-arrows l = measure l.left (length l.signs.now) 6
 
 abbrev pub decreases-ors : goal.decreases-ors
-decreases-ors l = measure l.left (length (take l.count l.codes.now)) l.at 5
+decreases-ors l = measure l.left (length l.signs.now) 5
 
 abbrev pub decreases-prefixes : goal.decreases-prefixes
-decreases-prefixes l = measure l.left (length (take l.count l.codes.now)) l.at 2
+decreases-prefixes l = measure l.left (length l.signs.now) 2
 
 abbrev pub decreases-primaries : goal.decreases-primaries
-decreases-primaries l = measure l.left (length (take l.count l.codes.now)) l.at 1
+decreases-primaries l = measure l.left (length l.signs.now) 1
 
 abbrev pub decreases-untils : goal.decreases-untils
-decreases-untils l = measure l.left (length (take l.count l.codes.now)) l.at 3
+decreases-untils l = measure l.left (length l.signs.now) 3
 
-abbrev pub invariant-ands-loop-nodes : goal.invariant-ands-loop-nodes
-invariant-ands-loop-nodes l = Turn Ands 4 l.left (take l.count l.codes) l.at l.made l.initial.a l.initial.m l.initial.nodes l.a l.m l.nodes
+abbrev pub invariant-ands-loop-after : goal.invariant-ands-loop-after
+invariant-ands-loop-after l = Read Ands 4 l.signs l.fn.out l.rest l.out
 
-abbrev pub decreases-ands-loop-nodes : goal.decreases-ands-loop-nodes
-decreases-ands-loop-nodes l = length (take l.count l.codes) - l.a
+abbrev pub decreases-ands-loop-after : goal.decreases-ands-loop-after
+decreases-ands-loop-after l = length l.rest
 
-abbrev pub invariant-ors-loop-a : goal.invariant-ors-loop-a
-invariant-ors-loop-a l = Turn Ors 3 l.left (take l.count l.codes) l.at l.made l.initial.a l.initial.m l.initial.nodes l.a l.m l.nodes
+abbrev pub invariant-ors-loop-after : goal.invariant-ors-loop-after
+invariant-ors-loop-after l = Read Ors 3 l.signs l.fn.out l.rest l.out
 
-abbrev pub decreases-ors-loop-a : goal.decreases-ors-loop-a
-decreases-ors-loop-a l = length (take l.count l.codes) - l.a
+abbrev pub decreases-ors-loop-after : goal.decreases-ors-loop-after
+decreases-ors-loop-after l = length l.rest

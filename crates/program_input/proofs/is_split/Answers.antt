@@ -5,8 +5,5 @@ use Rattle.program_input.proofs.is_split.Goals as goal
 pub slice_bounds-same-end : goal.slice_bounds-same-end
 slice_bounds-same-end c = search dash_laws
 
-pub same-requires : goal.same-requires
-same-requires c = search dash_laws
-
 pub returns : goal.returns
 returns c = search dash_laws

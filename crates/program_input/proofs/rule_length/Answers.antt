@@ -1,33 +1,15 @@
 -- `rule_length` meets its contract (SplitLaws: search_laws, searched_none, searched_open, searched_found, searched_less, searched_next, searched_end).
-use Rattle.program_input.proofs.SplitLaws.{search_laws, searched_none, searched_open, searched_found, searched_less, searched_next, searched_end}
+use Rattle.program_input.proofs.SplitLaws.{searched_none, searched_open, searched_found, searched_less, searched_next, searched_end}
 use Rattle.program_input.proofs.rule_length.Goals as goal
 
 pub loop-at-init : goal.loop-at-init
 loop-at-init c = search searched_none
 
-pub slice_bounds-t-count : goal.slice_bounds-t-count
-slice_bounds-t-count c = search search_laws
-
-pub slice_bounds-t-start : goal.slice_bounds-t-start
-slice_bounds-t-start c = search search_laws
-
-pub slice_bounds-t-end : goal.slice_bounds-t-end
-slice_bounds-t-end c = search search_laws
-
-pub first_line-line-requires : goal.first_line-line-requires
-first_line-line-requires c = search search_laws
-
 pub returns-then-line-t : goal.returns-then-line-t
 returns-then-line-t c = search searched_open
 
-pub is_split-requires : goal.is_split-requires
-is_split-requires c = search search_laws
-
 pub returns-then-is_split : goal.returns-then-is_split
 returns-then-is_split c = search searched_found
-
-pub overflow_add-at : goal.overflow_add-at
-overflow_add-at c = search search_laws
 
 pub loop-at-smaller : goal.loop-at-smaller
 loop-at-smaller c = search searched_less

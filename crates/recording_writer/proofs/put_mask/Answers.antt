@@ -8,8 +8,5 @@ put-after_word-requires c = search mask_laws
 pub put_hexadecimal-requires : goal.put_hexadecimal-requires
 put_hexadecimal-requires c = search mask_laws
 
-pub shape_of-text : goal.shape_of-text
-shape_of-text c = search mask_laws
-
 pub returns : goal.returns
 returns c = search mask_laws

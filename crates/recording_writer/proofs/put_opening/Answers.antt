@@ -2,20 +2,11 @@
 use Rattle.recording_writer.proofs.OpeningLaws.{opening_laws}
 use Rattle.recording_writer.proofs.put_opening.Goals as goal
 
-pub overflow_cast-controllers : goal.overflow_cast-controllers
-overflow_cast-controllers c = search opening_laws
-
-pub overflow_cast-count : goal.overflow_cast-count
-overflow_cast-count c = search opening_laws
-
 pub put_heading-after_heading-requires : goal.put_heading-after_heading-requires
 put_heading-after_heading-requires c = search opening_laws
 
 pub put_masks-requires : goal.put_masks-requires
 put_masks-requires c = search opening_laws
-
-pub shape_of-text : goal.shape_of-text
-shape_of-text c = search opening_laws
 
 pub returns : goal.returns
 returns c = search opening_laws

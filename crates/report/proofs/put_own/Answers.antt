@@ -5,9 +5,6 @@ use Rattle.report.proofs.put_own.Goals as goal
 pub put-after_word-requires : goal.put-after_word-requires
 put-after_word-requires c = search own_laws
 
-pub slice_bounds-bytes-end : goal.slice_bounds-bytes-end
-slice_bounds-bytes-end c = search own_laws
-
 pub put-requires : goal.put-requires
 put-requires c = search own_laws
 

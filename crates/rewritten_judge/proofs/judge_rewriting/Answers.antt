@@ -2,6 +2,9 @@
 use Rattle.rewritten_judge.proofs.RewrittenLaws.{rewriting_laws}
 use Rattle.rewritten_judge.proofs.judge_rewriting.Goals as goal
 
+pub slice_bounds-nodes-end : goal.slice_bounds-nodes-end
+slice_bounds-nodes-end c = search rewriting_laws
+
 pub rewrite_accepted-tops-requires : goal.rewrite_accepted-tops-requires
 rewrite_accepted-tops-requires c = search rewriting_laws
 

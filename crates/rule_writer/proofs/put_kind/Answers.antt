@@ -1,15 +1,8 @@
--- `put_kind` meets its contract (PenLaws: kind_laws).
-use Rattle.rule_writer.proofs.PenLaws.{kind_laws}
+-- `put_kind` meets its contract: the word that was taken is the kind's.
 use Rattle.rule_writer.proofs.put_kind.Goals as goal
 
-pub slice_bounds-letters-end : goal.slice_bounds-letters-end
-slice_bounds-letters-end c = search kind_laws
-
-pub slice_bounds-put-end : goal.slice_bounds-put-end
-slice_bounds-put-end c = search kind_laws
-
 pub put-requires : goal.put-requires
-put-requires c = search kind_laws
+put-requires c = rw c.word_of.ensures c.requires
 
 pub returns : goal.returns
-returns c = search kind_laws
+returns c = rw c.word_of.ensures at c.put.ensures

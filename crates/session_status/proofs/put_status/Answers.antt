@@ -1,12 +1,18 @@
--- `put_status` meets its contract (StatusLaws: status_laws).
-use Rattle.session_status.proofs.StatusLaws.{status_laws}
+-- `put_status` meets its contract (StatusLaws).
+use Rattle.std.proofs.Common.{rules}
+use Rattle.session_status.specs.Spaces.{space_in}
+use Rattle.session_status.proofs.StatusLaws.{judged_room, alone_room, status_judged, status_alone}
 use Rattle.session_status.proofs.put_status.Goals as goal
 
-pub returns-in-Judged : goal.returns-in-Judged
-returns-in-Judged c = search status_laws
+pub put_line-requires : goal.put_line-requires
+put_line-requires c = judged_room (space_in c.args.space.now) c.args.text.now c.in-Some.verdicts _ c.end_of.ensures (search rules) c.requires
 
-pub returns-in-NoState : goal.returns-in-NoState
-returns-in-NoState c = search status_laws
+pub put_line-requires-in-None : goal.put_line-requires-in-None
+put_line-requires-in-None c = alone_room (space_in c.args.space.now) c.args.text.now (search rules) c.requires
 
-pub returns-in-Refused : goal.returns-in-Refused
-returns-in-Refused c = search status_laws
+pub returns-in-Some : goal.returns-in-Some
+returns-in-Some c =
+    status_judged (space_in c.args.space.now) c.args.text.now _ c.session_verdicts-judged.ensures.answered _ _ c.in-Some.verdicts (cc) _ c.end_of.ensures c.put_line.ensures
+
+pub returns-in-None : goal.returns-in-None
+returns-in-None c = status_alone (space_in c.args.space.now) c.args.text.now _ c.session_verdicts-judged.ensures.answered _ _ (cc) c.put_line-in-None.ensures

@@ -4,6 +4,3 @@ use Rattle.walk.proofs.walk.Given as goal
 
 abbrev pub invariant-loop-m : goal.invariant-loop-m
 invariant-loop-m l = Walking l.nodes l.count l.n l.rows l.weak l.initial.wanted l.m l.wanted
-
-abbrev pub decreases-loop-m : goal.decreases-loop-m
-decreases-loop-m l = l.m

@@ -2,17 +2,17 @@
 use Rattle.watch_opening.proofs.SessionLines.{session_laws}
 use Rattle.watch_opening.proofs.next_session.Goals as goal
 
-pub returns-then-unread-ne-NONE : goal.returns-then-unread-ne-NONE
-returns-then-unread-ne-NONE c = search session_laws
+pub returns-in_err-check_end : goal.returns-in_err-check_end
+returns-in_err-check_end c = search session_laws
 
 pub slice_bounds-worded_decimal-end : goal.slice_bounds-worded_decimal-end
 slice_bounds-worded_decimal-end c = search session_laws
 
-pub returns-in_default : goal.returns-in_default
-returns-in_default c = search session_laws
+pub returns-in_err-controllers : goal.returns-in_err-controllers
+returns-in_err-controllers c = search session_laws
 
-pub returns-then-refusal-ne-NONE : goal.returns-then-refusal-ne-NONE
-returns-then-refusal-ne-NONE c = search session_laws
+pub returns-in_err-check_controllers : goal.returns-in_err-check_controllers
+returns-in_err-check_controllers c = search session_laws
 
 pub returns : goal.returns
 returns c = search session_laws

@@ -2,11 +2,8 @@
 use Rattle.watch_opening.proofs.OpeningLaws.{read_laws}
 use Rattle.watch_opening.proofs.open_read.Goals as goal
 
-pub returns-then-number-ne-NONE : goal.returns-then-number-ne-NONE
-returns-then-number-ne-NONE c = search read_laws
+pub returns-in-Ok : goal.returns-in-Ok
+returns-in-Ok c = let o = c.in-Ok.ensures in search read_laws
 
-pub put_status-printed-requires : goal.put_status-printed-requires
-put_status-printed-requires c = search read_laws
-
-pub returns : goal.returns
-returns c = search read_laws
+pub returns-in-Err : goal.returns-in-Err
+returns-in-Err c = let o = c.in-Err.ensures in search read_laws

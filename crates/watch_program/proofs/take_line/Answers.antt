@@ -2,8 +2,8 @@
 use Rattle.watch_program.proofs.StepLaws.{line_laws}
 use Rattle.watch_program.proofs.take_line.Goals as goal
 
-pub returns-then-line-eq0 : goal.returns-then-line-eq0
-returns-then-line-eq0 c = search line_laws
+pub returns-then-is_empty : goal.returns-then-is_empty
+returns-then-is_empty c = search line_laws
 
 pub returns-then-begins_rule : goal.returns-then-begins_rule
 returns-then-begins_rule c = search line_laws

@@ -1,30 +1,9 @@
--- `why_texts` meets its contract (WhyLaws: texts_laws).
-use Rattle.why_program.proofs.WhyLaws.{texts_laws}
+-- `why_texts` meets its contract (WhyLaws: behind_printed, refused_printed).
+use Rattle.why_program.proofs.WhyLaws.{behind_printed, refused_printed}
 use Rattle.why_program.proofs.why_texts.Goals as goal
 
-pub slice_bounds-nodes-end : goal.slice_bounds-nodes-end
-slice_bounds-nodes-end c = search texts_laws
+pub returns-in-Ok : goal.returns-in-Ok
+returns-in-Ok c = let h = c.in-Ok.ensures in search (behind_printed, h)
 
-pub slice_bounds-put_behind-end : goal.slice_bounds-put_behind-end
-slice_bounds-put_behind-end c = search texts_laws
-
-pub slice_bounds-masks-end : goal.slice_bounds-masks-end
-slice_bounds-masks-end c = search texts_laws
-
-pub slice_bounds-put_behind-end-in-Tables : goal.slice_bounds-put_behind-end-in-Tables
-slice_bounds-put_behind-end-in-Tables c = search texts_laws
-
-pub slice_bounds-states-end : goal.slice_bounds-states-end
-slice_bounds-states-end c = search texts_laws
-
-pub slice_bounds-put_behind-end-in-Tables-2 : goal.slice_bounds-put_behind-end-in-Tables-2
-slice_bounds-put_behind-end-in-Tables-2 c = search texts_laws
-
-pub put_behind-requires : goal.put_behind-requires
-put_behind-requires c = search texts_laws
-
-pub returns-in-Refused : goal.returns-in-Refused
-returns-in-Refused c = search texts_laws
-
-pub returns-in-Tables : goal.returns-in-Tables
-returns-in-Tables c = search texts_laws
+pub returns-in-Err : goal.returns-in-Err
+returns-in-Err c = let h = c.in-Err.ensures in search (refused_printed, h)

@@ -1,30 +1,30 @@
--- `scan_text` meets its contract: one law for each return (ReadingLaws: text_laws).
-use Rattle.archives.proofs.ReadingLaws.{text_laws}
+-- `scan_text` meets its contract: one law for each return (ReadingLaws: text_unheaded, text_laws).
+use Rattle.std.proofs.Common.{rules, Err, ◌≡◌}
+use Rattle.std.proofs.lemmas.Result.{err_from_is_err_and}
+use Rattle.lines.proofs.StopLaws.{read_kept, stop_told}
+use Rattle.archives.proofs.ReadingLaws.{text_unheaded, text_laws}
 use Rattle.archives.proofs.reading.scan_text.Goals as goal
 
-pub scan_opening-opened-requires : goal.scan_opening-opened-requires
-scan_opening-opened-requires c = search text_laws
+pub returns-in_err-heading : goal.returns-in_err-heading
+returns-in_err-heading c =
+    let p = err_from_is_err_and c.from_residual.result c.from_residual.ensures.1 in
+    let s = stop_told _ _ c.next_heading.ensures _ _ c.in_err-heading.ensures.cases 0 (λ e q. search rules) in
+    rw (p.1, p.2) (search (text_unheaded, s))
 
-pub shape_of-masks-then-refusal-ne-NONE : goal.shape_of-masks-then-refusal-ne-NONE
-shape_of-masks-then-refusal-ne-NONE c = search text_laws
+pub returns-in_err-start : goal.returns-in_err-start
+returns-in_err-start c =
+    let h = read_kept _ _ c.next_heading.ensures _ c.in_ok-heading.ensures.cases in
+    let e : c.from_residual-in_err-start.result ≡ Err c.in_err-start.field-0.0 = search rules in
+    rw e (search (text_laws, h, c.in_err-start.ensures))
 
-pub returns-then-refusal-ne-NONE : goal.returns-then-refusal-ne-NONE
-returns-then-refusal-ne-NONE c = search text_laws
+pub scan_after-requires : goal.scan_after-requires
+scan_after-requires c = let h = read_kept _ _ c.next_heading.ensures _ c.in_ok-heading.ensures.cases in search (text_laws, h, c.in_ok-start.ensures)
 
-pub slice_bounds-scan_after-end : goal.slice_bounds-scan_after-end
-slice_bounds-scan_after-end c = search text_laws
-
-pub slice_bounds-scan_after-end-2 : goal.slice_bounds-scan_after-end-2
-slice_bounds-scan_after-end-2 c = search text_laws
-
-pub scan_after-stopped-requires : goal.scan_after-stopped-requires
-scan_after-stopped-requires c = search text_laws
-
-pub shape_of-masks : goal.shape_of-masks
-shape_of-masks c = search text_laws
-
-pub shape_of-states : goal.shape_of-states
-shape_of-states c = search text_laws
+pub returns-in_err-scan_after : goal.returns-in_err-scan_after
+returns-in_err-scan_after c =
+    let h = read_kept _ _ c.next_heading.ensures _ c.in_ok-heading.ensures.cases in
+    let e : c.from_residual-in_err-scan_after.result ≡ Err c.in_err-scan_after.field-0.0 = search rules in
+    rw e (search (text_laws, h, c.in_ok-start.ensures, c.in_err-scan_after.ensures))
 
 pub returns : goal.returns
-returns c = search text_laws
+returns c = let h = read_kept _ _ c.next_heading.ensures _ c.in_ok-heading.ensures.cases in search (text_laws, h, c.in_ok-start.ensures, c.in_ok-scan_after.ensures)

@@ -5,8 +5,5 @@ use Rattle.evidence_text.proofs.line.line_of.Goals as goal
 pub overflow_cast-result : goal.overflow_cast-result
 overflow_cast-result c = search line_laws
 
-pub bounds-words-place : goal.bounds-words-place
-bounds-words-place c = search line_laws
-
 pub returns : goal.returns
 returns c = search line_laws

@@ -1,10 +1,8 @@
--- `put_pairs` meets its contract (LineLaws: pairs_laws).
-use Prim.Native.Nat.{◌-◌}
+-- `put_pairs` meets its contract (LineLaws: pairs_laws). The invariant: the lines of the pairs so far are printed.
+use Rattle.rules.specs.Handed.{rule_in}
+use Rattle.recordings.specs.Heading.{recording_in}
 use Rattle.evidence_text.proofs.LineLaws.{Printing}
 use Rattle.evidence_text.proofs.line.put_pairs.Given as goal
 
-abbrev pub invariant-loop-i : goal.invariant-loop-i
-invariant-loop-i l = Printing l.trace.controller l.nodes l.recording.count l.states l.trace.words l.pairs l.at l.initial.text l.i l.end l.text
-
-abbrev pub decreases-loop-i : goal.decreases-loop-i
-decreases-loop-i l = l.i-end - l.i
+abbrev pub invariant-loop-pair : goal.invariant-loop-pair
+invariant-loop-pair l = Printing (rule_in l.rule) l.trace (recording_in l.recording) l.pairs l.at l.initial.text l.pair-index l.end l.text

@@ -1,18 +1,16 @@
--- `hexadecimals` meets its contract (FormLaws: hexadecimals_laws).
-use Rattle.fields.proofs.FormLaws.{hexadecimals_laws}
+-- `hexadecimals` meets its contract: one law for each return (FormLaws).
+use Rattle.definitions.specs.Lines.{hexadecimal}
+use Rattle.fields.proofs.FormLaws.{two_none, two_first, two_second, two_read}
 use Rattle.fields.proofs.form.hexadecimals.Goals as goal
 
-pub slice_bounds-hexadecimal-end : goal.slice_bounds-hexadecimal-end
-slice_bounds-hexadecimal-end c = search hexadecimals_laws
+pub returns-in_err-one : goal.returns-in_err-one
+returns-in_err-one c = rw c.from_residual.ensures (two_none (λ v. v) (hexadecimal c.args.first) (hexadecimal c.args.second) c.args.s.now c.in_err-one.ensures)
 
-pub returns-in_default : goal.returns-in_default
-returns-in_default c = search hexadecimals_laws
+pub returns-in_err-m : goal.returns-in_err-m
+returns-in_err-m c = rw c.from_residual-in_err-m.ensures (two_first (λ v. v) (hexadecimal c.args.first) (hexadecimal c.args.second) c.args.s.now c.in_ok-one.one.now c.in_ok-one.two.now c.in_ok-one.ensures c.in_err-m.ensures)
 
-pub returns-in_default-hexadecimal : goal.returns-in_default-hexadecimal
-returns-in_default-hexadecimal c = search hexadecimals_laws
-
-pub returns-then-i-s : goal.returns-then-i-s
-returns-then-i-s c = search hexadecimals_laws
+pub returns-in_err-n : goal.returns-in_err-n
+returns-in_err-n c = rw c.from_residual-in_err-n.ensures (two_second (λ v. v) (hexadecimal c.args.first) (hexadecimal c.args.second) c.args.s.now c.in_ok-one.one.now c.in_ok-one.two.now c.in_ok-one.ensures c.in_ok-m.m c.in_ok-m.ensures c.in_err-n.ensures)
 
 pub returns : goal.returns
-returns c = search hexadecimals_laws
+returns c = two_read (λ v. v) (hexadecimal c.args.first) (hexadecimal c.args.second) c.args.s.now c.in_ok-one.one.now c.in_ok-one.two.now c.in_ok-one.ensures c.in_ok-m.m c.in_ok-m.ensures c.in_ok-n.n c.in_ok-n.ensures

@@ -1,27 +1,13 @@
--- `among` meets its contract (LineLaws: seek_start, seek_next, seek-found, seek_done).
-use Rattle.gauges.proofs.LineLaws.{among_laws}
+-- `among`: the library's search is that of the definitions (LineLaws, `any_among`).
+use Rattle.std.proofs.Common.{rules, ◌∙◌}
+use borrow.Author.Tests.{tests}
+use lib.Dec.{eqb}
+use Rattle.std.proofs.lemmas.Iterator.{YieldsList-from_slice}
+use Rattle.std.proofs.lemmas.Iterator.Search.{any_from_yields_List}
+use Rattle.gauges.proofs.LineLaws.{any_among}
 use Rattle.gauges.proofs.line.among.Goals as goal
 
-pub loop-i-init : goal.loop-i-init
-loop-i-init c = search among_laws
-
-pub offset_bounds-atoms-i : goal.offset_bounds-atoms-i
-offset_bounds-atoms-i c = search among_laws
-
-pub bounds-atoms-i : goal.bounds-atoms-i
-bounds-atoms-i c = search among_laws
-
-pub returns-then-atom-atoms : goal.returns-then-atom-atoms
-returns-then-atom-atoms c = search among_laws
-
-pub overflow_add-i : goal.overflow_add-i
-overflow_add-i c = search among_laws
-
-pub loop-i-smaller : goal.loop-i-smaller
-loop-i-smaller c = search among_laws
-
-pub loop-i-preserved : goal.loop-i-preserved
-loop-i-preserved c = search among_laws
-
 pub returns : goal.returns
-returns c = search among_laws
+returns c =
+    any_from_yields_List (λ g. eqb c.args.atom g.atom) _ _ c.any.result c.any.ensures.ran (YieldsList-from_slice c.args.gauges.now cc) (λ x b q k. search (rules, tests))
+    ∙ any_among c.args.atom c.args.gauges.now

@@ -1,21 +1,8 @@
--- `gauge_fields` meets its contract (LineLaws: fields_missed, fields_atom, fields_form, fields_outside, fields_checked).
-use Rattle.gauges.proofs.LineLaws.{gauge_fields_laws}
+-- `gauge_fields` meets its contract (LineLaws: fields_high).
+use Rattle.std.proofs.Common.{rules}
+use Rattle.gauges.proofs.LineLaws.{fields_high}
 use Rattle.gauges.proofs.line.gauge_fields.Goals as goal
 
-pub slice_bounds-decimal-end : goal.slice_bounds-decimal-end
-slice_bounds-decimal-end c = search gauge_fields_laws
-
-pub returns-in_default : goal.returns-in_default
-returns-in_default c = search gauge_fields_laws
-
-pub returns-in-Value : goal.returns-in-Value
-returns-in-Value c = search gauge_fields_laws
-
-pub returns-in-Outside : goal.returns-in-Outside
-returns-in-Outside c = search gauge_fields_laws
-
-pub returns-in-Malformed : goal.returns-in-Malformed
-returns-in-Malformed c = search gauge_fields_laws
-
-pub returns : goal.returns
-returns c = search gauge_fields_laws
+pub returns-then-atom-ge-ATOMS : goal.returns-then-atom-ge-ATOMS
+returns-then-atom-ge-ATOMS c =
+    fields_high _ c.args.s.now _ _ (rw c.in_ok-first.ensures.ok_part at c.split.ensures) c.in_ok-atom.atom (rw c.in_ok-atom.ensures.ok_part at c.decimal.ensures) c.in_ok-threshold.threshold c.in_ok-threshold.ensures (search rules)

@@ -2,8 +2,8 @@
 use Rattle.judges.proofs.LocalLaws.{local_laws}
 use Rattle.judges.proofs.local.judge_local.Goals as goal
 
-pub returns-then-refusal-ne-NONE : goal.returns-then-refusal-ne-NONE
-returns-then-refusal-ne-NONE c = search local_laws
+pub returns-in_err-check_local : goal.returns-in_err-check_local
+returns-in_err-check_local c = search local_laws
 
 pub local_trace-trace-requires : goal.local_trace-trace-requires
 local_trace-trace-requires c = search local_laws

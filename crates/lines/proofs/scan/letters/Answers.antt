@@ -1,27 +1,13 @@
--- `letters`: the bytes passed are letters (ScanLaws: spelt_laws).
-use Rattle.lines.proofs.ScanLaws.{spelt_laws}
+-- `letters`: the library's test of each byte is that of the definitions (ScanLaws, `all_letters`).
+use Rattle.std.proofs.Common.{rules, ◌∙◌}
+use borrow.Author.Tests.{tests}
+use Rattle.definitions.specs.Bounded.{within}
+use Rattle.std.proofs.lemmas.Iterator.{YieldsList-from_slice}
+use Rattle.std.proofs.lemmas.Iterator.Search.{all_from_yields_List}
+use Rattle.lines.proofs.ScanLaws.{all_letters}
 use Rattle.lines.proofs.scan.letters.Goals as goal
 
-pub loop-i-init : goal.loop-i-init
-loop-i-init c = search spelt_laws
-
-pub bounds-s-i : goal.bounds-s-i
-bounds-s-i c = search spelt_laws
-
-pub returns-then-b-lt97 : goal.returns-then-b-lt97
-returns-then-b-lt97 c = search spelt_laws
-
-pub returns-then-b-gt122 : goal.returns-then-b-gt122
-returns-then-b-gt122 c = search spelt_laws
-
-pub overflow_add-i : goal.overflow_add-i
-overflow_add-i c = search spelt_laws
-
-pub loop-i-smaller : goal.loop-i-smaller
-loop-i-smaller c = search spelt_laws
-
-pub loop-i-preserved : goal.loop-i-preserved
-loop-i-preserved c = search spelt_laws
-
 pub returns : goal.returns
-returns c = search spelt_laws
+returns c =
+    all_from_yields_List (within 97 122) _ _ c.all.result c.all.ensures.ran (YieldsList-from_slice c.args.s.now cc) (λ x b q k. search (rules, tests))
+    ∙ all_letters c.args.s.now

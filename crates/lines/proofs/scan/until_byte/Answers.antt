@@ -1,24 +1,14 @@
--- `until_byte`: none of the bytes passed is the one looked for (ScanLaws: passed_laws).
-use Rattle.lines.proofs.ScanLaws.{passed_laws}
+-- `until_byte`: the library's search is that of the definitions (ScanLaws, `located`).
+use Rattle.std.proofs.Common.{rules}
+use borrow.Author.Tests.{tests}
+use lib.Dec.{eqb}
+use Rattle.std.proofs.lemmas.Iterator.{YieldsList-from_slice}
+use Rattle.std.proofs.lemmas.Iterator.Search.{position_from_yields_List}
+use Rattle.lines.proofs.ScanLaws.{located}
 use Rattle.lines.proofs.scan.until_byte.Goals as goal
 
-pub loop-i-init : goal.loop-i-init
-loop-i-init c = search passed_laws
-
-pub bounds-s-i : goal.bounds-s-i
-bounds-s-i c = search passed_laws
-
-pub returns-then-s-i : goal.returns-then-s-i
-returns-then-s-i c = search passed_laws
-
-pub overflow_add-i : goal.overflow_add-i
-overflow_add-i c = search passed_laws
-
-pub loop-i-smaller : goal.loop-i-smaller
-loop-i-smaller c = search passed_laws
-
-pub loop-i-preserved : goal.loop-i-preserved
-loop-i-preserved c = search passed_laws
-
 pub returns : goal.returns
-returns c = search passed_laws
+returns c =
+    rw c.unwrap_or.ensures
+    (located c.args.b c.args.s.now c.position.result
+    (position_from_yields_List (λ x. eqb x c.args.b) _ _ c.position.result c.position.ensures.ran (YieldsList-from_slice c.args.s.now cc) (λ x b q k. search (rules, tests))))

@@ -2,11 +2,8 @@
 use Rattle.program_input.proofs.AskedLaws.{asked_laws}
 use Rattle.program_input.proofs.asked.asked_by.Goals as goal
 
-pub returns-then-len-input : goal.returns-then-len-input
-returns-then-len-input c = search asked_laws
-
-pub slice_bounds-same-end : goal.slice_bounds-same-end
-slice_bounds-same-end c = search asked_laws
+pub returns-then-first-input : goal.returns-then-first-input
+returns-then-first-input c = search asked_laws
 
 pub returns-then-same : goal.returns-then-same
 returns-then-same c = search asked_laws

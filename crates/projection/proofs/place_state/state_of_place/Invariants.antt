@@ -1,10 +1,6 @@
 -- `state_of_place` meets its contract (StateLaws: state_laws).
-use Prim.Native.Nat.{◌-◌}
 use Rattle.projection.proofs.StateLaws.{Counted}
 use Rattle.projection.proofs.place_state.state_of_place.Given as goal
 
 abbrev pub invariant-loop-s : goal.invariant-loop-s
 invariant-loop-s l = Counted l.count l.c l.k l.states l.here l.after l.s
-
-abbrev pub decreases-loop-s : goal.decreases-loop-s
-decreases-loop-s l = l.last - l.s

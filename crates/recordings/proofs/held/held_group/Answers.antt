@@ -2,8 +2,5 @@
 use Rattle.recordings.proofs.HeldLaws.{held_laws}
 use Rattle.recordings.proofs.held.held_group.Goals as goal
 
-pub slice_bounds-own-end : goal.slice_bounds-own-end
-slice_bounds-own-end c = search held_laws
-
 pub returns : goal.returns
 returns c = search held_laws

@@ -1,7 +1,6 @@
 -- `held_top` meets its contract (HeldLaws, `group_none`).
-use borrow.Author.Rules.{rules}
-use Rattle.recordings.proofs.HeldLaws.{group_none}
+use Rattle.recordings.proofs.HeldLaws.{held_laws}
 use Rattle.recordings.proofs.held.held_top.Goals as goal
 
 pub returns-then-controllers-le-TWO_TABLES : goal.returns-then-controllers-le-TWO_TABLES
-returns-then-controllers-le-TWO_TABLES c = search (rules, group_none)
+returns-then-controllers-le-TWO_TABLES c = search held_laws

@@ -1,6 +1,8 @@
--- `is_own` meets its contract: a shift and a remainder are a bit (WordLaws, `own_bit`).
-use Rattle.recordings.proofs.WordLaws.{own_bit}
+-- `is_own` meets its contract: a shift and a remainder are a bit.
+use Rattle.std.proofs.Common.{rules}
+use Rattle.definitions.specs.Bounded.{bit_of}
 use Rattle.recordings.proofs.masks.is_own.Goals as goal
 
 pub returns : goal.returns
-returns c = search own_bit
+unfolding bit_of
+returns c = search rules

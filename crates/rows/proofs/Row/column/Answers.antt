@@ -1,20 +1,12 @@
 -- `Row::column` meets its contract: the states of one word, or of two (PackedLaws).
 use native.Mathlib.Omega.{arith}
-use Rattle.rows.proofs.PackedLaws.{column_low, column_high, packed_laws}
+use Rattle.rows.proofs.PackedLaws.{column_low, column_high}
 use Rattle.rows.proofs.Row.column.Goals as goal
 
-pub gather-requires : goal.gather-requires
-gather-requires c = search packed_laws
-
 pub returns-then-n-le-WORD_MARKS : goal.returns-then-n-le-WORD_MARKS
-returns-then-n-le-WORD_MARKS c = let a = c.args in
+returns-then-n-le-WORD_MARKS c =
+    let a = c.args in
     column_low a.states.now a.n a.bit c.gather.result c.gather.ensures (omega arith)
-
-pub gather-requires-2 : goal.gather-requires-2
-gather-requires-2 c = search packed_laws
-
-pub gather-requires-3 : goal.gather-requires-3
-gather-requires-3 c = search packed_laws
 
 pub returns : goal.returns
 returns c =

@@ -2,8 +2,5 @@
 use Rattle.rows.proofs.PackedLaws.{packed_laws}
 use Rattle.rows.proofs.Row.low.Goals as goal
 
-pub bounds-words-0 : goal.bounds-words-0
-bounds-words-0 c = search packed_laws
-
 pub returns : goal.returns
 returns c = search packed_laws

@@ -2,8 +2,5 @@
 use Rattle.rows.proofs.PackedLaws.{packed_laws}
 use Rattle.rows.proofs.Row.none.Goals as goal
 
-pub last-requires : goal.last-requires
-last-requires c = search packed_laws
-
 pub returns : goal.returns
 returns c = search packed_laws

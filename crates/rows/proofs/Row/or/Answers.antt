@@ -1,18 +1,6 @@
 -- `Row::or` meets its contract: the words of a whole row are those of its marks (RowLaws).
-use Rattle.rows.proofs.RowLaws.{or_made, row_laws}
+use Rattle.rows.proofs.RowLaws.{or_made}
 use Rattle.rows.proofs.Row.or.Goals as goal
-
-pub low-requires : goal.low-requires
-low-requires c = search row_laws
-
-pub low-requires-2 : goal.low-requires-2
-low-requires-2 c = search row_laws
-
-pub high-requires : goal.high-requires
-high-requires c = search row_laws
-
-pub high-requires-2 : goal.high-requires-2
-high-requires-2 c = search row_laws
 
 pub returns : goal.returns
 returns c =

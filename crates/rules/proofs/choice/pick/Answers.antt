@@ -3,7 +3,7 @@ use Rattle.rules.proofs.ChoiceLaws.{choices}
 use Rattle.rules.proofs.choice.pick.Goals as goal
 
 pub returns-then-test : goal.returns-then-test
-returns-then-test c = search choices
+returns-then-test g c = search choices
 
 pub returns : goal.returns
-returns c = search choices
+returns g c = search choices

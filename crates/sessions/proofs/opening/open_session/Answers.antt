@@ -1,24 +1,15 @@
 -- `open_session` meets its contract (OpeningLaws, `open_refused`, `open_taken`).
+use Rattle.std.proofs.Common.{rules, Err, ◌≡◌}
 use Rattle.sessions.proofs.OpeningLaws.{open_laws}
 use Rattle.sessions.proofs.opening.open_session.Goals as goal
 
-pub returns-then-masks-lt-CONTROLLERS : goal.returns-then-masks-lt-CONTROLLERS
-returns-then-masks-lt-CONTROLLERS c = search open_laws
+pub returns-then-masks_short-nodes_short : goal.returns-then-masks_short-nodes_short
+returns-then-masks_short-nodes_short c = search open_laws
 
-pub returns-then-nodes-lt-RULE_NODES : goal.returns-then-nodes-lt-RULE_NODES
-returns-then-nodes-lt-RULE_NODES c = search open_laws
-
-pub returns-then-states-lt-STATES : goal.returns-then-states-lt-STATES
-returns-then-states-lt-STATES c = search open_laws
-
-pub returns-then-number-ne-NONE : goal.returns-then-number-ne-NONE
-returns-then-number-ne-NONE c = search open_laws
-
-pub lay_u32-requires : goal.lay_u32-requires
-lay_u32-requires c = search open_laws
-
-pub lay_u32-requires-2 : goal.lay_u32-requires-2
-lay_u32-requires-2 c = search open_laws
+pub returns-in_err-check_opening : goal.returns-in_err-check_opening
+returns-in_err-check_opening c =
+    let e : c.from_residual.result ≡ Err c.in_err-check_opening.field-0.0 = search rules in
+    rw e (search (open_laws, c.in_err-check_opening.ensures))
 
 pub returns : goal.returns
-returns c = search open_laws
+returns c = search (open_laws, c.in_ok-check_opening.ensures)

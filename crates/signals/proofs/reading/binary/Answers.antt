@@ -1,15 +1,17 @@
--- `binary` meets its contract (LayingLaws: binary_laws).
-use Rattle.signals.proofs.LayingLaws.{binary_laws}
+-- `binary` meets its contract: byte by byte (LayingLaws, `binary_other`).
+use Rattle.std.proofs.Common.{rules}
+use Rattle.definitions.specs.Bounded.{pick}
+use Rattle.signals.specs.Laying.{digit_read}
+use Rattle.signals.proofs.LayingLaws.{binary_other}
 use Rattle.signals.proofs.reading.binary.Goals as goal
 
-pub returns-then-b-lt48 : goal.returns-then-b-lt48
-returns-then-b-lt48 c = search binary_laws
+pub returns-in-48 : goal.returns-in-48
+unfolding digit_read pick
+returns-in-48 c = rw c.in-48.is
 
-pub returns-then-b-gt49 : goal.returns-then-b-gt49
-returns-then-b-gt49 c = search binary_laws
+pub returns-in-49 : goal.returns-in-49
+unfolding digit_read pick
+returns-in-49 c = rw c.in-49.is
 
-pub overflow_cast-result : goal.overflow_cast-result
-overflow_cast-result c = search binary_laws
-
-pub returns : goal.returns
-returns c = search binary_laws
+pub returns-in_default : goal.returns-in_default
+returns-in_default c = search (rules, binary_other)

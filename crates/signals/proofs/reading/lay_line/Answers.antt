@@ -1,39 +1,36 @@
 -- `lay_line` meets its contract: one law for each return (ScanningLaws: line_laws).
-use Rattle.signals.proofs.ScanningLaws.{line_laws}
+use Rattle.std.proofs.Common.{rules, Err, ◌≡◌}
+use Rattle.signals.proofs.ScanningLaws.{line_laws, line_other, line_long, line_room, line_laid}
 use Rattle.signals.proofs.reading.lay_line.Goals as goal
 
-pub until_byte-i-requires : goal.until_byte-i-requires
-until_byte-i-requires c = search line_laws
+pub returns-in_default : goal.returns-in_default
+returns-in_default c = search line_laws
 
-pub slice_bounds-opens-end : goal.slice_bounds-opens-end
-slice_bounds-opens-end c = search line_laws
+pub returns-in_err-unless : goal.returns-in_err-unless
+returns-in_err-unless c =
+    let a = c.args in
+    let e : c.from_residual.result ≡ Err c.in_err-unless.field-0.0 = search rules in
+    rw e (line_other a.controllers a.count a.j a.s.now a.states.now c.in-Some.word.now c.in-Some.field.now c.in-Some.ensures c.opens.result c.opens.ensures
+    c.in_err-unless.field-0.0 c.in_err-unless.ensures)
 
-pub opens-requires : goal.opens-requires
-opens-requires c = search line_laws
+pub returns-in_err-unless-2 : goal.returns-in_err-unless-2
+returns-in_err-unless-2 c =
+    let a = c.args in
+    let e : c.from_residual-in_err-unless-2.result ≡ Err c.in_err-unless-2.field-0.0 = search rules in
+    rw e (line_long a.controllers a.count a.j a.s.now a.states.now c.in-Some.word.now c.in-Some.field.now c.in-Some.ensures c.opens.result c.opens.ensures
+    c.in_ok-unless.ensures c.in_err-unless-2.field-0.0 c.in_err-unless-2.ensures)
 
-pub after-field-requires : goal.after-field-requires
-after-field-requires c = search line_laws
-
-pub place-requires : goal.place-requires
-place-requires c = search line_laws
-
-pub overflow_shl-weight : goal.overflow_shl-weight
-overflow_shl-weight c = search line_laws
+pub overflow_shl-place : goal.overflow_shl-place
+overflow_shl-place c = search line_laws
 
 pub lay-requires : goal.lay-requires
-lay-requires c = search line_laws
+lay-requires c =
+    let a = c.args in
+    line_room a.controllers a.count a.j a.s.now a.states.now c.in-Some.word.now c.in-Some.field.now c.in-Some.ensures c.opens.result c.opens.ensures
+    c.in_ok-unless.ensures c.in_ok-unless-2.ensures c.place.result c.place.ensures c.requires
 
-pub shape_of-states-then-field-count : goal.shape_of-states-then-field-count
-shape_of-states-then-field-count c = search line_laws
-
-pub returns-then-field-count : goal.returns-then-field-count
-returns-then-field-count c = search line_laws
-
-pub returns-else-field-count : goal.returns-else-field-count
-returns-else-field-count c = search line_laws
-
-pub returns-else-opens : goal.returns-else-opens
-returns-else-opens c = search line_laws
-
-pub returns-else-i-s : goal.returns-else-i-s
-returns-else-i-s c = search line_laws
+pub returns : goal.returns
+returns c =
+    let a = c.args in
+    line_laid a.controllers a.count a.j a.s.now a.states.now c.in-Some.word.now c.in-Some.field.now c.in-Some.ensures c.opens.result c.opens.ensures
+    c.in_ok-unless.ensures c.in_ok-unless-2.ensures c.place.result c.place.ensures c.requires _ c.lay.new.states c.lay.ensures

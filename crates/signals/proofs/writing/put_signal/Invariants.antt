@@ -1,11 +1,6 @@
 -- `put_signal`: the digits of the states passed lie in the text (WritingLaws: writing_laws).
-use Prim.Native.Nat.{◌-◌}
-use lib.ListN.{length}
 use Rattle.signals.proofs.WritingLaws.{Writing}
 use Rattle.signals.proofs.writing.put_signal.Given as goal
 
 abbrev pub invariant-loop-k : goal.invariant-loop-k
 invariant-loop-k l = Writing l.states l.place l.at l.initial.text l.text l.k
-
-abbrev pub decreases-loop-k : goal.decreases-loop-k
-decreases-loop-k l = length l.states - l.k

@@ -2,8 +2,8 @@
 use Rattle.watch_program.proofs.EventLaws.{follow_laws}
 use Rattle.watch_program.proofs.event.follow.Goals as goal
 
-pub returns-then-number-ne-NONE : goal.returns-then-number-ne-NONE
-returns-then-number-ne-NONE c = search follow_laws
+pub returns-in-Ok : goal.returns-in-Ok
+returns-in-Ok c = let t = c.in-Ok.ensures in search follow_laws
 
-pub returns : goal.returns
-returns c = search follow_laws
+pub returns-in-Err : goal.returns-in-Err
+returns-in-Err c = let t = c.in-Err.ensures in search follow_laws

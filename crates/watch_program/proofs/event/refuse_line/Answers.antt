@@ -2,9 +2,6 @@
 use Rattle.watch_program.proofs.EventLaws.{refuse_laws}
 use Rattle.watch_program.proofs.event.refuse_line.Goals as goal
 
-pub slice_bounds-put_refused-end : goal.slice_bounds-put_refused-end
-slice_bounds-put_refused-end c = search refuse_laws
-
 pub put_refused-requires : goal.put_refused-requires
 put_refused-requires c = search refuse_laws
 

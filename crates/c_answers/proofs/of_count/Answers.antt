@@ -1,0 +1,9 @@
+-- `of_count` meets its contract (CaseLaws: case_laws).
+use Rattle.c_answers.proofs.CaseLaws.{case_laws}
+use Rattle.c_answers.proofs.of_count.Goals as goal
+
+pub returns-in-Ok : goal.returns-in-Ok
+returns-in-Ok c = search case_laws
+
+pub returns-in-Err : goal.returns-in-Err
+returns-in-Err c = search case_laws

@@ -1,9 +1,0 @@
--- `of_projection` meets its contract: one law for each case of the answer (CaseLaws).
-use Rattle.c_answers.proofs.CaseLaws.{case_laws}
-use Rattle.c_answers.proofs.of_projection.Goals as goal
-
-pub returns-in-Places : goal.returns-in-Places
-returns-in-Places c = search case_laws
-
-pub returns-in-Refused : goal.returns-in-Refused
-returns-in-Refused c = search case_laws

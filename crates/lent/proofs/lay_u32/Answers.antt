@@ -1,6 +1,0 @@
--- `lay_u32` meets its contract (LayLaws, `lay_is`).
-use Rattle.lent.proofs.LayLaws.{lay_laws}
-use Rattle.lent.proofs.lay_u32.Goals as goal
-
-pub returns : goal.returns
-returns c = search lay_laws

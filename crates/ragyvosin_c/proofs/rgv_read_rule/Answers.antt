@@ -1,6 +1,0 @@
--- `rgv_read_rule` meets its contract: the operation's answer, laid (ValueLaws).
-use Rattle.ragyvosin_c.proofs.ValueLaws.{operation_laws}
-use Rattle.ragyvosin_c.proofs.rgv_read_rule.Goals as goal
-
-pub returns : goal.returns
-returns c = search operation_laws

@@ -1,9 +1,0 @@
--- `pick_index` meets its contract: one return for each answer of the test (ChoiceLaws, `pick_yes`, `pick_no`).
-use Rattle.rules.proofs.ChoiceLaws.{choices}
-use Rattle.rules.proofs.choice.pick_index.Goals as goal
-
-pub returns-then-test : goal.returns-then-test
-returns-then-test c = search choices
-
-pub returns : goal.returns
-returns c = search choices

@@ -1,6 +1,0 @@
--- `Node::atom` meets its contract: its number is its kind (KindLaws).
-use Rattle.rules.proofs.KindLaws.{meant}
-use Rattle.rules.proofs.node.Node.atom.Goals as goal
-
-pub returns : goal.returns
-returns c = search meant

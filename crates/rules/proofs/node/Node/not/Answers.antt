@@ -1,6 +1,0 @@
--- `Node::not` meets its contract: its number is its kind (KindLaws).
-use Rattle.rules.proofs.KindLaws.{meant}
-use Rattle.rules.proofs.node.Node.not.Goals as goal
-
-pub returns : goal.returns
-returns c = search meant

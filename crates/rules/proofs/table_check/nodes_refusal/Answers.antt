@@ -1,6 +1,0 @@
--- `nodes_refusal` meets its contract: where all nodes fit, nothing refuses them (TableLaws, `all_fit`).
-use Rattle.rules.proofs.TableLaws.{all_fit}
-use Rattle.rules.proofs.table_check.nodes_refusal.Goals as goal
-
-pub returns-then-all_fit : goal.returns-then-all_fit
-returns-then-all_fit c = search all_fit
