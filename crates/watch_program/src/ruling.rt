@@ -67,14 +67,14 @@ fn take_text(ended: bool, text: &[u8], space: &mut Space, output: &mut [u8]) -> 
             };
             replace_read(given, text, space, output)
         }
-        Err(stop) => {
-            if lacks_lines(ended, stop.refusal, Refusal::RuleLines) {
+        Err(cut) => {
+            if lacks_lines(ended, cut.stop.refusal, Refusal::RuleLines) {
                 return Stepped {
                     phase: Phase::Ruling,
                     printed: 0,
                 };
             }
-            running(refuse_line(stop, text, output))
+            running(refuse_line(cut.stop, text, output))
         }
     }
 }
