@@ -49,10 +49,7 @@ fn unread(refusal: Refusal) -> CutShort<RuleHeading>
 }
 
 // Reads a rule text into `nodes`, up to the first refusal.
-pub fn scan_rule(
-    text: &[u8],
-    nodes: &mut [u32],
-) -> Result<RuleHeading, CutShort<RuleHeading>>
+pub fn scan_rule(text: &[u8], nodes: &mut [u32]) -> Result<RuleHeading, CutShort<RuleHeading>>
     requires { Room nodes.old }
     ensures { RuleScanned text.now nodes.old result nodes.new }
 {
