@@ -97,7 +97,13 @@ fn open_read(
     match opened {
         Ok(()) => Stepped {
             phase: Phase::Running,
-            printed: put_status(space, output),
+            printed: put_status(
+                &space.heading,
+                &space.masks,
+                &space.nodes,
+                &space.states,
+                output,
+            ),
         },
         Err(refusal) => refuse(Stop { refusal, at: 0 }, text, output),
     }
