@@ -71,6 +71,6 @@ pub fn leaf(n: Node, traced: Traced<'_>) -> Pair
         | Kind::Until
         | Kind::Prev
         | Kind::Since
-        | Kind::Unknown => unreachable!(),
+        | Kind::Unknown(_) => unreachable!(),
     }
 }

@@ -42,7 +42,7 @@ no_atom Prev n = refl
 no_atom Since n = refl
 no_atom Run n = refl
 no_atom End n = refl
-no_atom Unknown n = refl
+no_atom (Unknown u) n = refl
 
 an_atom : (k : Kind) → k ≡ Atom → is_atom (kind_in k) ≡ true
 an_atom k e = rw e

@@ -21,7 +21,7 @@ use Rattle.std.specs.Prelude.{Ok, Err}
 use Rattle.lines.proofs.ToldLaws.{told_refused, told_back}
 use Rattle.rules.specs.Refusals.{number_of}
 use Rattle.rules.specs.declared.refusal.Refusal.{Refusal}
-use Rattle.gauges.specs.Held.{gauge_in, atoms_of, thresholds_of, held}
+use Rattle.gauges.specs.Held.{gauge_in, atoms_of, thresholds_of, held, gauges_in}
 use Rattle.gauges.specs.Lines.{gauge_next}
 use Rattle.gauges.specs.Scanning.{GaugesScanned}
 use Rattle.gauges.specs.declared.gauge.Gauge as code
@@ -91,6 +91,9 @@ module _ (start : ℕ) (text : List ℕ) (g : code_all.Gauges) (count : ℕ) (in
   ends : (n : ℕ) → scan_gauges (max_gauges - count) (atoms_of (held g)) (drop g.at text) ≡ gauges_stop n (drop g.at text) → scanned ≡ in_front (held g) (gauges_stop n (drop g.at text))
   ends n e = inv.left ∙ ap (in_front (held g)) e
 
+  all_told : (n : ℕ) → scanned ≡ in_front (held g) (gauges_stop n (drop g.at text)) → gauges_in g ≡ scanned.gauges
+  all_told n q = sym (ap (λ (s : GaugeScan). s.gauges) q ∙ rw (append-nil (atoms_of (held g)), append-nil (thresholds_of (held g))))
+
   found : scan_gauges (max_gauges - count) (atoms_of (held g)) (drop g.at text) ≡ gauges_stop accepted (drop g.at text) → GaugesScanned scanned text (Ok g)
   found e =
       let q = ends accepted e in
@@ -98,7 +101,7 @@ module _ (start : ℕ) (text : List ℕ) (g : code_all.Gauges) (count : ℕ) (in
         number = sym (ap (λ (s : GaugeScan). s.number) q);
         inside = inv.inside;
         rest = sym (ap (λ (s : GaugeScan). s.rest) q);
-        gauges = sym (ap (λ (s : GaugeScan). s.gauges) q ∙ rw (append-nil (atoms_of (held g)), append-nil (thresholds_of (held g))));
+        gauges = all_told accepted q;
       }
 
   -- `scan_gauges`, eight gauges: `scan_gauges` leaves the next line to the `at` lines
@@ -125,8 +128,8 @@ module _ (start : ℕ) (text : List ℕ) (g : code_all.Gauges) (count : ℕ) (in
     gauges_other f = found (rw one_less_lem (none_left (max_gauges - (count + 1)) (atoms_of (held g)) (drop g.at text) (opens_is ∙ f)))
 
     module _ (f : p ≡ true) (gs : List code.Gauge) (gs_is : gs ≡ held g) where
-      -- `scan_gauges`, a refused line: `scan_gauges` stops at that line with its refusal
-      pub gauges_refused : (e : Refusal) → Err (number_of e) ≡ gauge_next (gauge_line (atoms_of gs) (take (length text - g.at) (drop g.at text))) → GaugesScanned scanned text (Err (record { refusal = e; at = g.at }))
+      -- `scan_gauges`, a refused line: `scan_gauges` stops at that line with its refusal, after the gauges before it
+      pub gauges_refused : (e : Refusal) → Err (number_of e) ≡ gauge_next (gauge_line (atoms_of gs) (take (length text - g.at) (drop g.at text))) → GaugesScanned scanned text (Err (record { read = g; stop = record { refusal = e; at = g.at } }))
       gauges_refused e rs =
           let n : gauge_line (atoms_of (held g)) (drop g.at text) ≡ refused (number_of e) = told_refused (λ o. o) _ e (rw (gs_is, part_to_end text g.at) at rs) in
           let q = ends (number_of e) (rw one_less_lem (denied_left (max_gauges - (count + 1)) (atoms_of (held g)) (drop g.at text) (number_of e) (opens_is ∙ f) n)) in
@@ -134,7 +137,7 @@ module _ (start : ℕ) (text : List ℕ) (g : code_all.Gauges) (count : ℕ) (in
             number = sym (ap (λ (s : GaugeScan). s.number) q);
             inside = inv.inside;
             rest = sym (ap (λ (s : GaugeScan). s.rest) q);
-            gauges = tt;
+            gauges = all_told (number_of e) q;
           }
 
       -- `scan_gauges`, a turn: `scan_gauges` has one gauge more

@@ -6,12 +6,12 @@ ghost use Rattle.gauges.specs.Scanning.{GaugesScanned};
 
 use super::gauge::Gauges;
 use super::line::{is_gauge, next_gauge};
-use lines::{Stop, first_line};
+use lines::{CutShort, Stop, first_line};
 use rules::limits::Limits;
 
 // The gauge lines from `start` on.
 #[tactic(auto, using(crate::proofs::ScanLaws::scan_gauges_laws))]
-pub fn scan_gauges(text: &[u8], start: usize) -> Result<Gauges, Stop>
+pub fn scan_gauges(text: &[u8], start: usize) -> Result<Gauges, CutShort<Gauges>>
     requires { start ≤ length text.now }
     ensures { GaugesScanned (scan_gauges max_gauges [] (drop start text.now)) text.now result }
 {
@@ -25,7 +25,10 @@ pub fn scan_gauges(text: &[u8], start: usize) -> Result<Gauges, Stop>
         }
         match next_gauge(gauges.held(), t, line.len) {
             Ok(gauge) => gauges.push(gauge, at + line.next),
-            Err(refusal) => return Err(Stop { refusal, at }),
+            Err(refusal) => {
+                let stop = Stop { refusal, at };
+                return Err(CutShort { read: gauges, stop });
+            }
         }
     }
     Ok(gauges)

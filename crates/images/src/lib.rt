@@ -66,7 +66,7 @@ fn form_of(short: bool, own: bool, kind: Kind, p: bool, q: bool) -> Form
         Kind::Until => pick(short & (p & q), Form::ShortUntil, Form::PlainUntil),
         Kind::Prev => Form::PlainPrev,
         Kind::Since => pick(short & (p & q), Form::ShortSince, Form::PlainSince),
-        Kind::True | Kind::Run | Kind::End | Kind::Unknown => Form::TrueItself,
+        Kind::True | Kind::Run | Kind::End | Kind::Unknown(_) => Form::TrueItself,
     }
 }
 
@@ -80,7 +80,7 @@ fn tolerant_of(own: bool, kind: Kind, p: bool, q: bool) -> bool
         Kind::Atom => own,
         Kind::Not => p,
         Kind::Or | Kind::Since => p & q,
-        Kind::Next | Kind::Run | Kind::End | Kind::Unknown => false,
+        Kind::Next | Kind::Run | Kind::End | Kind::Unknown(_) => false,
     }
 }
 

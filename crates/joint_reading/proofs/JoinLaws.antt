@@ -1,5 +1,5 @@
 -- Laws of the joint reading: one for each return, and what its calls ask.
-use mathlib.Core.Path.{◌≡◌, ap, sym, ◌∙◌}
+use mathlib.Core.Path.{◌≡◌, refl, ap, sym, ◌∙◌}
 use mathlib.Core.Bool.{Bool, true, false, ◌||◌}
 use mathlib.Core.List.{List, [], ◌∷◌}
 use Prim.Native.Nat.{ℕ, ◌+◌, ◌-◌, ◌≤◌}
@@ -15,6 +15,7 @@ use Rattle.definitions.specs.Lines.{line_length}
 use Rattle.definitions.specs.RuleText.{scan_rule}
 use Rattle.definitions.specs.RecordingText.{scan_recording, joint_number}
 use Rattle.definitions.specs.Operations.{left, too_short, read_joint_number, read_joint_heading, read_joint_nodes, read_joint_masks, read_joint_states, read_joint_part}
+use Rattle.definitions.specs.Program.{bytes_of}
 use Rattle.theorems.proofs.Choice.{by_test, both_false}
 use Rattle.lent.specs.Space.{cleared}
 use Rattle.lent.proofs.LeftLaws.{left_untouched, left_zeroed, left_filled}
@@ -23,7 +24,7 @@ use Rattle.rules.specs.Refusals.{refusal_in}
 use Rattle.rules.specs.declared.refusal.Refusal.TheVariants.{LentShort}
 use Rattle.joint_reading.specs.declared.scan.Text.TheVariants.{Rule, Recording}
 use Rattle.joint_reading.specs.Scanning.{of_rule, kept, refused_at, part_of, joint_values, Low, Held, JointScanned}
-use Rattle.joint_reading.specs.Joining.{IsPart, heading_of, Joined, ReadJoint}
+use Rattle.joint_reading.specs.Joining.{IsPart, IsFound, heading_of, Joined, ReadJoint}
 use Rattle.joint_reading.specs.declared.scan.Found.{Found}
 
 -- ---- `part`
@@ -121,37 +122,54 @@ join_room nodes masks states short is e =
       states_room = ltb-false (length states) max_states a.1;
     }
 
+-- ---- `Found::part`
+module _ (x y : Bor (List ℕ)) (f : Found) where
+  module _ (z : f.text ≡ Rule) where
+    pub rule_inside_lem : f.from + f.len ≤ length (pick (of_rule f.text) x.now y.now) → f.from + f.len ≤ length x.now
+    unfolding pick
+    rule_inside_lem h = rw z at h
+
+    -- `Found::part`, a line of the rule: it is that part of the rule's text
+    pub rule_part : (r : Bor (List ℕ)) → IsPart x r f.from f.len → IsFound x y f r
+    unfolding pick
+    rule_part r p = record { part = rw z p }
+
+  module _ (z : f.text ≡ Recording) where
+    pub recording_inside_lem : f.from + f.len ≤ length (pick (of_rule f.text) x.now y.now) → f.from + f.len ≤ length y.now
+    unfolding pick
+    recording_inside_lem h = rw z at h
+
+    -- `Found::part`, a line of the recording: it is that part of the recording's text
+    pub recording_part : (r : Bor (List ℕ)) → IsPart y r f.from f.len → IsFound x y f r
+    unfolding pick
+    recording_part r p = record { part = rw z p }
+
+pub ruleset found_laws = (rules, rule_inside_lem, recording_inside_lem)
+
+-- its bytes are those that the definition reads
+pick_now : (b : Bool) (x y : Bor (List ℕ)) → (pick b x y).now ≡ pick b x.now y.now
+unfolding pick
+pick_now true x y = refl
+pick_now false x y = refl
+
+pub part_bytes : (x y : Bor (List ℕ)) (f : Found) (r : Bor (List ℕ)) → IsFound x y f r → r.now ≡ bytes_of x.now y.now (part_of f)
+part_bytes x y f r p = p.part.reads ∙ rw (pick_now (of_rule f.text) x y)
+
 -- ---- `read_joint`
 module _ (x y : Bor (List ℕ)) (nodes masks states : List ℕ) (f : Found) (nodes' masks' states' : List ℕ) (j : Joined x.now y.now nodes masks states f nodes' masks' states') where
   pub heading_low : Low f.read
   heading_low = j.low
 
-  handed : (r : Bor (List ℕ)) → IsPart (pick (of_rule f.text) x y) r f.from f.len → ReadJoint x y nodes masks states r nodes' masks' states' (heading_of f)
+  pub part_inside_lem : f.from + f.len ≤ length (pick (of_rule f.text) x.now y.now)
+  part_inside_lem = j.inside
+
+  -- `read_joint`: the part that was found is `read_joint_part`
+  pub handed : (r : Bor (List ℕ)) → IsFound x y f r → ReadJoint x y nodes masks states r nodes' masks' states' (heading_of f)
   handed r p =
       record {
-        part = rw (← j.part) p;
+        part = rw (← j.part) p.part;
         heading = j.heading;
         nodes_left = j.nodes_left;
         masks_left = j.masks_left;
         states_left = j.states_left;
       }
-
-  module _ (z : f.text ≡ Rule) where
-    pub rule_inside_lem : f.from + f.len ≤ length x.now
-    unfolding pick
-    rule_inside_lem = rw z at j.inside
-
-    -- `read_joint`, a line of the rule: `read_joint_part` is that part of the rule's text
-    pub rule_handed : (r : Bor (List ℕ)) → IsPart x r f.from f.len → ReadJoint x y nodes masks states r nodes' masks' states' (heading_of f)
-    unfolding pick
-    rule_handed r p = handed r (rw z p)
-
-  module _ (z : f.text ≡ Recording) where
-    pub recording_inside_lem : f.from + f.len ≤ length y.now
-    unfolding pick
-    recording_inside_lem = rw z at j.inside
-
-    -- `read_joint`, a line of the recording: `read_joint_part` is that part of the recording's text
-    pub recording_handed : (r : Bor (List ℕ)) → IsPart y r f.from f.len → ReadJoint x y nodes masks states r nodes' masks' states' (heading_of f)
-    unfolding pick
-    recording_handed r p = handed r (rw z p)

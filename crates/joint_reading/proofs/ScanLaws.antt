@@ -25,7 +25,7 @@ use Rattle.rules.specs.declared.refusal.Refusal.TheVariants.{NoController}
 use Rattle.rules.specs.declared.rule.RuleHeading.{RuleHeading}
 use Rattle.rules.proofs.RefusalLaws.{number_some}
 use Rattle.recordings.specs.declared.heading.RecordingHeading.{RecordingHeading}
-use Rattle.lines.specs.declared.Stop.{Stop}
+use Rattle.lines.specs.declared.CutShort.{CutShort}
 use Rattle.rule_reader.specs.Reading.{RuleAccepted, RuleRefused}
 use Rattle.theorems.proofs.TextNumbers.{recording_of_text_lem}
 use Rattle.recording_reader.specs.Scanning.{RecordingAccepted, RecordingRefused}
@@ -106,10 +106,11 @@ line_inside t at h = omega (arith, length_le (drop at t), length-drop at t)
 -- ---- `scan_joint`
 module _ (rule recording nodes masks states nodes' : List ℕ) (past : drop max_rule_nodes nodes' ≡ drop max_rule_nodes nodes) where
   -- `scan_joint`, the rule is refused: `joint_part` is the rule's refused line
-  pub rule_refused : (u : Stop) → RuleRefused rule u → (f : Found) → f ≡ refused_at u.refusal Rule u.at (line_length (drop u.at rule))
+  pub rule_refused : (cut : CutShort RuleHeading) → RuleRefused rule cut → (f : Found) → f ≡ refused_at cut.stop.refusal Rule cut.stop.at (line_length (drop cut.stop.at rule))
       → JointScanned rule recording nodes masks states f nodes' masks states
   unfolding pick
-  rule_refused u s f e =
+  rule_refused cut s f e =
+      let u = cut.stop in
       let z = number_some u.refusal in
       let y : (scan_rule rule).number ≡ 0 → ⊥ = λ q. z (s.number ∙ q) in
       rw e
@@ -131,10 +132,11 @@ module _ (rule recording nodes masks states nodes' : List ℕ) (past : drop max_
     ruled_number = sym s.number
 
     -- `scan_joint`, the recording is refused: `joint_part` is the recording's refused line
-    pub recording_refused : (v : Stop) → RecordingRefused recording v → (f : Found) → f ≡ refused_at v.refusal Recording v.at (line_length (drop v.at recording))
+    pub recording_refused : (cut : CutShort RecordingHeading) → RecordingRefused recording cut → (f : Found) → f ≡ refused_at cut.stop.refusal Recording cut.stop.at (line_length (drop cut.stop.at recording))
         → JointScanned rule recording nodes masks states f nodes' masks' states'
     unfolding pick
-    recording_refused v t f e =
+    recording_refused cut t f e =
+        let v = cut.stop in
         let z = number_some v.refusal in
         let y : (scan_recording recording).number ≡ 0 → ⊥ = λ q. z (t.number ∙ q) in
         rw e

@@ -14,6 +14,10 @@ pub record IsPart (s r : Bor (List ℕ)) (from count : ℕ) : Type 0 where
   pub lies : r.ref_ptr ≡ (s.ref_ptr.0, from + s.ref_ptr.1)
   pub reads : r.now ≡ take count (drop from s.now)
 
+-- r is the part that was found, of the text that it is in
+pub record IsFound (rule recording : Bor (List ℕ)) (f : Found) (r : Bor (List ℕ)) : Type 0 where
+  pub part : IsPart (pick (of_rule f.text) rule recording) r f.from f.len
+
 -- the number, and the four values or zeros
 abbrev pub heading_in : Result given.Joined Refusal → List ℕ
 heading_in read = refusal_in read ∷ values_in (kept read)

@@ -6,9 +6,10 @@ pub mod scan;
 pub mod space;
 
 ghost use Rattle.std.specs.Prelude.{◌≡◌, ◌≤◌, ◌+◌, length};
+ghost use Rattle.definitions.specs.Bounded.{pick};
 ghost use Rattle.joint_reading.specs.Room.{Room};
-ghost use Rattle.joint_reading.specs.Scanning.{Low};
-ghost use Rattle.joint_reading.specs.Joining.{IsPart, heading_in, Joined, ReadJoint};
+ghost use Rattle.joint_reading.specs.Scanning.{Low, of_rule};
+ghost use Rattle.joint_reading.specs.Joining.{IsPart, IsFound, heading_in, Joined, ReadJoint};
 
 use rules::refusal::Refusal;
 use scan::{Found, Text, kept, refused_at, scan_joint};
@@ -72,6 +73,20 @@ fn part<'a>(text: &'a [u8], from: usize, len: usize) -> &'a [u8]
     &text[from..from + len]
 }
 
+impl Found {
+    // The part that is handed back: of one of the two texts that were read.
+    #[tactic(auto, using(crate::proofs::JoinLaws::found_laws))]
+    pub fn part<'a>(self, rule: &'a [u8], recording: &'a [u8]) -> &'a [u8]
+        requires { self.from + self.len ≤ length (pick (of_rule self.text) rule.now recording.now) }
+        ensures { IsFound rule.entry recording.entry self result }
+    {
+        match self.text {
+            Text::Rule => part(rule, self.from, self.len),
+            Text::Recording => part(recording, self.from, self.len),
+        }
+    }
+}
+
 // Reads a rule and a recording, and hands back the refused line.
 pub fn read_joint<'a>(
     rule: &'a [u8],
@@ -85,8 +100,5 @@ pub fn read_joint<'a>(
 {
     let found = join(rule, recording, nodes, masks, states);
     *heading = heading_in(found.read);
-    match found.text {
-        Text::Rule => part(rule, found.from, found.len),
-        Text::Recording => part(recording, found.from, found.len),
-    }
+    found.part(rule, recording)
 }

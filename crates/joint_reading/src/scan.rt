@@ -83,11 +83,11 @@ pub fn scan_joint(
 {
     let ruled = match scan_rule(rule, nodes) {
         Ok(heading) => heading,
-        Err(stop) => return refused_at(stop.refusal, Text::Rule, rule, stop.at),
+        Err(cut) => return refused_at(cut.stop.refusal, Text::Rule, rule, cut.stop.at),
     };
     let recorded = match scan_recording(recording, masks, states) {
         Ok(heading) => heading,
-        Err(stop) => return refused_at(stop.refusal, Text::Recording, recording, stop.at),
+        Err(cut) => return refused_at(cut.stop.refusal, Text::Recording, recording, cut.stop.at),
     };
     if recorded.controllers <= ruled.controller {
         return refused_at(Refusal::NoController, Text::Rule, rule, 0);

@@ -9,6 +9,7 @@ use Rattle.definitions.specs.Bounded.{pick}
 use Rattle.definitions.specs.Nodes as meant
 use Rattle.definitions.specs.Lines.{same}
 use Rattle.definitions.specs.RuleText.{kind_word, word_kind}
+use Rattle.kind_words.specs.declared.TheConstants.{UNKNOWN}
 use Rattle.rules.specs.Kinds.{kind_in}
 use Rattle.rules.specs.declared.kind.Kind.{Kind}
 use Rattle.rules.specs.declared.kind.Kind.TheVariants as code
@@ -19,7 +20,7 @@ kinds = code.True ∷ code.Atom ∷ code.Not ∷ code.Or ∷ code.Next ∷ code.
 
 -- a kind that is found, or an unknown one
 abbrev found : Option Kind → Kind
-found o = unwrap_or o code.Unknown
+found o = unwrap_or o (code.Unknown UNKNOWN)
 
 -- this kind's word, or what the rest of the search says
 more : (z : Bool) (k : Kind) (o : Option Kind) (n : meant.Kind) → kind_in (found o) ≡ n → kind_in (found (cond z (Some k) o)) ≡ pick z (kind_in k) n

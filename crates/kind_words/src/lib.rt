@@ -8,6 +8,9 @@ ghost use Rattle.rules.specs.Kinds.{kind_in};
 use lines::scan;
 use rules::kind::Kind;
 
+// The number of every word that is no kind word.
+pub const UNKNOWN: u8 = 10;
+
 // The word of a kind; an unknown kind has none.
 pub fn word_of(kind: Kind) -> &'static [u8]
     ensures { result.now ≡ kind_word (kind_in kind) }
@@ -23,7 +26,7 @@ pub fn word_of(kind: Kind) -> &'static [u8]
         Kind::Since => b"since",
         Kind::Run => b"run",
         Kind::End => b"end",
-        Kind::Unknown => b"",
+        Kind::Unknown(_) => b"",
     }
 }
 
@@ -49,5 +52,5 @@ pub fn kind_of_word(w: &[u8]) -> Kind
         .iter()
         .copied()
         .find(|kind| scan::same(w, word_of(*kind)))
-        .unwrap_or(Kind::Unknown)
+        .unwrap_or(Kind::Unknown(UNKNOWN))
 }

@@ -1,7 +1,7 @@
 // Lent space: zeroing a part of it, and laying words over its start. What an operation leaves there is in proofs/LeftLaws.
 #![tactic(auto)]
 
-ghost use Rattle.std.specs.Prelude.{◌≡◌, ◌≤◌, length, take};
+ghost use Rattle.std.specs.Prelude.{◌≡◌, ◌≤◌, ◌++◌, length, take, drop};
 ghost use Rattle.definitions.specs.Limits.{accepted};
 ghost use Rattle.definitions.specs.Operations.{left};
 ghost use Rattle.lent.specs.Space.{filled, Layable};
@@ -41,11 +41,21 @@ pub fn clear<T: Zero>(entries: &mut [T], from: usize, to: usize)
     }
 }
 
+// Copies the first n words to the start of lent space: one by one, since for `copy_from_slice` an archive for C would need `memmove` from outside.
+fn copy(words: &[u32], n: usize, lent: &mut [u32])
+    requires { (n ≤ length words.now) × (n ≤ length lent.old) }
+    ensures { lent.new ≡ take n words.now ++ drop n lent.old }
+{
+    for i in 0..n {
+        lent[i] = words[i];
+    }
+}
+
 // Lays the first n words over lent space: "Accepted, unused entries are zero".
 pub fn lay(words: &[u32], n: usize, full: usize, lent: &mut [u32])
     requires { Layable words.now n full lent.old }
     ensures { lent.new ≡ left accepted full (take n words.now) lent.old }
 {
-    lent[..n].copy_from_slice(&words[..n]);
+    copy(words, n, lent);
     clear(lent, n, full);
 }

@@ -28,6 +28,7 @@ use Rattle.fields.specs.Fields.{cap, capped}
 use Rattle.fields.proofs.FieldLaws.{cap_exact, cap_within_limits, taken_none, capped_read}
 use Rattle.lines.proofs.ToldLaws.{some_given, none_given}
 use Rattle.line_programs.specs.Printing.{OnlyLineOf, Written}
+use Rattle.line_programs.specs.declared.input.RefusedInput.{RefusedInput}
 use Rattle.line_programs.proofs.PrintLaws.{or_refused, written_of, input_whole}
 
 -- ---- `write_count`
@@ -106,9 +107,9 @@ module _ (line : List ℕ) (f : Option ℕ) (is : f ≡ capped (decimal line)) w
 -- ---- `write_input`
 module _ (input : List ℕ) where
   -- `write_input`, `longest_output`: a refused input
-  pub longest_refused : (e : Refusal) → OnlyLineOf input (Err e) → longest_output input ≡ refusal_text (number_of e)
+  pub longest_refused : (e : RefusedInput) → OnlyLineOf input (Err e) → longest_output input ≡ refusal_text (number_of e.refusal)
   unfolding longest_output
-  longest_refused e is = or_refused (input_refusal input) _ e is.number
+  longest_refused e is = or_refused (input_refusal input) _ e.refusal is.number
 
   -- `write_input`, `longest_output`: its only line
   pub longest_written : (line : Bor (List ℕ)) → OnlyLineOf input (Ok line) → (w : Result ℕ Refusal) (o : List ℕ) → Written (count_output line.now) w o → Written (longest_output input) w o

@@ -34,7 +34,7 @@ use Rattle.rules.proofs.RefusalLaws.{number_some}
 use Rattle.rule_writer.specs.Writing.{WroteRule, write_answer}
 use Rattle.line_programs.specs.Printing.{OnlyLineOf, Prints, Written}
 
--- ---- `only_line`
+-- ---- `check_only` and `only_line`
 module _ (input : List ℕ) (l : Line) (is : FirstLine input l) where
   whole_is : (ltb l.len (length input) && eqb l.next (length input)) ≡ (is_closed input && is_empty (rest_of input))
   whole_is = rw (closed_is, rest_is)
@@ -52,32 +52,36 @@ module _ (input : List ℕ) (l : Line) (is : FirstLine input l) where
           (λ e. e ∙ sym (eq-eqb (length (rest_of input)) 0 (omega (arith, eqb-true l.next (length input) e))))
           (λ e. e ∙ sym (ne_eqb (length (rest_of input)) 0 (λ z. eqb-false l.next (length input) e (omega (arith, is.inside)))))
 
-  -- `only_line`, too long: `input_refusal` is 14
-  pub only_long : (e : Refusal) → number_of e ≡ pick (leb (length input) max_input_bytes) accepted input_long → OnlyLineOf input (Err e)
+  -- `check_only`, too long: `input_refusal` is 14
+  pub only_long : (e : Refusal) → number_of e ≡ pick (leb (length input) max_input_bytes) accepted input_long → number_of e ≡ input_refusal input
   unfolding input_refusal pick
   only_long e n =
       by_test (leb (length input) max_input_bytes)
       (λ t. absurd (number_some e (rw t at n)))
-      (λ f. record { number = rw (lt-ltb max_input_bytes (length input) (omega (arith, leb-false (length input) max_input_bytes f))) (rw f at n); line = tt })
+      (λ f. rw (lt-ltb max_input_bytes (length input) (omega (arith, leb-false (length input) max_input_bytes f))) (rw f at n))
 
   module _ (short : accepted ≡ pick (leb (length input) max_input_bytes) accepted input_long) where
     fits : length input ≤ max_input_bytes
     fits = leb-true (length input) max_input_bytes (accept_yes (leb (length input) max_input_bytes) input_long (omega arith) (sym short))
 
-    refusal_is : input_refusal input ≡ pick (ltb l.len (length input) && eqb l.next (length input)) accepted rule_form
+    -- `check_only`, not too long: `input_refusal` is 1 where it isn't one line and its end
+    pub only_short : (n : ℕ) → n ≡ pick (ltb l.len (length input) && eqb l.next (length input)) accepted rule_form → n ≡ input_refusal input
     unfolding input_refusal pick
-    refusal_is = rw (le-ltb max_input_bytes (length input) fits, whole_is)
+    only_short n e = e ∙ rw (le-ltb max_input_bytes (length input) fits, whole_is)
 
-    -- `only_line`, not one line and its end: `input_refusal` is 1
-    pub only_other : (e : Refusal) → number_of e ≡ pick (ltb l.len (length input) && eqb l.next (length input)) accepted rule_form → OnlyLineOf input (Err e)
-    only_other e n = record { number = n ∙ sym refusal_is; line = tt }
+  module _ (line : Bor (List ℕ)) (part : line.now ≡ take l.len input) where
+    first_is : line.now ≡ line_of input
+    first_is = part ∙ rw is.length_is
 
     -- `only_line`, its only line: nothing refuses the input
-    pub only_whole : (line : Bor (List ℕ)) → line.now ≡ take l.len input → accepted ≡ pick (ltb l.len (length input) && eqb l.next (length input)) accepted rule_form →
-        OnlyLineOf input (Ok line)
-    only_whole line e n = record { number = n ∙ sym refusal_is; line = e ∙ rw is.length_is }
+    pub only_whole : accepted ≡ input_refusal input → OnlyLineOf input (Ok line)
+    only_whole n = record { number = n; line = first_is }
 
-pub ruleset only_laws = (rules, only_long, only_other, only_whole)
+    -- `only_line`, refused: `input_refusal`, beside the first line
+    pub only_denied : (e : Refusal) → number_of e ≡ input_refusal input → OnlyLineOf input (Err (record { refusal = e; line = line }))
+    only_denied e n = record { number = n; line = first_is }
+
+pub ruleset only_laws = (rules, only_long, only_short, only_whole, only_denied)
 
 -- ---- `print_refusal`
 -- the printed bytes and zeros are all of the output

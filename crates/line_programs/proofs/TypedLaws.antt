@@ -31,6 +31,7 @@ use Rattle.lines.proofs.PartLaws.{split_no, split_yes}
 use Rattle.lines.proofs.ToldLaws.{some_given, none_given}
 use Rattle.one_line.specs.Reading.{ReadLine}
 use Rattle.line_programs.specs.Printing.{OnlyLineOf, Written}
+use Rattle.line_programs.specs.declared.input.RefusedInput.{RefusedInput}
 use Rattle.line_programs.proofs.PrintLaws.{or_refused, or_accepted, written_of, input_whole}
 
 -- ---- `write_line`
@@ -136,9 +137,9 @@ module _ (line : List ℕ) (o : Option (Bor (List ℕ) × Bor (List ℕ))) (is :
 -- ---- `write_input`
 module _ (input : List ℕ) where
   -- `write_input`, `rule_output`: a refused input
-  pub rule_refused : (e : Refusal) → OnlyLineOf input (Err e) → rule_output input ≡ refusal_text (number_of e)
+  pub rule_refused : (e : RefusedInput) → OnlyLineOf input (Err e) → rule_output input ≡ refusal_text (number_of e.refusal)
   unfolding rule_output
-  rule_refused e is = or_refused (input_refusal input) _ e is.number
+  rule_refused e is = or_refused (input_refusal input) _ e.refusal is.number
 
   -- `write_input`, `rule_output`: its only line
   pub input_written : (line : Bor (List ℕ)) → OnlyLineOf input (Ok line) → (w : Result ℕ Refusal) (o : List ℕ) → Written (typed_output line.now) w o → Written (rule_output input) w o

@@ -31,7 +31,8 @@ fn write_count(line: &[u8], output: &mut [u8; Limits::RULE_BYTES]) -> Result<usi
 fn write_input(input: &[u8], output: &mut [u8; Limits::RULE_BYTES]) -> Result<usize, Refusal>
     ensures { Written (longest_output input.now) result output.new }
 {
-    write_count(only_line(input)?, output)
+    let line = only_line(input).map_err(|refused| refused.refusal)?;
+    write_count(line, output)
 }
 
 // From the input to what is printed of it, and how many bytes that is; the rest of the output is zero.

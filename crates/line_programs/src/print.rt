@@ -9,7 +9,7 @@ use rules::limits::Limits;
 use rules::refusal::Refusal;
 
 // The word `refused` and the number, and zeros after it. How many bytes that is.
-fn print_refusal(refusal: Refusal, output: &mut [u8; Limits::RULE_BYTES]) -> usize
+pub fn print_refusal(refusal: Refusal, output: &mut [u8; Limits::RULE_BYTES]) -> usize
     ensures { Prints (refusal_text (number_of refusal)) result output.new }
 {
     let after_word = printing::put(b"refused", 0, output);

@@ -4,6 +4,7 @@ use Prim.Native.Nat.{ℕ, ◌+◌, ◌≤◌}
 use mathlib.Core.List.{List, [], ◌∷◌}
 use native.Mathlib.Omega.{arith}
 use lib.ListN.{length, take, drop}
+use lib.Seq.{length-take-le}
 use lib.Dec.{eqb, ltb}
 use mathlib.Core.Bool.{cond}
 use borrow.Author.Tests.{ltb-false}
@@ -50,10 +51,18 @@ module _ (b : ℕ) (s : List ℕ) (r : Option ℕ) (is : r ≡ position (λ x. e
   unfolding split pick
   split_none e = by_test (has b s) (λ h. absurd (none-some (before b s) (sym e ∙ (answered ∙ rw h)))) (λ h. rw h)
 
-  -- `split`, b stands at i: the parts before and after it
-  pub split_some : (i : ℕ) → r ≡ Some i → Some (take i s, drop (i + 1) s) ≡ split b s
-  unfolding split pick
-  split_some i e = by_test (has b s) (λ h. let at : i ≡ before b s = same_Some _ _ (sym e ∙ (answered ∙ rw h)) in rw (h, at)) (λ h. absurd (none-some i (sym (sym e ∙ (answered ∙ rw h)))))
+  module _ (i : ℕ) (e : r ≡ Some i) where
+    -- `split`, b stands at i: the parts before and after it
+    pub split_some : Some (take i s, drop (i + 1) s) ≡ split b s
+    unfolding split pick
+    split_some = by_test (has b s) (λ h. let at : i ≡ before b s = same_Some _ _ (sym e ∙ (answered ∙ rw h)) in rw (h, at)) (λ h. absurd (none-some i (sym (sym e ∙ (answered ∙ rw h)))))
+
+    at_i : i ≤ length s
+    at_i = by_test (has b s) (λ h. let at : i ≡ before b s = same_Some _ _ (sym e ∙ (answered ∙ rw h)) in omega (arith, before_le b s)) (λ h. absurd (none-some i (sym (sym e ∙ (answered ∙ rw h)))))
+
+    -- `split`, b stands at i: the part before it has so many bytes
+    pub split_counts : length (take i s) ≡ i
+    split_counts = length-take-le i s at_i
 
 -- ---- `same`
 -- comparison by the library is `same`

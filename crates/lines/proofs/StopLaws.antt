@@ -1,5 +1,5 @@
 -- Laws of a reading that stops at a line: its refusal with the place of the line, and without it.
-use mathlib.Core.Path.{◌≡◌, ap, sym, subst, ◌∙◌}
+use mathlib.Core.Path.{◌≡◌, refl, ap, sym, subst, ◌∙◌}
 use Prim.Native.Nat.{ℕ}
 use Rattle.std.specs.Prelude.{Result, Ok, Err, IsErrAnd, MatchResult}
 use Rattle.rules.specs.Refusals.{number_of}
@@ -26,9 +26,26 @@ stop_told (Err e) n h s P k at q = record { refused = ap (λ (d : Stop). Err (nu
 pub at_stop : (P : Stop → Type 0) (s : Stop) (at : ℕ) → s.at ≡ at → P (record { refusal = s.refusal; at = at }) → P s
 at_stop P s at e h = subst (λ (k : ℕ). P (record { refusal = s.refusal; at = k })) (sym e) h
 
+-- ---- another error for the same reading, by `map_err`
+-- what was read stays
+pub mapped_ok : {T E : Type 0} (F : Type 0) (r : Result T E) (v : T) → MatchResult r (λ x. ◌≡◌ {A = Result T F} (Ok v) (Ok x)) (λ e. ⊥) → r ≡ Ok v
+mapped_ok F (Ok x) v k = let q : x ≡ v = cc in ap Ok q
+mapped_ok F (Err e) v k = absurd k
+
+-- there was an error, and this one is made of it
+pub record Mapped {T E F : Type 0} (r : Result T E) (f : E → F) (made : F) : Type 0 where
+  pub error : E
+  pub is : r ≡ Err error
+  pub gives : made ≡ f error
+
+pub mapped_err : {T E F : Type 0} (r : Result T E) (made : F) (P : E → Type 0) → MatchResult r (λ x. ◌≡◌ {A = Result T F} (Err made) (Ok x)) P
+    → (f : E → F) → ((e : E) → P e → made ≡ f e) → Mapped r f made
+mapped_err (Ok x) made P k f q = cc
+mapped_err (Err e) made P k f q = record { error = e; is = refl; gives = q e k }
+
 -- ---- an answer without the place of its line, by `map_err`
-pub place_dropped : {T : Type 0} (r : Result T Stop) (x : Result T Refusal) (P : Stop → Refusal → Type 0) → MatchResult r (λ v. x ≡ Ok v) (λ s. IsErrAnd x (P s))
-    → ((s : Stop) (e : Refusal) → P s e → e ≡ s.refusal) → MatchResult r (λ v. x ≡ Ok v) (λ s. x ≡ Err s.refusal)
-place_dropped (Ok v) x P h q = h
-place_dropped (Err s) (Ok v) P h q = absurd h
-place_dropped (Err s) (Err e) P h q = ap Err (q s e h)
+pub place_dropped : {T E : Type 0} (refusal : E → Refusal) (r : Result T E) (x : Result T Refusal) (P : E → Refusal → Type 0) → MatchResult r (λ v. x ≡ Ok v) (λ s. IsErrAnd x (P s))
+    → ((s : E) (e : Refusal) → P s e → e ≡ refusal s) → MatchResult r (λ v. x ≡ Ok v) (λ s. x ≡ Err (refusal s))
+place_dropped refusal (Ok v) x P h q = h
+place_dropped refusal (Err s) (Ok v) P h q = absurd h
+place_dropped refusal (Err s) (Err e) P h q = ap Err (q s e h)

@@ -19,6 +19,16 @@ abbrev pub parts_in : Option (Bor (List ℕ) × Bor (List ℕ)) → Option (List
 parts_in (Some parts) = Some (parts.0.now, parts.1.now)
 parts_in None = None
 
+-- two parts of s with one byte between them: where each lies in s
+pub record PartsLie (s front rest : Bor (List ℕ)) : Type 0 where
+  pub begins : front.ref_ptr ≡ s.ref_ptr
+  pub follows : IsRest s rest (length front.now + 1)
+
+-- where the two parts of a text lie in it
+abbrev pub parts_lie : Bor (List ℕ) → Option (Bor (List ℕ) × Bor (List ℕ)) → Type 0
+parts_lie s (Some parts) = PartsLie s parts.0 parts.1
+parts_lie s None = Unit {0}
+
 -- the part before the first b and the part after it, where there is one
 unfoldable pub split : ℕ → List ℕ → Option (List ℕ × List ℕ)
 split b s = pick (has b s) (Some (up_to b s, after b s)) None

@@ -5,6 +5,7 @@ use Rattle.definitions.specs.Bounded.{pick}
 use Rattle.definitions.specs.Lines.{newline, before, is_empty, line_length, is_closed, rest_of, Scan}
 use Rattle.lines.specs.declared.Line.{Line}
 use Rattle.lines.specs.declared.Stop.{Stop}
+use Rattle.lines.specs.declared.CutShort.{CutShort}
 use Rattle.rules.specs.Refusals.{number_of}
 
 -- the first line is closed by the byte 10 at `end`
@@ -32,6 +33,11 @@ stopped_number (Err stop) = number_of stop.refusal
 abbrev pub stopped_at : Result ℕ Stop → ℕ
 stopped_at (Ok at) = at
 stopped_at (Err stop) = stop.at
+
+-- what was read: all of it, or what stood before the line that the reading stopped at
+abbrev pub read_of : {A : Type 0} → Result A (CutShort A) → A
+read_of (Ok a) = a
+read_of (Err cut) = cut.read
 
 -- lines of a text were read as s says: its words are laid over the start of lent space
 pub record LinesScanned (s : Scan) (text entry : List ℕ) (r : Result ℕ Stop) (exit : List ℕ) : Type 0 where

@@ -25,6 +25,13 @@ pub struct Stop {
     pub at: usize,
 }
 
+// Where a reading of lines stopped, and what was read before.
+#[derive(Clone, Copy)]
+pub struct CutShort<T> {
+    pub read: T,
+    pub stop: Stop,
+}
+
 // How many bytes the first line has, closed by the newline at `end`: a carriage return right before that is of its ending.
 #[tactic(auto, using(crate::proofs::NextLaws::ending_laws))]
 fn before_ending(t: &[u8], end: usize) -> usize

@@ -1,7 +1,7 @@
 // Bytes of a text: where one stands, what follows it, and comparison.
 ghost use Rattle.std.specs.Prelude.{◌≡◌, ◌+◌, ◌<◌, length};
 ghost use Rattle.definitions.specs.Lines.{same, letters};
-ghost use Rattle.lines.specs.Parts.{Located, IsRest, parts_in, split};
+ghost use Rattle.lines.specs.Parts.{Located, IsRest, parts_in, parts_lie, split};
 
 // Ends a line, alone or after a carriage return; what is written ends its lines in it alone.
 pub const NEWLINE: u8 = 10;
@@ -27,10 +27,13 @@ pub fn after<'a>(s: &'a [u8], i: usize) -> &'a [u8]
 
 // The part of `s` before its first `b`, and the part after it.
 pub fn split<'a>(s: &'a [u8], b: u8) -> Option<(&'a [u8], &'a [u8])>
-    ensures { parts_in result ≡ split b s.now }
+    ensures parts { parts_in result ≡ split b s.now }
+    ensures places { parts_lie s.entry result }
 {
     let i = s.iter().position(|x| *x == b)?;
-    Some((&s[..i], after(s, i)))
+    let front = &s[..i];
+    let rest = after(s, i);
+    Some((front, rest))
 }
 
 // Whether `a` and `b` are the same bytes.

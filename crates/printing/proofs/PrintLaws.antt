@@ -1,10 +1,10 @@
 -- Laws of writing: digits, bytes, and one word after another.
 use mathlib.Core.Path.{◌≡◌, refl, ap, sym, ◌∙◌}
-use Prim.Native.Nat.{ℕ, zero, suc, ◌+◌, ◌-◌, ◌*◌, ◌/◌, ◌%◌, ◌^◌, ◌<◌, ◌≤◌}
+use Prim.Native.Nat.{ℕ, zero, suc, ◌+◌, ◌*◌, ◌/◌, ◌%◌, ◌^◌, ◌<◌, ◌≤◌}
 use native.Mathlib.Nat.{div-lt_self, pow-suc}
 use mathlib.Core.List.{List, [], ◌∷◌, ◌++◌, append_assoc}
-use lib.ListN.{length, take, drop, get_or, set, take-append-drop, length-append}
-use lib.Seq.{drop-cons, set_split, set_at, take_at, drop-append-add, drop-drop, length-take-le}
+use lib.ListN.{length, take, drop, get_or, set, take-append-drop, length-set, length-append}
+use lib.Seq.{drop-cons, set_split, set_at, take-suc, take_all, take_at, drop-append-add, drop-drop, length-take-le}
 use native.Mathlib.Omega.{arith}
 use native.Mathlib.Numerals.{add-one}
 use mir.Syntax.{w64}
@@ -89,12 +89,33 @@ unfolding laid_at
 laid_none at o = let z : at + 0 ≡ at = omega arith in rw z (take-append-drop at o)
 
 -- ---- `put`
--- `put`: the word that is copied over the part is `Printed`
-pub word_laid : (word o part : List ℕ) (at : ℕ) → part ≡ word → Printed word o at (at + length word) (take at o ++ (part ++ drop (at + length word - at) (drop at o)))
-unfolding laid_at
-word_laid word o part at e =
-    let n : at + length word - at ≡ length word = omega arith in
-    record { next = refl; lies = rw (e, n, drop-drop) }
+-- the first i bytes of the word are laid
+pub record Copied (word o : List ℕ) (at : ℕ) (o' : List ℕ) (i : ℕ) : Type 0 where
+  pub within : i ≤ length word
+  pub kept : length o' ≡ length o
+  pub lies : o' ≡ laid_at at (take i word) o
+
+-- `put`, before the first turn: no byte of the word is laid
+pub copied_none : (word o : List ℕ) (at : ℕ) → Copied word o at o 0
+copied_none word o at = record { within = omega arith; kept = refl; lies = sym (laid_none at o) }
+
+module _ (word o : List ℕ) (at : ℕ) (o' : List ℕ) (i : ℕ) (inv : Copied word o at o' i) (room : at + length word ≤ length o) where
+  -- `put`, a turn: one byte more of the word is laid
+  pub copied_next : i < length word → Copied word o at (set o' (at + i) (get_or word i 0)) (i + 1)
+  copied_next h =
+      let ln : length (take i word) ≡ i = length-take-le i word (omega arith) in
+      let sn = laid_snoc at (get_or word i 0) (take i word) o (omega (arith, ln)) in
+      record {
+        within = omega arith;
+        kept = length-set o' (at + i) (get_or word i 0) ∙ inv.kept;
+        lies = rw (inv.lies, add-one, take-suc word i 0 h) (rw ln at sn);
+      }
+
+  -- `put`, all bytes are laid: the word is `Printed`
+  pub copied_done : length word ≤ i → Printed word o at (at + length word) o'
+  copied_done h = record { next = refl; lies = inv.lies ∙ rw (take_all i word h) }
+
+pub ruleset put_laws = (rules, copied_none, copied_next, copied_done)
 
 -- ---- one word after another
 laid_seq : (at : ℕ) (xs ys o : List ℕ) → at + length xs ≤ length o → laid_at (at + length xs) ys (laid_at at xs o) ≡ laid_at at (xs ++ ys) o

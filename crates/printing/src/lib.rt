@@ -22,14 +22,15 @@ pub fn print(n: u64, at: usize, text: &mut [u8]) -> usize
 }
 
 // Writes `word` from `at` on. The place after it.
-#[tactic(auto, using(crate::proofs::PrintLaws::word_laid))]
+#[tactic(auto, using(crate::proofs::PrintLaws::put_laws))]
 pub fn put(word: &[u8], at: usize, text: &mut [u8]) -> usize
     requires { at + length word.now ≤ length text.old }
     ensures { Printed word.now text.old at result text.new }
 {
-    let end = at + word.len();
-    text[at..end].copy_from_slice(word);
-    end
+    for i in 0..word.len() {
+        text[at + i] = word[i];
+    }
+    at + word.len()
 }
 
 // Writes the byte `b` at `at`. The place after it.

@@ -17,13 +17,13 @@ use Rattle.rules.specs.declared.refusal.Refusal.{Refusal}
 use Rattle.rules.specs.declared.refusal.Refusal.TheVariants.{LentShort}
 use Rattle.rules.proofs.RefusalLaws.{number_some}
 use Rattle.recordings.specs.declared.heading.RecordingHeading.{RecordingHeading}
-use Rattle.lines.specs.declared.Stop.{Stop}
+use Rattle.lines.specs.declared.CutShort.{CutShort}
 use Rattle.recording_reader.specs.Scanning.{RecordingScanned}
 use Rattle.recording_reader.specs.Reading.{read_answer, ReadRecording}
 
 -- ---- `read_recording`
 -- how many entries are kept: those that an accepted heading says
-pub kept_is : (r : Result RecordingHeading Stop) (of : RecordingHeading → ℕ) (k : ℕ) (P : RecordingHeading → Type 0) → MatchResult r P (λ s. k ≡ 0) → ((h : RecordingHeading) → P h → k ≡ of h)
+pub kept_is : (r : Result RecordingHeading (CutShort RecordingHeading)) (of : RecordingHeading → ℕ) (k : ℕ) (P : RecordingHeading → Type 0) → MatchResult r P (λ s. k ≡ 0) → ((h : RecordingHeading) → P h → k ≡ of h)
     → MatchResult r (λ h. k ≡ of h) (λ s. k ≡ 0)
 kept_is (Ok h) of k P e q = q h e
 kept_is (Err s) of k P e q = e
@@ -65,14 +65,15 @@ module _ (text masks states : List ℕ) where
   module _ (long : max_controllers ≤ length masks) (longer : max_states ≤ length states) (masks' states' : List ℕ) (i j : ℕ) (m n : List ℕ)
       (ms : m ≡ cleared masks' i max_controllers) (ns : n ≡ cleared states' j max_states) where
     -- `read_recording`, another refusal: `read_recording_masks` and `read_recording_states` are zero over their full size
-    pub read_refused : (p : Stop) → RecordingScanned text masks states (Err p) masks' states' → i ≡ 0 → j ≡ 0 → ReadRecording text masks states (Err p.refusal) m n
+    pub read_refused : (p : CutShort RecordingHeading) → RecordingScanned text masks states (Err p) masks' states' → i ≡ 0 → j ≡ 0 → ReadRecording text masks states (Err p.stop.refusal) m n
     unfolding read_recording_masks read_recording_states
     read_refused p s a b =
-        let is : read_recording_number text masks states ≡ number_of p.refusal = scan_number long longer ∙ sym s.ended.number in
+        let e = p.stop.refusal in
+        let is : read_recording_number text masks states ≡ number_of e = scan_number long longer ∙ sym s.ended.number in
         record {
-          answered = refused_is p.refusal is;
-          masks_left = rw is (left_zeroed (number_of p.refusal) max_controllers (scan_recording text).masks masks masks' m s.masks_past s.ended.not_lent (number_some p.refusal) (rw a at ms));
-          states_left = rw is (left_zeroed (number_of p.refusal) max_states (scan_recording text).states states states' n s.states_past s.ended.not_lent (number_some p.refusal) (rw b at ns));
+          answered = refused_is e is;
+          masks_left = rw is (left_zeroed (number_of e) max_controllers (scan_recording text).masks masks masks' m s.masks_past s.ended.not_lent (number_some e) (rw a at ms));
+          states_left = rw is (left_zeroed (number_of e) max_states (scan_recording text).states states states' n s.states_past s.ended.not_lent (number_some e) (rw b at ns));
         }
 
     -- `read_recording`, accepted: `read_recording_answer` is C and N, masks and states are laid and then zeros
@@ -90,9 +91,9 @@ module _ (text masks states : List ℕ) where
         }
 
 -- `read_recording`: lent space is cleared behind what is kept
-pub read_done : (text masks states : List ℕ) → max_controllers ≤ length masks → max_states ≤ length states → (masks' states' : List ℕ) (r : Result RecordingHeading Stop)
+pub read_done : (text masks states : List ℕ) → max_controllers ≤ length masks → max_states ≤ length states → (masks' states' : List ℕ) (r : Result RecordingHeading (CutShort RecordingHeading))
     → RecordingScanned text masks states r masks' states' → (i : ℕ) → MatchResult r (λ h. i ≡ h.controllers) (λ s. i ≡ 0) → (j : ℕ) → MatchResult r (λ h. j ≡ h.count) (λ s. j ≡ 0)
-    → (m n : List ℕ) → m ≡ cleared masks' i max_controllers → n ≡ cleared states' j max_states → (x : Result RecordingHeading Refusal) → MatchResult r (λ h. x ≡ Ok h) (λ s. x ≡ Err s.refusal)
+    → (m n : List ℕ) → m ≡ cleared masks' i max_controllers → n ≡ cleared states' j max_states → (x : Result RecordingHeading Refusal) → MatchResult r (λ h. x ≡ Ok h) (λ s. x ≡ Err s.stop.refusal)
     → ReadRecording text masks states x m n
 read_done text masks states long longer masks' states' (Ok h) s i a j b m n ms ns x e = rw e (read_accepted text masks states long longer masks' states' i j m n ms ns h s a b)
 read_done text masks states long longer masks' states' (Err p) s i a j b m n ms ns x e = rw e (read_refused text masks states long longer masks' states' i j m n ms ns p s a b)

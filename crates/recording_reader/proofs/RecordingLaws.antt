@@ -15,6 +15,7 @@ use Rattle.theorems.proofs.TextNumbers.{recording_of_text_lem}
 use Rattle.lent.specs.Space.{laid}
 use Rattle.lent.proofs.LeftLaws.{laid_past}
 use Rattle.rules.specs.Refusals.{number_of}
+use Rattle.rules.specs.declared.refusal.Refusal.{Refusal}
 use Rattle.rules.proofs.RefusalLaws.{number_some}
 use Rattle.recordings.specs.declared.heading.RecordingHeading.{RecordingHeading}
 use Rattle.gauges.specs.Held.{gauges_in}
@@ -22,13 +23,13 @@ use Rattle.gauges.specs.Scanning.{GaugesScanned}
 use Rattle.gauges.specs.declared.gauge.Gauges.{Gauges}
 use Rattle.lines.specs.Reading.{FirstLine, LinesScanned}
 use Rattle.lines.specs.Told.{next_told}
+use Rattle.lines.specs.declared.CutShort.{CutShort}
 use Rattle.lines.specs.declared.Line.{Line}
 use Rattle.lines.specs.declared.Stop.{Stop}
 use Rattle.lines.proofs.LoopLaws.{Counted}
-use Rattle.lines.proofs.StopLaws.{StopTold}
 use Rattle.lines.proofs.ToldLaws.{told_refused}
 use Rattle.recording_reader.specs.NextLines.{heading_of}
-use Rattle.recording_reader.specs.Scanning.{Room, MaskRoom, RestRoom, RecordingRefused, RecordingScanned}
+use Rattle.recording_reader.specs.Scanning.{Room, MaskRoom, RestRoom, unread, RecordingRefused, RecordingScanned}
 use Rattle.recording_reader.proofs.HeadingLaws.{Headed, headed}
 use Rattle.recording_reader.proofs.ScanLaws.{masks_counted, states_counted, scan_own}
 
@@ -64,22 +65,30 @@ module _ (t : List ℕ) where
 
 -- ---- a reading that stops at a line
 module _ (text : List ℕ) (s : Stop) (inside : s.at ≤ length text) where
-  stopped : number_of s.refusal ≡ (scan_recording text).number → drop s.at text ≡ (scan_recording text).rest → RecordingRefused text s
-  stopped n r =
+  stopped : (h : RecordingHeading) → h.controllers ≤ max_controllers → h.count ≤ max_states → (masks states : List ℕ)
+      → scan_recording text ≡ record { number = number_of s.refusal; controllers = h.controllers; count = h.count; masks = masks; states = states; rest = drop s.at text }
+      → RecordingRefused text (record { read = h; stop = s })
+  stopped h few short masks states e =
+      let n : number_of s.refusal ≡ (scan_recording text).number = sym (ap (λ (q : RecordingScan). q.number) e) in
+      let r : drop s.at text ≡ (scan_recording text).rest = sym (ap (λ (q : RecordingScan). q.rest) e) in
       record {
         number = n;
+        controllers = sym (ap (λ (q : RecordingScan). q.controllers) e);
+        count = sym (ap (λ (q : RecordingScan). q.count) e);
         place = omega (arith, ap length r, length-drop s.at text);
         inside = inside;
         rest = r;
         not_lent = λ q. (recording_of_text_lem text).not_lent (sym n ∙ q);
+        few = few;
+        short = short;
       }
 
   -- before the states
   stopped_early : (masks states masks' : List ℕ) → scan_recording text ≡ recording_stop (number_of s.refusal) (drop s.at text) → drop max_controllers masks' ≡ drop max_controllers masks
-      → RecordingScanned text masks states (Err s) masks' states
+      → RecordingScanned text masks states (Err (unread s)) masks' states
   stopped_early masks states masks' e past =
       record {
-        ended = stopped (sym (ap (λ (q : RecordingScan). q.number) e)) (sym (ap (λ (q : RecordingScan). q.rest) e));
+        ended = stopped (record { controllers = 0; count = 0 }) (omega arith) (omega arith) [] [] e;
         masks_past = past;
         states_laid = ap (λ (q : RecordingScan). laid q.states states) (sym e);
         states_past = refl;
@@ -88,10 +97,10 @@ module _ (text : List ℕ) (s : Stop) (inside : s.at ≤ length text) where
 -- ---- `scan_recording`
 module _ (text masks states : List ℕ) (l : Line) (is : FirstLine text l) where
   -- `scan_recording`, the first line is refused: `scan_recording` stops there with its refusal
-  pub recording_unheaded : (s : Stop) → StopTold (next_told heading_of (recording_heading_line text)) 0 s → RecordingScanned text masks states (Err s) masks states
-  recording_unheaded s r =
-      let e = recording_stop_lem text (number_of s.refusal) (told_refused heading_of (recording_heading_line text) s.refusal r.refused) in
-      stopped_early text s (omega (arith, r.place)) masks states masks (rw r.place e) refl
+  pub recording_unheaded : (r : Refusal) → Err (number_of r) ≡ next_told heading_of (recording_heading_line text) → RecordingScanned text masks states (Err (unread (record { refusal = r; at = 0 }))) masks states
+  recording_unheaded r h =
+      let e = recording_stop_lem text (number_of r) (told_refused heading_of (recording_heading_line text) r h) in
+      stopped_early text (record { refusal = r; at = 0 }) (omega arith) masks states masks e refl
 
   module _ (h : RecordingHeading) (e : Ok h ≡ next_told heading_of (recording_heading_line text)) (room : Room masks states) where
     limits : Headed text h
@@ -115,7 +124,7 @@ module _ (text masks states : List ℕ) (l : Line) (is : FirstLine text l) where
     past masks' x = laid_past max_controllers owned.words masks masks' (omega (arith, counted.most, limits.few)) x
 
     -- `scan_recording`, a mask line is refused: `scan_recording` stops at that line
-    pub recording_unmasked : (s : Stop) (masks' : List ℕ) → LinesScanned owned text masks (Err s) masks' → RecordingScanned text masks states (Err s) masks' states
+    pub recording_unmasked : (s : Stop) (masks' : List ℕ) → LinesScanned owned text masks (Err s) masks' → RecordingScanned text masks states (Err (unread s)) masks' states
     recording_unmasked s masks' m =
         let z : owned.number ≡ 0 → ⊥ = λ q. number_some s.refusal (m.number ∙ q) in
         stopped_early text s m.inside masks states masks' (rw (m.number, m.rest) (scan_is ∙ masks_denied h.controllers h.count owned z)) (past masks' m.words)
@@ -134,10 +143,10 @@ module _ (text masks states : List ℕ) (l : Line) (is : FirstLine text l) where
       after_is = scan_is ∙ (masks_read h.controllers h.count owned (sym m.number) ∙ rw (taken, m.rest))
 
       -- `scan_recording`, a gauge line is refused: `scan_recording` stops at that line
-      pub recording_ungauged : (s : Stop) → GaugesScanned gauged text (Err s) → RecordingScanned text masks states (Err s) masks' states
-      recording_ungauged s g =
-          let z : gauged.number ≡ 0 → ⊥ = λ q. number_some s.refusal (g.number ∙ q) in
-          stopped_early text s g.inside masks states masks' (rw (g.number, g.rest) (after_is ∙ gauges_denied h.controllers h.count (take h.controllers masks') gauged z)) (past masks' m.words)
+      pub recording_ungauged : (c : CutShort Gauges) → GaugesScanned gauged text (Err c) → RecordingScanned text masks states (Err (unread c.stop)) masks' states
+      recording_ungauged c g =
+          let z : gauged.number ≡ 0 → ⊥ = λ q. number_some c.stop.refusal (g.number ∙ q) in
+          stopped_early text c.stop g.inside masks states masks' (rw (g.number, g.rest) (after_is ∙ gauges_denied h.controllers h.count (take h.controllers masks') gauged z)) (past masks' m.words)
 
       module _ (g : Gauges) (gs : GaugesScanned gauged text (Ok g)) where
         pub state_room : RestRoom h g.at text states
@@ -161,11 +170,11 @@ module _ (text masks states : List ℕ) (l : Line) (is : FirstLine text l) where
         states_are : timed.words ≡ (scan_recording text).states
         states_are = sym (ap (λ (q : RecordingScan). q.states) whole)
 
-        -- `scan_recording`, a state line is refused: `scan_recording` stops at that line
-        pub recording_unstated : (s : Stop) (states' : List ℕ) → LinesScanned timed text states (Err s) states' → RecordingScanned text masks states (Err s) masks' states'
+        -- `scan_recording`, a state line is refused: `scan_recording` stops at that line, after C and N
+        pub recording_unstated : (s : Stop) (states' : List ℕ) → LinesScanned timed text states (Err s) states' → RecordingScanned text masks states (Err (record { read = h; stop = s })) masks' states'
         recording_unstated s states' t =
             record {
-              ended = stopped text s t.inside (t.number ∙ sym (ap (λ (q : RecordingScan). q.number) whole)) (t.rest ∙ sym (ap (λ (q : RecordingScan). q.rest) whole));
+              ended = stopped text s t.inside h limits.few limits.short (take h.controllers masks') timed.words (rw (t.number, t.rest) whole);
               masks_past = past masks' m.words;
               states_laid = t.words ∙ ap (λ (w : List ℕ). laid w states) states_are;
               states_past = states_past states' t.words;

@@ -3,6 +3,7 @@ use Rattle.std.specs.Prelude.{◌≡◌, ℕ, ◌-◌, ◌≤◌, List, length, 
 use Rattle.definitions.specs.Limits.{accepted, lent_short, max_controllers, max_states}
 use Rattle.definitions.specs.RecordingText.{scan_recording}
 use Rattle.lent.specs.Space.{laid}
+use Rattle.lines.specs.declared.CutShort.{CutShort}
 use Rattle.lines.specs.declared.Stop.{Stop}
 use Rattle.recordings.specs.declared.heading.RecordingHeading.{RecordingHeading}
 use Rattle.rules.specs.Refusals.{number_of}
@@ -25,6 +26,10 @@ pub record RestRoom (h : RecordingHeading) (start : ℕ) (text states : List ℕ
   pub inside : start ≤ length text
   pub room : max_states ≤ length states
 
+-- where a recording text is refused before its states: there is no C and no N
+abbrev pub unread : Stop → CutShort RecordingHeading
+unread stop = record { read = record { controllers = 0; count = 0 }; stop = stop }
+
 -- a recording text was accepted: C and N, as many masks and states, and the masks are laid over the start of lent space
 pub record RecordingAccepted (text masks : List ℕ) (h : RecordingHeading) (masks' : List ℕ) : Type 0 where
   pub number : accepted ≡ (scan_recording text).number
@@ -36,16 +41,20 @@ pub record RecordingAccepted (text masks : List ℕ) (h : RecordingHeading) (mas
   pub masks_count : length (scan_recording text).masks ≡ h.controllers
   pub states_count : length (scan_recording text).states ≡ h.count
 
--- a recording text was refused: the refusal, and the place of the refused line
-pub record RecordingRefused (text : List ℕ) (stop : Stop) : Type 0 where
-  pub number : number_of stop.refusal ≡ (scan_recording text).number
-  pub place : stop.at ≡ length text - length (scan_recording text).rest
-  pub inside : stop.at ≤ length text
-  pub rest : drop stop.at text ≡ (scan_recording text).rest
-  pub not_lent : number_of stop.refusal ≡ lent_short → ⊥
+-- a recording text was refused: the refusal, C and N, and the place of the refused line
+pub record RecordingRefused (text : List ℕ) (cut : CutShort RecordingHeading) : Type 0 where
+  pub number : number_of cut.stop.refusal ≡ (scan_recording text).number
+  pub controllers : cut.read.controllers ≡ (scan_recording text).controllers
+  pub count : cut.read.count ≡ (scan_recording text).count
+  pub place : cut.stop.at ≡ length text - length (scan_recording text).rest
+  pub inside : cut.stop.at ≤ length text
+  pub rest : drop cut.stop.at text ≡ (scan_recording text).rest
+  pub not_lent : number_of cut.stop.refusal ≡ lent_short → ⊥
+  pub few : cut.read.controllers ≤ max_controllers
+  pub short : cut.read.count ≤ max_states
 
 -- a recording text was read: how it ended, and the states up to there; of lent space only its full size was touched
-pub record RecordingScanned (text masks states : List ℕ) (r : Result RecordingHeading Stop) (masks' states' : List ℕ) : Type 0 where
+pub record RecordingScanned (text masks states : List ℕ) (r : Result RecordingHeading (CutShort RecordingHeading)) (masks' states' : List ℕ) : Type 0 where
   pub ended : MatchResult r (λ h. RecordingAccepted text masks h masks') (RecordingRefused text)
   pub masks_past : drop max_controllers masks' ≡ drop max_controllers masks
   pub states_laid : states' ≡ laid (scan_recording text).states states

@@ -32,5 +32,5 @@ pub fn read_recording(
     let states_kept = read.map_or(0, |heading| heading.count);
     lent::clear(masks, masks_kept, Limits::CONTROLLERS);
     lent::clear(states, states_kept, Limits::STATES);
-    read.map_err(|stop| stop.refusal)
+    read.map_err(|cut| cut.stop.refusal)
 }

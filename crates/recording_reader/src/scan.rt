@@ -7,7 +7,7 @@ ghost use Rattle.at_lines.specs.Measured.{at_told};
 ghost use Rattle.gauges.specs.Held.{gauges_in, gauges_of};
 ghost use Rattle.lines.specs.Reading.{LinesScanned};
 ghost use Rattle.lines.specs.Told.{told};
-ghost use Rattle.recording_reader.specs.Scanning.{Room, MaskRoom, RestRoom, RecordingScanned};
+ghost use Rattle.recording_reader.specs.Scanning.{Room, MaskRoom, RestRoom, unread, RecordingScanned};
 
 use super::line::next_heading;
 use super::mask_line::next_mask;
@@ -15,7 +15,7 @@ use at_lines::measured::next_measured;
 use at_lines::next_state;
 use gauges::gauge::{Gauge, Gauges};
 use gauges::scan::scan_gauges;
-use lines::{Stop, first_line};
+use lines::{CutShort, Stop, first_line};
 use recordings::heading::RecordingHeading;
 use rules::refusal::Refusal;
 
@@ -105,19 +105,36 @@ pub fn scan_plain(
     scan_states(text, Gauges::none(start), heading, masks, states)
 }
 
+// A reading that stops before the states tells no C and no N.
+fn unread(stop: Stop) -> CutShort<RecordingHeading>
+    ensures { result ≡ unread stop }
+{
+    let read = RecordingHeading {
+        controllers: 0,
+        count: 0,
+    };
+    CutShort { read, stop }
+}
+
 // Reads a recording text into `masks` and `states`, up to the first refusal.
 pub fn scan_recording(
     text: &[u8],
     masks: &mut [u32],
     states: &mut [u64],
-) -> Result<RecordingHeading, Stop>
+) -> Result<RecordingHeading, CutShort<RecordingHeading>>
     requires { Room masks.old states.old }
     ensures { RecordingScanned text.now masks.old states.old result masks.new states.new }
 {
     let line = first_line(text);
-    let heading = next_heading(text, line.len).map_err(|refusal| Stop { refusal, at: 0 })?;
-    let start = scan_masks(text, line.next, heading.controllers, masks)?;
-    let gauges = scan_gauges(text, start)?;
-    scan_states(text, gauges, heading, masks, states)?;
+    let opened = next_heading(text, line.len);
+    let heading = opened.map_err(|refusal| unread(Stop { refusal, at: 0 }))?;
+    let owned = scan_masks(text, line.next, heading.controllers, masks);
+    let start = owned.map_err(unread)?;
+    let gauges = scan_gauges(text, start).map_err(|cut| unread(cut.stop))?;
+    let ended = scan_states(text, gauges, heading, masks, states);
+    ended.map_err(|stop| CutShort {
+        read: heading,
+        stop,
+    })?;
     Ok(heading)
 }

@@ -2,13 +2,11 @@
 use mathlib.Core.Path.{◌≡◌, refl, ap, sym, ◌∙◌}
 use mathlib.Core.Bool.{Bool, true, false}
 use mathlib.Core.List.{List, [], ◌∷◌}
-use Prim.Native.Nat.{ℕ, ◌+◌, ◌-◌, ◌^◌, ◌<◌, ◌≤◌}
+use Prim.Native.Nat.{ℕ, ◌≤◌}
 use native.Mathlib.Omega.{arith}
 use lib.Dec.{eqb}
 use lib.ListN.{length, take, drop, get_or, length-take, length-drop}
 use lib.Seq.{take_at}
-use mir.Syntax.{w64}
-use mir.Val.{Fits}
 use borrow.Author.Rules.{rules}
 use borrow.Author.Tests.{ne_eqb, le-ltb}
 use Rattle.std.specs.Prelude.{Ok, Err}
@@ -32,11 +30,11 @@ use Rattle.rules.specs.declared.refusal.Refusal.{Refusal}
 use Rattle.rules.proofs.RefusalLaws.{number_some}
 use Rattle.recordings.specs.Heading.{recording_in}
 use Rattle.rule_reader.proofs.ReadLaws.{rule_low}
-use Rattle.joint_reading.specs.Scanning.{of_rule, part_of}
-use Rattle.joint_reading.specs.declared.scan.Text.TheVariants as text
+use Rattle.joint_reading.specs.Scanning.{part_of}
 use Rattle.joint_reading.specs.Joining.{heading_of, Joined}
 use Rattle.joint_reading.specs.declared.scan.Joined as scan
 use Rattle.joint_reading.specs.declared.scan.Found.{Found}
+use Rattle.joint_reading.proofs.JoinLaws.{part_inside_lem, part_bytes}
 use Rattle.printing.specs.Printing.{Printed}
 use Rattle.report.proofs.ReportLaws.{refused_length}
 use Rattle.report.proofs.RecordingAccepted.{TextsAccepted, texts_accepted, recording_fine, masks_count_lem, states_count_lem}
@@ -61,39 +59,6 @@ not_lent rule recording =
 -- ---- the tables of accepted texts, in lent space of full size
 held : (full count : ℕ) (words entry exit : List ℕ) → length words ≡ count → exit ≡ left 0 full words entry → take count exit ≡ words
 held full count words entry exit c e = rw (e, left_accepted full words entry) (take_at words _ count c)
-
--- ---- `part`
-module _ (f : Found) (x y : List ℕ) (inside : f.from + f.len ≤ length (pick (of_rule f.text) x y)) where
-  count_is_lem : (f.from + f.len) - f.from ≡ f.len
-  count_is_lem = omega arith
-
-  module _ (t : f.text ≡ text.Rule) where
-    pub rule_inside : f.from + f.len ≤ length x
-    unfolding pick
-    rule_inside = rw t at inside
-
-    pub rule_fits : length x < 2 ^ 64 → Fits w64 (f.from + f.len)
-    rule_fits h = record { fits = omega (arith, rule_inside) }
-
-    -- `part`, of the rule text: its bytes
-    pub rule_part : (b : List ℕ) → b ≡ take ((f.from + f.len) - f.from) (drop f.from x) → b ≡ bytes_of x y (part_of f)
-    unfolding pick
-    rule_part b e = e ∙ rw (t, count_is_lem)
-
-  module _ (t : f.text ≡ text.Recording) where
-    pub recording_inside : f.from + f.len ≤ length y
-    unfolding pick
-    recording_inside = rw t at inside
-
-    pub recording_fits : length y < 2 ^ 64 → Fits w64 (f.from + f.len)
-    recording_fits h = record { fits = omega (arith, recording_inside) }
-
-    -- `part`, of the recording text: its bytes
-    pub recording_part : (b : List ℕ) → b ≡ take ((f.from + f.len) - f.from) (drop f.from y) → b ≡ bytes_of x y (part_of f)
-    unfolding pick
-    recording_part b e = e ∙ rw (t, count_is_lem)
-
-pub ruleset part_laws = (rules, rule_inside, rule_fits, rule_part, recording_inside, recording_fits, recording_part)
 
 -- ---- `read_tables`
 module _ (x y nodes masks states nodes' masks' states' text : List ℕ) (f : Found) (j : Joined x y nodes masks states f nodes' masks' states') (room : TextsRoom x y text)
@@ -211,4 +176,4 @@ module _ (x y nodes masks states nodes' masks' states' text : List ℕ) (f : Fou
         unprinted = refl;
       }
 
-pub ruleset read_laws = (rules, refusal_room, refusal_read, joined_within, tables_read)
+pub ruleset read_laws = (rules, part_inside_lem, part_bytes, refusal_room, refusal_read, joined_within, tables_read)

@@ -9,7 +9,7 @@ ghost use Rattle.std.specs.Prelude.{◌≡◌, ◌+◌, ◌≤◌, length, drop}
 ghost use Rattle.definitions.specs.Lines.{line_of};
 ghost use Rattle.definitions.specs.Program.{refused_text};
 ghost use Rattle.printing.specs.Printing.{Printed};
-ghost use Rattle.report.specs.Reporting.{verdicts_end, own_line, rewritten_line, report_text, LineRoom};
+ghost use Rattle.report.specs.Reporting.{verdicts_end, own_line, rewritten_line, report_text, is_refused, LineRoom};
 ghost use Rattle.rules.specs.Refusals.{number_of};
 
 use judges::verdicts::Verdicts;
@@ -101,6 +101,8 @@ pub fn put_stopped(stop: Stop, lines: &[u8], text: &mut [u8]) -> usize
 }
 
 // Whether a refusal is what a program printed that judges.
-pub fn is_refused(printed: &[u8]) -> bool {
+pub fn is_refused(printed: &[u8]) -> bool
+    ensures { result ≡ is_refused printed.now }
+{
     printed.starts_with(b"refused")
 }

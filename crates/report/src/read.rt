@@ -1,13 +1,9 @@
 // Two texts of one input, read into tables: what every program does before it judges.
-ghost use Rattle.std.specs.Prelude.{◌≡◌, ◌+◌, ◌≤◌, length};
-ghost use Rattle.definitions.specs.Bounded.{pick};
-ghost use Rattle.definitions.specs.Program.{bytes_of};
-ghost use Rattle.joint_reading.specs.Scanning.{of_rule, part_of};
 ghost use Rattle.report.specs.ReadTables.{Within, ReadIs, TextsRoom, TextsRead};
 
 use super::put_refused;
 use joint_reading::join;
-use joint_reading::scan::{Found, Joined, Text};
+use joint_reading::scan::Joined;
 use recordings::heading::Recording;
 use rules::limits::Limits;
 use rules::rule::Rule;
@@ -60,18 +56,6 @@ impl Tables {
     }
 }
 
-// The part that the joint reading hands back.
-#[tactic(auto, using(crate::proofs::ReadTableLaws::part_laws))]
-fn part<'a>(found: Found, rule: &'a [u8], recording: &'a [u8]) -> &'a [u8]
-    requires { found.from + found.len ≤ length (pick (of_rule found.text) rule.now recording.now) }
-    ensures { result.now ≡ bytes_of rule.now recording.now (part_of found) }
-{
-    match found.text {
-        Text::Rule => &rule[found.from..found.from + found.len],
-        Text::Recording => &recording[found.from..found.from + found.len],
-    }
-}
-
 // Reads both texts. A refusal's number and line are printed, and so many bytes are answered; of accepted tables nothing is printed.
 pub fn read_tables<'a>(
     rule: &[u8],
@@ -92,7 +76,7 @@ pub fn read_tables<'a>(
     match found.read {
         Ok(joined) => Ok(tables.read(joined)),
         Err(refusal) => {
-            let printed = put_refused(refusal, part(found, rule, recording), text);
+            let printed = put_refused(refusal, found.part(rule, recording), text);
             Err(printed)
         }
     }

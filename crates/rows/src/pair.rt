@@ -114,6 +114,6 @@ pub fn operate(kind: Kind, p: Pair, q: Pair) -> Pair
             weak: p.weak.since(q.weak),
             strong: p.strong.since(q.strong),
         },
-        Kind::True | Kind::Atom | Kind::Run | Kind::End | Kind::Unknown => unreachable!(),
+        Kind::True | Kind::Atom | Kind::Run | Kind::End | Kind::Unknown(_) => unreachable!(),
     }
 }

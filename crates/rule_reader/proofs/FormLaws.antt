@@ -16,6 +16,7 @@ use Rattle.definitions.specs.Nodes.{Kind, Unknown, node, operands}
 use Rattle.definitions.specs.Tables.{is_unknown}
 use Rattle.definitions.specs.Lines.{tab, before, carriage_return, has, up_to, after, Parsed, formed, malformed, on_parsed, decimal, Heading, heading, two_fields, letters}
 use Rattle.definitions.specs.RuleText.{word_kind, unknown_form, operands_form, node_form}
+use Rattle.kind_words.specs.declared.TheConstants.{UNKNOWN}
 use Rattle.rules.specs.Kinds.{kind_in}
 use Rattle.rules.specs.Meaning.{meaning}
 use Rattle.rules.specs.declared.kind.Kind as told
@@ -138,7 +139,7 @@ module _ (s word : List ℕ) (is : word ≡ up_to tab s) where
       unknown_return h = rw (← is, ← z, ← t, ← js, lt-ltb j (length s) h)
 
       -- `unknown_form`, letters and no carriage return: `unknown_form` is a node of unknown kind
-      pub unknown_read : (n : Node) → n ≡ record { kind = code.Unknown; first = 0; second = 0 } → length s ≤ j → meant (Some n) ≡ capped_form (unknown_form s)
+      pub unknown_read : (n : Node) → n ≡ record { kind = code.Unknown UNKNOWN; first = 0; second = 0 } → length s ≤ j → meant (Some n) ≡ capped_form (unknown_form s)
       unfolding meant unknown_form capped_form pick
       unknown_read n m h = rw (m, ← is, ← z, ← t, ← js, le-ltb j (length s) h, zero_capped)
 

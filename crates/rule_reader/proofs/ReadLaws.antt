@@ -23,13 +23,13 @@ use Rattle.rules.specs.declared.rule.RuleHeading.{RuleHeading}
 use Rattle.rules.proofs.RefusalLaws.{number_some}
 use Rattle.lines.specs.Reading.{FirstLine, LinesScanned}
 use Rattle.lines.specs.Told.{next_told}
+use Rattle.lines.specs.declared.CutShort.{CutShort}
 use Rattle.lines.specs.declared.Line.{Line}
 use Rattle.lines.specs.declared.Stop.{Stop}
 use Rattle.lines.proofs.LoopLaws.{Counted}
-use Rattle.lines.proofs.StopLaws.{StopTold}
 use Rattle.lines.proofs.ToldLaws.{told_refused}
 use Rattle.rule_reader.specs.NextLines.{heading_of}
-use Rattle.rule_reader.specs.Reading.{Room, NodeRoom, RuleScanned, ReadRule}
+use Rattle.rule_reader.specs.Reading.{Room, NodeRoom, unread, RuleScanned, ReadRule}
 use Rattle.rule_reader.proofs.HeadingLaws.{Headed, headed}
 use Rattle.rule_reader.proofs.LoopLaws.{nodes_counted}
 
@@ -39,17 +39,20 @@ pub rule_low : (t : List ℕ) → (scan_rule t).number < no_controller
 rule_low = rule_text_number (λ n. n < no_controller) (omega arith) (omega arith) (omega arith) (omega arith) (omega arith)
 
 module _ (t o : List ℕ) (l : Line) (is : FirstLine t l) where
-  -- `scan_rule`, the first line is refused: `scan_rule` stops there with its refusal
-  pub rule_unheaded : (s : Stop) → StopTold (next_told heading_of (rule_heading_line t)) 0 s → RuleScanned t o (Err s) o
-  rule_unheaded s r =
-      let e : scan_rule t ≡ rule_stop (number_of s.refusal) t = rule_stop_lem t (number_of s.refusal) (told_refused heading_of (rule_heading_line t) s.refusal r.refused) in
+  -- `scan_rule`, the first line is refused: `scan_rule` stops there with its refusal, and tells zeros
+  pub rule_unheaded : (r : Refusal) → Err (number_of r) ≡ next_told heading_of (rule_heading_line t) → RuleScanned t o (Err (unread r)) o
+  rule_unheaded r h =
+      let e : scan_rule t ≡ rule_stop (number_of r) t = rule_stop_lem t (number_of r) (told_refused heading_of (rule_heading_line t) r h) in
       record {
         ended = record {
           number = sym (ap (λ (q : RuleScan). q.number) e);
-          place = rw e (omega (arith, r.place));
-          inside = omega (arith, r.place);
-          rest = rw (e, r.place);
+          controller = sym (ap (λ (q : RuleScan). q.controller) e);
+          count = sym (ap (λ (q : RuleScan). q.count) e);
+          place = rw e (omega arith);
+          inside = omega arith;
+          rest = rw e;
           low = omega (arith, ap (λ (q : RuleScan). q.number) e, rule_low t);
+          few = omega arith;
         };
         nodes_laid = rw e;
         nodes_past = refl;
@@ -74,18 +77,21 @@ module _ (t o : List ℕ) (l : Line) (is : FirstLine t l) where
     past : (o' : List ℕ) → o' ≡ laid nodes.words o → drop max_rule_nodes o' ≡ drop max_rule_nodes o
     past o' x = laid_past max_rule_nodes nodes.words o o' (omega (arith, counted.most, head.few)) x
 
-    -- `scan_rule`, a node line is refused: `scan_rule` stops at that line
-    pub rule_stopped : (s : Stop) (o' : List ℕ) → LinesScanned nodes t o (Err s) o' → RuleScanned t o (Err s) o'
+    -- `scan_rule`, a node line is refused: `scan_rule` stops at that line, and tells controller and count
+    pub rule_stopped : (s : Stop) (o' : List ℕ) → LinesScanned nodes t o (Err s) o' → RuleScanned t o (Err (record { read = h; stop = s })) o'
     rule_stopped s o' m =
         let number : number_of s.refusal ≡ (scan_rule t).number = m.number ∙ sym (ap (λ (q : RuleScan). q.number) whole) in
         let rest : drop s.at t ≡ (scan_rule t).rest = m.rest ∙ sym (ap (λ (q : RuleScan). q.rest) whole) in
         record {
           ended = record {
             number = number;
+            controller = sym (ap (λ (q : RuleScan). q.controller) whole);
+            count = sym (ap (λ (q : RuleScan). q.count) whole);
             place = omega (arith, ap length rest, length-drop s.at t, m.inside);
             inside = m.inside;
             rest = rest;
             low = omega (arith, number, rule_low t);
+            few = head.few;
           };
           nodes_laid = rw whole m.words;
           nodes_past = past o' m.words;
@@ -111,7 +117,7 @@ refused_is : (n : ℕ) (vs : List ℕ) → (n ≡ 0 → ⊥) → answer n [] ≡
 refused_is n vs z = sym (refused_answer n [] z) ∙ refused_answer n vs z
 
 -- `read_rule`: how many nodes are kept
-pub kept_is : (r : Result RuleHeading Stop) (k : ℕ) (P : RuleHeading → Type 0) → MatchResult r P (λ s. k ≡ 0) → ((h : RuleHeading) → P h → k ≡ h.count) → MatchResult r (λ h. k ≡ h.count) (λ s. k ≡ 0)
+pub kept_is : (r : Result RuleHeading (CutShort RuleHeading)) (k : ℕ) (P : RuleHeading → Type 0) → MatchResult r P (λ s. k ≡ 0) → ((h : RuleHeading) → P h → k ≡ h.count) → MatchResult r (λ h. k ≡ h.count) (λ s. k ≡ 0)
 kept_is (Ok h) k P e q = q h e
 kept_is (Err s) k P e q = e
 
@@ -136,13 +142,14 @@ module _ (t o : List ℕ) where
 
   module _ (long : max_rule_nodes ≤ length o) (o' o'' : List ℕ) where
     -- `read_rule`, another refusal: `read_rule_nodes` is zero over its full size
-    read_refused : (s : Stop) → RuleScanned t o (Err s) o' → (k : ℕ) → k ≡ 0 → o'' ≡ cleared o' k max_rule_nodes → ReadRule t o (Err s.refusal) o''
+    read_refused : (s : CutShort RuleHeading) → RuleScanned t o (Err s) o' → (k : ℕ) → k ≡ 0 → o'' ≡ cleared o' k max_rule_nodes → ReadRule t o (Err s.stop.refusal) o''
     unfolding read_rule_answer read_rule_nodes
     read_refused s r k z c =
-        let is : read_rule_number t o ≡ number_of s.refusal = number_scanned long ∙ sym r.ended.number in
+        let e = s.stop.refusal in
+        let is : read_rule_number t o ≡ number_of e = number_scanned long ∙ sym r.ended.number in
         record {
-          answered = rw is (refused_is (number_of s.refusal) _ (number_some s.refusal));
-          nodes = rw is (left_zeroed (number_of s.refusal) max_rule_nodes (scan_rule t).words o o' o'' r.nodes_past (λ q. omega (arith, r.ended.low)) (number_some s.refusal) (rw z at c));
+          answered = rw is (refused_is (number_of e) _ (number_some e));
+          nodes = rw is (left_zeroed (number_of e) max_rule_nodes (scan_rule t).words o o' o'' r.nodes_past (λ q. omega (arith, r.ended.low)) (number_some e) (rw z at c));
         }
 
     -- `read_rule`, accepted: `read_rule_answer` is controller and count, `read_rule_nodes` the words and then zeros
@@ -158,7 +165,7 @@ module _ (t o : List ℕ) where
         }
 
 -- `read_rule`: lent space is cleared behind what is kept
-pub read_done : (t o o' o'' : List ℕ) → max_rule_nodes ≤ length o → (r : Result RuleHeading Stop) → RuleScanned t o r o' → (k : ℕ) → MatchResult r (λ h. k ≡ h.count) (λ s. k ≡ 0)
-    → o'' ≡ cleared o' k max_rule_nodes → (x : Result RuleHeading Refusal) → MatchResult r (λ h. x ≡ Ok h) (λ s. x ≡ Err s.refusal) → ReadRule t o x o''
+pub read_done : (t o o' o'' : List ℕ) → max_rule_nodes ≤ length o → (r : Result RuleHeading (CutShort RuleHeading)) → RuleScanned t o r o' → (k : ℕ) → MatchResult r (λ h. k ≡ h.count) (λ s. k ≡ 0)
+    → o'' ≡ cleared o' k max_rule_nodes → (x : Result RuleHeading Refusal) → MatchResult r (λ h. x ≡ Ok h) (λ s. x ≡ Err s.stop.refusal) → ReadRule t o x o''
 read_done t o o' o'' long (Ok h) s k e c x a = rw a (read_accepted t o long o' o'' h s k e c)
 read_done t o o' o'' long (Err p) s k e c x a = rw a (read_refused t o long o' o'' p s k e c)

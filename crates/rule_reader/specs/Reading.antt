@@ -4,7 +4,7 @@ use Rattle.definitions.specs.Limits.{accepted, lent_short, max_rule_nodes}
 use Rattle.definitions.specs.RuleText.{scan_rule}
 use Rattle.definitions.specs.Operations.{Answer, read_rule_answer, read_rule_nodes}
 use Rattle.lent.specs.Space.{laid}
-use Rattle.lines.specs.declared.Stop.{Stop}
+use Rattle.lines.specs.declared.CutShort.{CutShort}
 use Rattle.rules.specs.Answers.{answer_of}
 use Rattle.rules.specs.Refusals.{number_of}
 use Rattle.rules.specs.declared.refusal.Refusal.{Refusal}
@@ -20,6 +20,10 @@ pub record NodeRoom (count start : ℕ) (text nodes : List ℕ) : Type 0 where
   pub inside : start ≤ length text
   pub room : max_rule_nodes ≤ length nodes
 
+-- where a rule text is refused by its first line: there is no controller and no count
+abbrev pub unread : Refusal → CutShort RuleHeading
+unread refusal = record { read = record { controller = 0; count = 0 }; stop = record { refusal = refusal; at = 0 } }
+
 -- a rule text was accepted: controller and count, and as many words as there are nodes
 pub record RuleAccepted (text : List ℕ) (h : RuleHeading) : Type 0 where
   pub number : accepted ≡ (scan_rule text).number
@@ -28,16 +32,19 @@ pub record RuleAccepted (text : List ℕ) (h : RuleHeading) : Type 0 where
   pub few : h.count ≤ max_rule_nodes
   pub nodes_count : length (scan_rule text).words ≡ h.count
 
--- a rule text was refused: the refusal, and the place of the refused line
-pub record RuleRefused (text : List ℕ) (stop : Stop) : Type 0 where
-  pub number : number_of stop.refusal ≡ (scan_rule text).number
-  pub place : stop.at ≡ length text - length (scan_rule text).rest
-  pub inside : stop.at ≤ length text
-  pub rest : drop stop.at text ≡ (scan_rule text).rest
-  pub low : number_of stop.refusal < lent_short
+-- a rule text was refused: the refusal, controller and count, and the place of the refused line
+pub record RuleRefused (text : List ℕ) (cut : CutShort RuleHeading) : Type 0 where
+  pub number : number_of cut.stop.refusal ≡ (scan_rule text).number
+  pub controller : cut.read.controller ≡ (scan_rule text).controller
+  pub count : cut.read.count ≡ (scan_rule text).count
+  pub place : cut.stop.at ≡ length text - length (scan_rule text).rest
+  pub inside : cut.stop.at ≤ length text
+  pub rest : drop cut.stop.at text ≡ (scan_rule text).rest
+  pub low : number_of cut.stop.refusal < lent_short
+  pub few : cut.read.count ≤ max_rule_nodes
 
 -- a rule text was read: how it ended, and the words up to there
-pub record RuleScanned (text entry : List ℕ) (r : Result RuleHeading Stop) (exit : List ℕ) : Type 0 where
+pub record RuleScanned (text entry : List ℕ) (r : Result RuleHeading (CutShort RuleHeading)) (exit : List ℕ) : Type 0 where
   pub ended : MatchResult r (RuleAccepted text) (RuleRefused text)
   pub nodes_laid : exit ≡ laid (scan_rule text).words entry
   pub nodes_past : drop max_rule_nodes exit ≡ drop max_rule_nodes entry

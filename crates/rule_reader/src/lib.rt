@@ -8,10 +8,10 @@ pub mod node_line;
 ghost use Rattle.std.specs.Prelude.{◌≡◌, drop};
 ghost use Rattle.definitions.specs.RuleText.{scan_nodes};
 ghost use Rattle.lines.specs.Reading.{LinesScanned};
-ghost use Rattle.rule_reader.specs.Reading.{Room, NodeRoom, RuleScanned, ReadRule};
+ghost use Rattle.rule_reader.specs.Reading.{Room, NodeRoom, unread, RuleScanned, ReadRule};
 
 use heading_line::next_heading;
-use lines::{Stop, first_line};
+use lines::{CutShort, Stop, first_line};
 use node_line::next_node;
 use rules::limits::Limits;
 use rules::refusal::Refusal;
@@ -36,14 +36,30 @@ fn scan_nodes(text: &[u8], start: usize, count: usize, nodes: &mut [u32]) -> Res
     Ok(at)
 }
 
+// A first line that is refused tells no controller and no count.
+fn unread(refusal: Refusal) -> CutShort<RuleHeading>
+    ensures { result ≡ unread refusal }
+{
+    let read = RuleHeading {
+        controller: 0,
+        count: 0,
+    };
+    let stop = Stop { refusal, at: 0 };
+    CutShort { read, stop }
+}
+
 // Reads a rule text into `nodes`, up to the first refusal.
-pub fn scan_rule(text: &[u8], nodes: &mut [u32]) -> Result<RuleHeading, Stop>
+pub fn scan_rule(text: &[u8], nodes: &mut [u32]) -> Result<RuleHeading, CutShort<RuleHeading>>
     requires { Room nodes.old }
     ensures { RuleScanned text.now nodes.old result nodes.new }
 {
     let line = first_line(text);
-    let heading = next_heading(text, line.len).map_err(|refusal| Stop { refusal, at: 0 })?;
-    scan_nodes(text, line.next, heading.count, nodes)?;
+    let heading = next_heading(text, line.len).map_err(unread)?;
+    let ended = scan_nodes(text, line.next, heading.count, nodes);
+    ended.map_err(|stop| CutShort {
+        read: heading,
+        stop,
+    })?;
     Ok(heading)
 }
 
@@ -57,5 +73,5 @@ pub fn read_rule(text: &[u8], nodes: &mut [u32]) -> Result<RuleHeading, Refusal>
     let read = scan_rule(text, nodes);
     let kept = read.map_or(0, |heading| heading.count);
     lent::clear(nodes, kept, Limits::RULE_NODES);
-    read.map_err(|stop| stop.refusal)
+    read.map_err(|cut| cut.stop.refusal)
 }

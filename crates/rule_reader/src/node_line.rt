@@ -10,7 +10,7 @@ ghost use Rattle.rules.specs.Kinds.{kind_in};
 ghost use Rattle.rule_reader.specs.NextLines.{meant, capped_form, operand_fields};
 
 use fields::{form, number};
-use kind_words::kind_of_word;
+use kind_words::{UNKNOWN, kind_of_word};
 use lines::{check_end, scan};
 use rules::kind::Kind;
 use rules::node::Node;
@@ -58,7 +58,7 @@ fn unknown_form(word: &[u8], s: &[u8]) -> Option<Node>
     if scan::until_byte(s, scan::CARRIAGE_RETURN) < s.len() {
         return None;
     }
-    Some(Node::new(Kind::Unknown, 0, 0))
+    Some(Node::new(Kind::Unknown(UNKNOWN), 0, 0))
 }
 
 fn node_form(s: &[u8]) -> Option<Node>

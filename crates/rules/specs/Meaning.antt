@@ -2,7 +2,7 @@
 use Rattle.std.specs.Prelude.{ℕ, ◌/◌, ◌%◌, ◌*◌, ◌<◌, ◌≡◌}
 use Rattle.definitions.specs.Nodes as table
 use Rattle.definitions.specs.Nodes.{Kind, Unknown, node, kind_span, operand_span, node_of}
-use Rattle.rules.specs.Kinds.{kind_in}
+use Rattle.rules.specs.Kinds.{kind_in, number_in}
 use Rattle.rules.specs.declared.node.Node.{Node}
 
 abbrev pub meaning : Node → table.Node
@@ -11,6 +11,7 @@ meaning n = node (kind_in n.kind) n.first n.second
 -- r is the node that the word w is
 pub record OfWord (w : ℕ) (r : Node) : Type 0 where
   pub meant : meaning r ≡ node_of w
+  pub kind : number_in r.kind ≡ w % kind_span
   pub first : r.first ≡ w / kind_span % operand_span
   pub second : r.second ≡ w / (kind_span * operand_span)
   pub first_low : r.first < operand_span

@@ -1,8 +1,8 @@
 // The kinds of nodes. "Each kind has one fixed number"; any other number is an unknown kind.
 ghost use Rattle.std.specs.Prelude.{◌≡◌, eqb};
-ghost use Rattle.definitions.specs.Nodes.{kind_of, kind_number, operands};
+ghost use Rattle.definitions.specs.Nodes.{kind_number, operands};
 ghost use Rattle.definitions.specs.Tables.{is_unknown, is_rewritten};
-ghost use Rattle.rules.specs.Kinds.{kind_in, is_leaf};
+ghost use Rattle.rules.specs.Kinds.{kind_in, OfNumber, is_leaf};
 
 #[derive(Clone, Copy, PartialEq, Eq)]
 pub enum Kind {
@@ -16,11 +16,12 @@ pub enum Kind {
     Since,
     Run,
     End,
-    Unknown,
+    // Keeps the number that it is told by.
+    Unknown(u8),
 }
 
 impl From<u8> for Kind {
-    ghost from_gives = { λ number kind. kind_in kind ≡ kind_of number };
+    ghost from_gives = { λ number kind. OfNumber number kind };
 
     fn from(number: u8) -> Kind {
         match number {
@@ -34,7 +35,7 @@ impl From<u8> for Kind {
             7 => Kind::Since,
             8 => Kind::Run,
             9 => Kind::End,
-            _ => Kind::Unknown,
+            _ => Kind::Unknown(number),
         }
     }
 }
@@ -43,13 +44,25 @@ impl Kind {
     pub fn number(self) -> u8
         ensures { result ≡ kind_number (kind_in self) }
     {
-        self as u8
+        match self {
+            Kind::True => 0,
+            Kind::Atom => 1,
+            Kind::Not => 2,
+            Kind::Or => 3,
+            Kind::Next => 4,
+            Kind::Until => 5,
+            Kind::Prev => 6,
+            Kind::Since => 7,
+            Kind::Run => 8,
+            Kind::End => 9,
+            Kind::Unknown(_) => 10,
+        }
     }
 
     pub fn is_unknown(self) -> bool
         ensures { result ≡ is_unknown (kind_in self) }
     {
-        self == Kind::Unknown
+        matches!(self, Kind::Unknown(_))
     }
 
     // "8 and 9 only in rewritten tables"
@@ -71,7 +84,7 @@ impl Kind {
     {
         matches!(
             self,
-            Kind::True | Kind::Atom | Kind::Run | Kind::End | Kind::Unknown
+            Kind::True | Kind::Atom | Kind::Run | Kind::End | Kind::Unknown(_)
         )
     }
 
@@ -82,7 +95,7 @@ impl Kind {
         match self {
             Kind::Or | Kind::Until | Kind::Since => 2,
             Kind::Atom | Kind::Not | Kind::Next | Kind::Prev => 1,
-            Kind::True | Kind::Run | Kind::End | Kind::Unknown => 0,
+            Kind::True | Kind::Run | Kind::End | Kind::Unknown(_) => 0,
         }
     }
 }

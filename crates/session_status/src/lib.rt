@@ -4,16 +4,15 @@
 pub mod space;
 
 ghost use Rattle.std.specs.Prelude.{◌≡◌, ◌≤◌, length};
+ghost use Rattle.definitions.specs.Sessions.{lent_space};
 ghost use Rattle.definitions.specs.Watching.{status_text, verdict_fields};
 ghost use Rattle.printing.specs.Printing.{Printed};
 ghost use Rattle.session_status.specs.Status.{max_printed};
-ghost use Rattle.session_status.specs.Spaces.{space_in};
 
 use judges::verdicts::Verdicts;
 use printing::put_line;
 use sessions::heading::Heading;
 use sessions::query::session_verdicts;
-use space::Space;
 
 // "yes" or "no" twice, the weak verdict first, and what they come to.
 #[tactic(auto, unfolding(definitions::specs::Watching::verdict_fields, definitions::specs::Watching::verdict_word, definitions::specs::Bounded::pick))]
@@ -29,12 +28,18 @@ fn end_of(v: Verdicts) -> &'static [u8]
 }
 
 // Without verdicts, how many states are held, alone.
-pub fn put_status(space: &Space, text: &mut [u8]) -> usize
+pub fn put_status(
+    heading: &[usize; Heading::NUMBERS],
+    masks: &[u32],
+    nodes: &[u32],
+    states: &[u64],
+    text: &mut [u8],
+) -> usize
     requires { max_printed ≤ length text.old }
-    ensures { Printed (status_text (space_in space.now)) text.old 0 result text.new }
+    ensures { Printed (status_text (lent_space heading.now masks.now nodes.now states.now)) text.old 0 result text.new }
 {
-    let held = space.heading[Heading::HELD] as u64;
-    let judged = session_verdicts(&space.heading, &space.masks, &space.nodes, &space.states);
+    let held = heading[Heading::HELD] as u64;
+    let judged = session_verdicts(heading, masks, nodes, states);
     match judged.ok().flatten() {
         Some(verdicts) => put_line(b"states", held, end_of(verdicts), 0, text),
         None => put_line(b"states", held, b"\n", 0, text),

@@ -30,7 +30,7 @@ under_other code.Prev weak strong n = refl
 under_other code.Since weak strong n = refl
 under_other code.Run weak strong n = refl
 under_other code.End weak strong n = refl
-under_other code.Unknown weak strong n = refl
+under_other (code.Unknown u) weak strong n = refl
 
 -- the rows of both readings, for the readings of the operands
 module _ (w u p q : Pair) (E : PairsEven w u p q) (a b : Step) where

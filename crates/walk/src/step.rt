@@ -105,6 +105,6 @@ pub fn step_of(kind: Kind, operator: Operator<Row>) -> Step
         Kind::Until => until_step(operator),
         Kind::Prev => of_first(operator.wanted.next(false)),
         Kind::Since => since_step(operator),
-        Kind::True | Kind::Atom | Kind::Run | Kind::End | Kind::Unknown => unreachable!(),
+        Kind::True | Kind::Atom | Kind::Run | Kind::End | Kind::Unknown(_) => unreachable!(),
     }
 }

@@ -23,6 +23,7 @@ use Rattle.theorems.proofs.Choice.{by_test, both_true}
 use Rattle.theorems.proofs.LentSpace.{left_accepted}
 use Rattle.theorems.proofs.InputSplit.{split_inside}
 use Rattle.lent.specs.Space.{laid}
+use Rattle.lines.specs.declared.CutShort.{CutShort}
 use Rattle.lines.specs.declared.Stop.{Stop}
 use Rattle.rule_reader.specs.Reading.{RuleAccepted, RuleRefused}
 use Rattle.rules.specs.declared.rule.RuleHeading.{RuleHeading}
@@ -184,11 +185,11 @@ module _ (ended : Bool) (rule session : List ℕ) (h : Space) (output : List ℕ
   texts = opened_texts ended rule session
 
   -- `open_texts`, the rule text is refused: so is `opened_texts`
-  pub texts_rule_refused : (stop : Stop) → RuleRefused rule stop → (r : Stepped) (output' : List ℕ) →
-      RefusedIs (Refuses (number_of stop.refusal) (line_of (drop stop.at rule))) output r output' → OpenStep texts h output r h output'
-  texts_rule_refused stop t r output' d =
+  pub texts_rule_refused : (cut : CutShort RuleHeading) → RuleRefused rule cut → (r : Stepped) (output' : List ℕ) →
+      RefusedIs (Refuses (number_of cut.stop.refusal) (line_of (drop cut.stop.at rule))) output r output' → OpenStep texts h output r h output'
+  texts_rule_refused cut t r output' d =
       denied texts (scan_rule rule).number (line_of (scan_rule rule).rest) h output output' r
-      (rule_refuses ended rule session (λ q. number_some stop.refusal (t.number ∙ q))) (rw (t.number, t.rest) at d)
+      (rule_refuses ended rule session (λ q. number_some cut.stop.refusal (t.number ∙ q))) (rw (t.number, t.rest) at d)
 
   module _ (u : RuleHeading) (a : RuleAccepted rule u) where
     rule_fine : (scan_rule rule).number ≡ 0

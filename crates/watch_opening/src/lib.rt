@@ -97,7 +97,13 @@ fn open_read(
     match opened {
         Ok(()) => Stepped {
             phase: Phase::Running,
-            printed: put_status(space, output),
+            printed: put_status(
+                &space.heading,
+                &space.masks,
+                &space.nodes,
+                &space.states,
+                output,
+            ),
         },
         Err(refusal) => refuse(Stop { refusal, at: 0 }, text, output),
     }
@@ -117,7 +123,7 @@ fn open_texts(
     let mut nodes = [0u32; Limits::RULE_NODES];
     let heading = match scan_rule(text, &mut nodes) {
         Ok(heading) => heading,
-        Err(stop) => return refuse(stop, text, output),
+        Err(cut) => return refuse(cut.stop, text, output),
     };
     let mut owned = [0u32; Limits::CONTROLLERS];
     match scan_session(session, &mut owned) {

@@ -18,7 +18,7 @@ use Rattle.definitions.specs.Sessions.{Space, lent_space, Call, Replace, replace
 use Rattle.definitions.specs.Watching as watching
 use Rattle.definitions.specs.Watching.{event_text, status_text, begins_rule, replace_call, runs, refuses_event, calls, rule_so_far, rule_step}
 use Rattle.lent.specs.Space.{laid}
-use Rattle.lines.specs.declared.Stop.{Stop}
+use Rattle.lines.specs.declared.CutShort.{CutShort}
 use Rattle.printing.specs.Printing.{Printed}
 use Rattle.printing.proofs.PrintLaws.{printed_none}
 use Rattle.printing.proofs.LineLaws.{printed_all}
@@ -99,11 +99,11 @@ pub ruleset replace_laws = (rules, replace_refused, replace_taken)
 
 -- ---- `take_text`
 module _ (ended : Bool) (text : List ℕ) (h : Space) (output : List ℕ) where
-  module _ (stop : Stop) (t : RuleRefused text stop) where
+  module _ (cut : CutShort RuleHeading) (t : RuleRefused text cut) where
     denied : eqb (scan_rule text).number accepted ≡ false
-    denied = ne_eqb (scan_rule text).number 0 (λ q. number_some stop.refusal (t.number ∙ q))
+    denied = ne_eqb (scan_rule text).number 0 (λ q. number_some cut.stop.refusal (t.number ∙ q))
 
-    module _ (b : Bool) (bs : b ≡ (not ended && eqb (number_of stop.refusal) rule_lines)) where
+    module _ (b : Bool) (bs : b ≡ (not ended && eqb (number_of cut.stop.refusal) rule_lines)) where
       lacks : (not ended && eqb (scan_rule text).number rule_lines) ≡ b
       lacks = sym (rw t.number at bs)
 
@@ -114,7 +114,7 @@ module _ (ended : Bool) (text : List ℕ) (h : Space) (output : List ℕ) where
 
       -- `take_text`, a line is refused: `rule_so_far` prints it, and the former rule stays
       pub rule_refused : b ≡ false → (s : Stepped) (r : ℕ) → s ≡ running r → (output' : List ℕ) →
-          Printed (refused_text (number_of stop.refusal) (event_text (drop stop.at text))) output 0 r output' →
+          Printed (refused_text (number_of cut.stop.refusal) (event_text (drop cut.stop.at text))) output 0 r output' →
           SteppedIs (rule_so_far ended text h) text h output s h output'
       unfolding rule_so_far pick
       rule_refused e s r se output' p =

@@ -1,11 +1,11 @@
 // A line of the input as an event: the call that it is, taken where it isn't refused.
-ghost use Rattle.std.specs.Prelude.{◌≡◌, ◌≤◌, length, drop};
+ghost use Rattle.std.specs.Prelude.{◌≡◌, ℕ, ◌≤◌, List, length, drop};
 ghost use Rattle.definitions.specs.Lines.{line_length};
 ghost use Rattle.definitions.specs.Program.{refused_text};
+ghost use Rattle.definitions.specs.Sessions.{lent_space};
 ghost use Rattle.definitions.specs.Watching.{call_of, event_text};
 ghost use Rattle.printing.specs.Printing.{Printed};
 ghost use Rattle.rules.specs.Refusals.{number_of, refusal_in};
-ghost use Rattle.session_status.specs.Spaces.{space_in};
 ghost use Rattle.session_status.specs.Status.{max_printed};
 ghost use Rattle.watch_program.specs.Events.{meant, Taken, RefusedRoom, EventIs};
 
@@ -17,7 +17,6 @@ use report::put_refused;
 use rules::limits::Limits;
 use rules::refusal::Refusal;
 use session_status::put_status;
-use session_status::space::Space;
 use sessions::arrival::arrive;
 use sessions::heading::Heading;
 use sessions::withdrawal::withdraw;
@@ -46,18 +45,18 @@ fn event_of(controllers: usize, line: &[u8], len: usize) -> Option<Event>
     Some(Event::Arrival(state_of(marks, word)))
 }
 
-// The call's refusal, or 5 where it is none.
-fn take_event(event: Option<Event>, space: &mut Space) -> Result<(), Refusal>
-    ensures { Taken event (space_in space.old) (refusal_in result) (space_in space.new) }
+// The call's refusal, or 5 where it is none, whatever the nodes are.
+fn take_event(
+    event: Option<Event>,
+    heading: &mut [usize; Heading::NUMBERS],
+    masks: &[u32],
+    states: &mut [u64],
+) -> Result<(), Refusal>
+    ensures { (nodes : List ℕ) → Taken event (lent_space heading.old masks.now nodes states.old) (refusal_in result) (lent_space heading.new masks.now nodes states.new) }
 {
     match event {
-        Some(Event::Arrival(state)) => arrive(
-            state,
-            &mut space.heading,
-            &space.masks,
-            &mut space.states,
-        ),
-        Some(Event::Withdrawal) => withdraw(&mut space.heading, &mut space.states),
+        Some(Event::Arrival(state)) => arrive(state, heading, masks, states),
+        Some(Event::Withdrawal) => withdraw(heading, states),
         None => Err(Refusal::RecordingForm),
     }
 }
@@ -74,14 +73,21 @@ pub fn refuse_line(stop: Stop, text: &[u8], output: &mut [u8]) -> usize
 }
 
 // Takes the event of a line, and prints the session's line, or the refused line itself.
-pub fn follow(line: &[u8], space: &mut Space, text: &mut [u8]) -> usize
+pub fn follow(
+    line: &[u8],
+    heading: &mut [usize; Heading::NUMBERS],
+    masks: &[u32],
+    nodes: &[u32],
+    states: &mut [u64],
+    text: &mut [u8],
+) -> usize
     requires { max_printed ≤ length text.old }
-    ensures { EventIs line.now (space_in space.old) text.old result (space_in space.new) text.new }
+    ensures { EventIs line.now (lent_space heading.old masks.now nodes.now states.old) text.old result (lent_space heading.new masks.now nodes.now states.new) text.new }
 {
     let first = first_line(line);
-    let event = event_of(space.heading[Heading::CONTROLLERS], line, first.len);
-    match take_event(event, space) {
-        Ok(()) => put_status(space, text),
+    let event = event_of(heading[Heading::CONTROLLERS], line, first.len);
+    match take_event(event, heading, masks, states) {
+        Ok(()) => put_status(heading, masks, nodes, states, text),
         Err(refusal) => refuse_line(Stop { refusal, at: 0 }, line, text),
     }
 }

@@ -29,11 +29,26 @@ fn take_line(line: &[u8], space: &mut Space, output: &mut [u8]) -> Stepped
         };
     }
     if begins_rule(line) {
-        return take_rule(false, line, space, output);
+        return take_rule(
+            false,
+            line,
+            &mut space.heading,
+            &space.masks,
+            &mut space.nodes,
+            &space.states,
+            output,
+        );
     }
     Stepped {
         phase: Phase::Running,
-        printed: follow(line, space, output),
+        printed: follow(
+            line,
+            &mut space.heading,
+            &space.masks,
+            &space.nodes,
+            &mut space.states,
+            output,
+        ),
     }
 }
 
@@ -52,7 +67,15 @@ pub fn step(
     match phase {
         Phase::Opening => open(ended, text, space, output),
         Phase::Running => take_line(&text[at..], space, output),
-        Phase::Ruling => take_rule(ended, text, space, output),
+        Phase::Ruling => take_rule(
+            ended,
+            text,
+            &mut space.heading,
+            &space.masks,
+            &mut space.nodes,
+            &space.states,
+            output,
+        ),
         Phase::Ended => Stepped {
             phase: Phase::Ended,
             printed: 0,

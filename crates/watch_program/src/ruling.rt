@@ -1,9 +1,8 @@
 // The text of a new rule, so far: it lacks only lines, a line of it is refused, or the session takes it.
 ghost use Rattle.std.specs.Prelude.{◌≡◌, ◌≤◌, length};
-ghost use Rattle.definitions.specs.Sessions.{Replace};
+ghost use Rattle.definitions.specs.Sessions.{lent_space, Replace};
 ghost use Rattle.definitions.specs.Watching.{begins_rule, calls, rule_so_far, rule_step};
 ghost use Rattle.rules.specs.Handed.{rule_in};
-ghost use Rattle.session_status.specs.Spaces.{space_in};
 ghost use Rattle.session_status.specs.Status.{max_printed};
 ghost use Rattle.watch_opening.specs.Openings.{SteppedIs};
 ghost use Rattle.watch_opening.specs.declared.phase.Phase.TheVariants.{Running};
@@ -16,7 +15,7 @@ use rules::limits::Limits;
 use rules::refusal::Refusal;
 use rules::rule::Rule;
 use session_status::put_status;
-use session_status::space::Space;
+use sessions::heading::Heading;
 use sessions::replacement::replace_rule;
 use watch_opening::lacks_lines;
 use watch_opening::phase::{Phase, Stepped};
@@ -42,50 +41,74 @@ fn running(printed: usize) -> Stepped
 }
 
 // The session takes the rule that was read; the line of its refusal is the text's first.
-fn replace_read(given: Rule<'_>, text: &[u8], space: &mut Space, output: &mut [u8]) -> Stepped
+fn replace_read(
+    given: Rule<'_>,
+    text: &[u8],
+    heading: &mut [usize; Heading::NUMBERS],
+    masks: &[u32],
+    nodes: &mut [u32],
+    states: &[u64],
+    output: &mut [u8],
+) -> Stepped
     requires { max_printed ≤ length output.old }
-    ensures { SteppedIs (calls text.now (space_in space.old) (Replace (rule_in given.entry))) text.now (space_in space.old) output.old result (space_in space.new) output.new }
+    ensures { SteppedIs (calls text.now (lent_space heading.old masks.now nodes.old states.now) (Replace (rule_in given.entry))) text.now (lent_space heading.old masks.now nodes.old states.now) output.old result (lent_space heading.new masks.now nodes.new states.now) output.new }
 {
-    match replace_rule(given, &mut space.heading, &mut space.nodes) {
-        Ok(()) => running(put_status(space, output)),
+    match replace_rule(given, heading, nodes) {
+        Ok(()) => running(put_status(heading, masks, nodes, states, output)),
         Err(refusal) => running(refuse_line(Stop { refusal, at: 0 }, text, output)),
     }
 }
 
 // The whole text so far. A line that can't be part of it ends it, and is not read as an event.
-fn take_text(ended: bool, text: &[u8], space: &mut Space, output: &mut [u8]) -> Stepped
+fn take_text(
+    ended: bool,
+    text: &[u8],
+    heading: &mut [usize; Heading::NUMBERS],
+    masks: &[u32],
+    nodes: &mut [u32],
+    states: &[u64],
+    output: &mut [u8],
+) -> Stepped
     requires { max_printed ≤ length output.old }
-    ensures { SteppedIs (rule_so_far ended text.now (space_in space.old)) text.now (space_in space.old) output.old result (space_in space.new) output.new }
+    ensures { SteppedIs (rule_so_far ended text.now (lent_space heading.old masks.now nodes.old states.now)) text.now (lent_space heading.old masks.now nodes.old states.now) output.old result (lent_space heading.new masks.now nodes.new states.now) output.new }
 {
-    let mut nodes = [0u32; Limits::RULE_NODES];
-    match scan_rule(text, &mut nodes) {
-        Ok(heading) => {
+    let mut words = [0u32; Limits::RULE_NODES];
+    match scan_rule(text, &mut words) {
+        Ok(read) => {
             let given = Rule {
-                controller: heading.controller,
-                count: heading.count,
-                nodes: &nodes[..heading.count],
+                controller: read.controller,
+                count: read.count,
+                nodes: &words[..read.count],
             };
-            replace_read(given, text, space, output)
+            replace_read(given, text, heading, masks, nodes, states, output)
         }
-        Err(stop) => {
-            if lacks_lines(ended, stop.refusal, Refusal::RuleLines) {
+        Err(cut) => {
+            if lacks_lines(ended, cut.stop.refusal, Refusal::RuleLines) {
                 return Stepped {
                     phase: Phase::Ruling,
                     printed: 0,
                 };
             }
-            running(refuse_line(stop, text, output))
+            running(refuse_line(cut.stop, text, output))
         }
     }
 }
 
 // The whole text so far, if it isn't too long.
-pub fn take_rule(ended: bool, text: &[u8], space: &mut Space, output: &mut [u8]) -> Stepped
+pub fn take_rule(
+    ended: bool,
+    text: &[u8],
+    heading: &mut [usize; Heading::NUMBERS],
+    masks: &[u32],
+    nodes: &mut [u32],
+    states: &[u64],
+    output: &mut [u8],
+) -> Stepped
     requires { max_printed ≤ length output.old }
-    ensures { SteppedIs (rule_step ended text.now (space_in space.old)) text.now (space_in space.old) output.old result (space_in space.new) output.new }
+    ensures { SteppedIs (rule_step ended text.now (lent_space heading.old masks.now nodes.old states.now)) text.now (lent_space heading.old masks.now nodes.old states.now) output.old result (lent_space heading.new masks.now nodes.new states.now) output.new }
 {
     if Limits::INPUT_BYTES < text.len() {
         return running(put_refused(Refusal::InputLong, &text[..0], output));
     }
-    take_text(ended, text, space, output)
+    take_text(ended, text, heading, masks, nodes, states, output)
 }

@@ -5,7 +5,7 @@ use Rattle.joint_reading.proofs.scan.scan_joint.Goals as goal
 pub returns-in-Err : goal.returns-in-Err
 returns-in-Err c =
     let a = c.args in
-    rule_refused a.rule.now a.recording.now a.nodes.now a.masks.now a.states.now c.scan_rule.new.nodes c.scan_rule.ensures.nodes_past c.in-Err.stop c.in-Err.ensures.ended
+    rule_refused a.rule.now a.recording.now a.nodes.now a.masks.now a.states.now c.scan_rule.new.nodes c.scan_rule.ensures.nodes_past c.in-Err.cut c.in-Err.ensures.ended
     c.refused_at.result c.refused_at.ensures
 
 pub returns-in-Err-scan_recording : goal.returns-in-Err-scan_recording
@@ -13,7 +13,7 @@ returns-in-Err-scan_recording c =
     let a = c.args in
     let s = c.scan_recording in
     recording_refused a.rule.now a.recording.now a.nodes.now a.masks.now a.states.now c.scan_rule.new.nodes c.scan_rule.ensures.nodes_past c.scan_rule.ensures.nodes_laid
-    c.in-Ok.heading c.in-Ok.ensures.ended s.new.masks s.new.states s.ensures.masks_past s.ensures.states_past c.in-Err-scan_recording.stop c.in-Err-scan_recording.ensures.ended
+    c.in-Ok.heading c.in-Ok.ensures.ended s.new.masks s.new.states s.ensures.masks_past s.ensures.states_past c.in-Err-scan_recording.cut c.in-Err-scan_recording.ensures.ended
     c.refused_at-in-Err-scan_recording.result c.refused_at-in-Err-scan_recording.ensures
 
 pub returns-then-recorded-ruled : goal.returns-then-recorded-ruled

@@ -5,6 +5,9 @@ use Rattle.report.proofs.read.read_tables.Goals as goal
 pub read-requires : goal.read-requires
 read-requires c = search read_laws
 
+pub part-requires : goal.part-requires
+part-requires c = search read_laws
+
 pub put_refused-printed-requires : goal.put_refused-printed-requires
 put_refused-printed-requires c = search read_laws
 

@@ -8,13 +8,13 @@ pub returns-in-Some-Arrival : goal.returns-in-Some-Arrival
 returns-in-Some-Arrival c =
     let w = c.in-Some-Arrival in
     let v : w.field-0 ≡ Arrival w.state = rw w.is at w.field-0-is in
-    search (taken_laws, w.is, v)
+    λ nodes. search (taken_laws, w.is, v)
 
 pub returns-in-Some-Withdrawal : goal.returns-in-Some-Withdrawal
 returns-in-Some-Withdrawal c =
     let w = c.in-Some-Withdrawal in
     let v : w.field-0 ≡ Withdrawal = rw w.is at w.field-0-is in
-    search (taken_laws, w.is, v)
+    λ nodes. search (taken_laws, w.is, v)
 
 pub returns-in-None : goal.returns-in-None
-returns-in-None c = search taken_laws
+returns-in-None c = λ nodes. search taken_laws
