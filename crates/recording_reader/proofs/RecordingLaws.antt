@@ -66,7 +66,7 @@ module _ (t : List ℕ) where
   unfolding scan_recording scan_opening on_next
   recording_step h rest e = rw e
 
--- C and N are within their limits
+-- C and N of a reading are within their limits
 abbrev Within : RecordingScan → Type 0
 Within s = (s.controllers ≤ max_controllers) × (s.count ≤ max_states)
 
@@ -78,8 +78,8 @@ masked_within C N m few short =
     (λ z. rw z (by_test (eqb s.number accepted) (λ y. rw y (few, short)) (λ y. rw y (omega arith, omega arith))))
     (λ z. rw z (omega arith, omega arith))
 
--- those of every text, refused or not
-pub told_within : (t : List ℕ) → Within (scan_recording t)
+-- C and N of every text, refused or not, are within their limits
+pub told_within : (t : List ℕ) → ((scan_recording t).controllers ≤ max_controllers) × ((scan_recording t).count ≤ max_states)
 unfolding scan_recording scan_opening
 told_within t =
     on_next_lem Within (recording_heading_line t) _ _
@@ -89,7 +89,7 @@ told_within t =
     masked_within h.first h.second (scan_masks h.first [] rest) g.few g.short)
 
 -- ---- a reading that stops at a line
--- a refused recording text, by its refusal and line, and by C and N as the definition has them: the other clauses hold of every text
+-- a refused recording text, by its refusal, its line, and C and N as the definition has them: the rest follows
 pub refused_of : (t : List ℕ) (cut : CutShort RecordingHeading) → number_of cut.stop.refusal ≡ (scan_recording t).number
     → cut.read.controllers ≡ (scan_recording t).controllers → cut.read.count ≡ (scan_recording t).count → cut.stop.at ≤ length t
     → drop cut.stop.at t ≡ (scan_recording t).rest → RecordingRefused t cut

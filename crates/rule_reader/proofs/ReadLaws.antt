@@ -47,7 +47,7 @@ told_within t =
     (λ number e. omega arith)
     (λ h rest e. (headed t (heading_of h) (read_told heading_of (rule_heading_line t) h rest e)).few)
 
--- a refused rule text, by its refusal and line, and by controller and count as the definition has them: the other clauses hold of every text
+-- a refused rule text, by its refusal, its line, and controller and count as the definition has them: the rest follows
 pub refused_of : (t : List ℕ) (cut : CutShort RuleHeading) → number_of cut.stop.refusal ≡ (scan_rule t).number
     → cut.read.controller ≡ (scan_rule t).controller → cut.read.count ≡ (scan_rule t).count → cut.stop.at ≤ length t → drop cut.stop.at t ≡ (scan_rule t).rest → RuleRefused t cut
 refused_of t cut n c k i r =
