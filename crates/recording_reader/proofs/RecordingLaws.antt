@@ -3,14 +3,17 @@ use mathlib.Core.Path.{◌≡◌, refl, ap, sym, ◌∙◌}
 use mathlib.Core.List.{List, []}
 use Prim.Native.Nat.{ℕ, ◌≤◌}
 use native.Mathlib.Omega.{arith}
+use lib.Dec.{eqb}
 use lib.ListN.{length, take, drop, length-drop}
 use lib.Seq.{take_at}
 use borrow.Author.Tests.{eq-eqb, ne_eqb}
 use Rattle.std.specs.Prelude.{Ok, Err}
-use Rattle.definitions.specs.Limits.{max_gauges, max_controllers, max_states}
+use Rattle.definitions.specs.Limits.{accepted, max_gauges, max_controllers, max_states}
 use Rattle.definitions.specs.Bounded.{pick}
 use Rattle.definitions.specs.Lines.{Heading, heading, rest_of, refused, read, on_next, Scan}
 use Rattle.definitions.specs.RecordingText.{recording_heading_line, scan_masks, GaugeScan, scan_gauges, scan_states, RecordingScan, recording_stop, recording_states, after_gauges, gauged_after_masks, opening_masks, scan_opening, scan_recording}
+use Rattle.theorems.proofs.Choice.{by_test}
+use Rattle.theorems.proofs.NextLines.{on_next_lem}
 use Rattle.theorems.proofs.TextNumbers.{recording_of_text_lem}
 use Rattle.lent.specs.Space.{laid}
 use Rattle.lent.proofs.LeftLaws.{laid_past}
@@ -27,7 +30,7 @@ use Rattle.lines.specs.declared.CutShort.{CutShort}
 use Rattle.lines.specs.declared.Line.{Line}
 use Rattle.lines.specs.declared.Stop.{Stop}
 use Rattle.lines.proofs.LoopLaws.{Counted}
-use Rattle.lines.proofs.ToldLaws.{told_refused}
+use Rattle.lines.proofs.ToldLaws.{told_refused, read_told}
 use Rattle.recording_reader.specs.NextLines.{heading_of}
 use Rattle.recording_reader.specs.Scanning.{Room, MaskRoom, RestRoom, unread, RecordingRefused, RecordingScanned}
 use Rattle.recording_reader.proofs.HeadingLaws.{Headed, headed}
@@ -63,32 +66,61 @@ module _ (t : List ℕ) where
   unfolding scan_recording scan_opening on_next
   recording_step h rest e = rw e
 
+-- C and N of a reading are within their limits
+abbrev Within : RecordingScan → Type 0
+Within s = (s.controllers ≤ max_controllers) × (s.count ≤ max_states)
+
+masked_within : (C N : ℕ) (m : Scan) → C ≤ max_controllers → N ≤ max_states → Within (opening_masks gauged_after_masks C N m)
+unfolding gauged_after_masks pick
+masked_within C N m few short =
+    let s = scan_gauges max_gauges [] m.rest in
+    by_test (eqb m.number accepted)
+    (λ z. rw z (by_test (eqb s.number accepted) (λ y. rw y (few, short)) (λ y. rw y (omega arith, omega arith))))
+    (λ z. rw z (omega arith, omega arith))
+
+-- C and N of every text, refused or not, are within their limits
+pub told_within : (t : List ℕ) → ((scan_recording t).controllers ≤ max_controllers) × ((scan_recording t).count ≤ max_states)
+unfolding scan_recording scan_opening
+told_within t =
+    on_next_lem Within (recording_heading_line t) _ _
+    (λ number e. (omega arith, omega arith))
+    (λ h rest e.
+    let g = headed t (heading_of h) (read_told heading_of (recording_heading_line t) h rest e) in
+    masked_within h.first h.second (scan_masks h.first [] rest) g.few g.short)
+
 -- ---- a reading that stops at a line
+-- a refused recording text, by its refusal, its line, and C and N as the definition has them: the rest follows
+pub refused_of : (t : List ℕ) (cut : CutShort RecordingHeading) → number_of cut.stop.refusal ≡ (scan_recording t).number
+    → cut.read.controllers ≡ (scan_recording t).controllers → cut.read.count ≡ (scan_recording t).count → cut.stop.at ≤ length t
+    → drop cut.stop.at t ≡ (scan_recording t).rest → RecordingRefused t cut
+refused_of t cut n c k i r =
+    let w = told_within t in
+    record {
+      number = n;
+      controllers = c;
+      count = k;
+      place = omega (arith, ap length r, length-drop cut.stop.at t, i);
+      inside = i;
+      rest = r;
+      not_lent = λ q. (recording_of_text_lem t).not_lent (sym n ∙ q);
+      few = omega (arith, c, w.0);
+      short = omega (arith, k, w.1);
+    }
+
 module _ (text : List ℕ) (s : Stop) (inside : s.at ≤ length text) where
-  stopped : (h : RecordingHeading) → h.controllers ≤ max_controllers → h.count ≤ max_states → (masks states : List ℕ)
+  stopped : (h : RecordingHeading) (masks states : List ℕ)
       → scan_recording text ≡ record { number = number_of s.refusal; controllers = h.controllers; count = h.count; masks = masks; states = states; rest = drop s.at text }
       → RecordingRefused text (record { read = h; stop = s })
-  stopped h few short masks states e =
-      let n : number_of s.refusal ≡ (scan_recording text).number = sym (ap (λ (q : RecordingScan). q.number) e) in
-      let r : drop s.at text ≡ (scan_recording text).rest = sym (ap (λ (q : RecordingScan). q.rest) e) in
-      record {
-        number = n;
-        controllers = sym (ap (λ (q : RecordingScan). q.controllers) e);
-        count = sym (ap (λ (q : RecordingScan). q.count) e);
-        place = omega (arith, ap length r, length-drop s.at text);
-        inside = inside;
-        rest = r;
-        not_lent = λ q. (recording_of_text_lem text).not_lent (sym n ∙ q);
-        few = few;
-        short = short;
-      }
+  stopped h masks states e =
+      refused_of text (record { read = h; stop = s }) (sym (ap (λ (q : RecordingScan). q.number) e)) (sym (ap (λ (q : RecordingScan). q.controllers) e))
+      (sym (ap (λ (q : RecordingScan). q.count) e)) inside (sym (ap (λ (q : RecordingScan). q.rest) e))
 
   -- before the states
   stopped_early : (masks states masks' : List ℕ) → scan_recording text ≡ recording_stop (number_of s.refusal) (drop s.at text) → drop max_controllers masks' ≡ drop max_controllers masks
       → RecordingScanned text masks states (Err (unread s)) masks' states
   stopped_early masks states masks' e past =
       record {
-        ended = stopped (record { controllers = 0; count = 0 }) (omega arith) (omega arith) [] [] e;
+        ended = stopped (record { controllers = 0; count = 0 }) [] [] e;
         masks_past = past;
         states_laid = ap (λ (q : RecordingScan). laid q.states states) (sym e);
         states_past = refl;
@@ -143,10 +175,11 @@ module _ (text masks states : List ℕ) (l : Line) (is : FirstLine text l) where
       after_is = scan_is ∙ (masks_read h.controllers h.count owned (sym m.number) ∙ rw (taken, m.rest))
 
       -- `scan_recording`, a gauge line is refused: `scan_recording` stops at that line
-      pub recording_ungauged : (c : CutShort Gauges) → GaugesScanned gauged text (Err c) → RecordingScanned text masks states (Err (unread c.stop)) masks' states
-      recording_ungauged c g =
-          let z : gauged.number ≡ 0 → ⊥ = λ q. number_some c.stop.refusal (g.number ∙ q) in
-          stopped_early text c.stop g.inside masks states masks' (rw (g.number, g.rest) (after_is ∙ gauges_denied h.controllers h.count (take h.controllers masks') gauged z)) (past masks' m.words)
+      pub recording_ungauged : (s : Stop) → number_of s.refusal ≡ gauged.number → s.at ≤ length text → drop s.at text ≡ gauged.rest
+          → RecordingScanned text masks states (Err (unread s)) masks' states
+      recording_ungauged s n i r =
+          let z : gauged.number ≡ 0 → ⊥ = λ q. number_some s.refusal (n ∙ q) in
+          stopped_early text s i masks states masks' (rw (n, r) (after_is ∙ gauges_denied h.controllers h.count (take h.controllers masks') gauged z)) (past masks' m.words)
 
       module _ (g : Gauges) (gs : GaugesScanned gauged text (Ok g)) where
         pub state_room : RestRoom h g.at text states
@@ -174,7 +207,7 @@ module _ (text masks states : List ℕ) (l : Line) (is : FirstLine text l) where
         pub recording_unstated : (s : Stop) (states' : List ℕ) → LinesScanned timed text states (Err s) states' → RecordingScanned text masks states (Err (record { read = h; stop = s })) masks' states'
         recording_unstated s states' t =
             record {
-              ended = stopped text s t.inside h limits.few limits.short (take h.controllers masks') timed.words (rw (t.number, t.rest) whole);
+              ended = stopped text s t.inside h (take h.controllers masks') timed.words (rw (t.number, t.rest) whole);
               masks_past = past masks' m.words;
               states_laid = t.words ∙ ap (λ (w : List ℕ). laid w states) states_are;
               states_past = states_past states' t.words;

@@ -11,6 +11,7 @@ use Rattle.definitions.specs.Bounded.{pick}
 use Rattle.definitions.specs.Lines.{Scan, rest_of, heading}
 use Rattle.definitions.specs.RuleText.{scan_nodes, rule_heading_line, RuleScan, rule_stop, rule_nodes, scan_rule}
 use Rattle.definitions.specs.Operations.{answer, read_rule_number, read_rule_answer, read_rule_nodes}
+use Rattle.theorems.proofs.NextLines.{on_next_lem}
 use Rattle.theorems.proofs.RuleTextSteps.{rule_stop_lem, rule_step_lem}
 use Rattle.theorems.proofs.LentSpace.{refused_answer}
 use Rattle.theorems.proofs.TextNumbers.{rule_text_number}
@@ -27,9 +28,9 @@ use Rattle.lines.specs.declared.CutShort.{CutShort}
 use Rattle.lines.specs.declared.Line.{Line}
 use Rattle.lines.specs.declared.Stop.{Stop}
 use Rattle.lines.proofs.LoopLaws.{Counted}
-use Rattle.lines.proofs.ToldLaws.{told_refused}
+use Rattle.lines.proofs.ToldLaws.{told_refused, read_told}
 use Rattle.rule_reader.specs.NextLines.{heading_of}
-use Rattle.rule_reader.specs.Reading.{Room, NodeRoom, unread, RuleScanned, ReadRule}
+use Rattle.rule_reader.specs.Reading.{Room, NodeRoom, unread, RuleRefused, RuleScanned, ReadRule}
 use Rattle.rule_reader.proofs.HeadingLaws.{Headed, headed}
 use Rattle.rule_reader.proofs.LoopLaws.{nodes_counted}
 
@@ -38,22 +39,38 @@ use Rattle.rule_reader.proofs.LoopLaws.{nodes_counted}
 pub rule_low : (t : List ℕ) → (scan_rule t).number < no_controller
 rule_low = rule_text_number (λ n. n < no_controller) (omega arith) (omega arith) (omega arith) (omega arith) (omega arith)
 
+-- the count of every text, refused or not, is within its limit
+pub told_within : (t : List ℕ) → (scan_rule t).count ≤ max_rule_nodes
+unfolding scan_rule
+told_within t =
+    on_next_lem (λ (s : RuleScan). s.count ≤ max_rule_nodes) (rule_heading_line t) _ _
+    (λ number e. omega arith)
+    (λ h rest e. (headed t (heading_of h) (read_told heading_of (rule_heading_line t) h rest e)).few)
+
+-- a refused rule text, by its refusal, its line, and controller and count as the definition has them: the rest follows
+pub refused_of : (t : List ℕ) (cut : CutShort RuleHeading) → number_of cut.stop.refusal ≡ (scan_rule t).number
+    → cut.read.controller ≡ (scan_rule t).controller → cut.read.count ≡ (scan_rule t).count → cut.stop.at ≤ length t → drop cut.stop.at t ≡ (scan_rule t).rest → RuleRefused t cut
+refused_of t cut n c k i r =
+    record {
+      number = n;
+      controller = c;
+      count = k;
+      place = omega (arith, ap length r, length-drop cut.stop.at t, i);
+      inside = i;
+      rest = r;
+      low = omega (arith, n, rule_low t);
+      few = omega (arith, k, told_within t);
+    }
+
 module _ (t o : List ℕ) (l : Line) (is : FirstLine t l) where
   -- `scan_rule`, the first line is refused: `scan_rule` stops there with its refusal, and tells zeros
   pub rule_unheaded : (r : Refusal) → Err (number_of r) ≡ next_told heading_of (rule_heading_line t) → RuleScanned t o (Err (unread r)) o
   rule_unheaded r h =
       let e : scan_rule t ≡ rule_stop (number_of r) t = rule_stop_lem t (number_of r) (told_refused heading_of (rule_heading_line t) r h) in
       record {
-        ended = record {
-          number = sym (ap (λ (q : RuleScan). q.number) e);
-          controller = sym (ap (λ (q : RuleScan). q.controller) e);
-          count = sym (ap (λ (q : RuleScan). q.count) e);
-          place = rw e (omega arith);
-          inside = omega arith;
-          rest = rw e;
-          low = omega (arith, ap (λ (q : RuleScan). q.number) e, rule_low t);
-          few = omega arith;
-        };
+        ended =
+            refused_of t (unread r) (sym (ap (λ (q : RuleScan). q.number) e)) (sym (ap (λ (q : RuleScan). q.controller) e)) (sym (ap (λ (q : RuleScan). q.count) e))
+            (omega arith) (sym (ap (λ (q : RuleScan). q.rest) e));
         nodes_laid = rw e;
         nodes_past = refl;
       }
@@ -80,19 +97,10 @@ module _ (t o : List ℕ) (l : Line) (is : FirstLine t l) where
     -- `scan_rule`, a node line is refused: `scan_rule` stops at that line, and tells controller and count
     pub rule_stopped : (s : Stop) (o' : List ℕ) → LinesScanned nodes t o (Err s) o' → RuleScanned t o (Err (record { read = h; stop = s })) o'
     rule_stopped s o' m =
-        let number : number_of s.refusal ≡ (scan_rule t).number = m.number ∙ sym (ap (λ (q : RuleScan). q.number) whole) in
-        let rest : drop s.at t ≡ (scan_rule t).rest = m.rest ∙ sym (ap (λ (q : RuleScan). q.rest) whole) in
         record {
-          ended = record {
-            number = number;
-            controller = sym (ap (λ (q : RuleScan). q.controller) whole);
-            count = sym (ap (λ (q : RuleScan). q.count) whole);
-            place = omega (arith, ap length rest, length-drop s.at t, m.inside);
-            inside = m.inside;
-            rest = rest;
-            low = omega (arith, number, rule_low t);
-            few = head.few;
-          };
+          ended =
+              refused_of t (record { read = h; stop = s }) (m.number ∙ sym (ap (λ (q : RuleScan). q.number) whole))
+              (sym (ap (λ (q : RuleScan). q.controller) whole)) (sym (ap (λ (q : RuleScan). q.count) whole)) m.inside (m.rest ∙ sym (ap (λ (q : RuleScan). q.rest) whole));
           nodes_laid = rw whole m.words;
           nodes_past = past o' m.words;
         }

@@ -35,7 +35,7 @@ returns-in_err-gauges c =
     let p = err_from_is_err_and c.from_residual-in_err-gauges.result c.from_residual-in_err-gauges.ensures.1 in
     let m = mapped_err c.scan_gauges.result c.in_err-gauges.field-0.0 _ c.in_err-gauges.ensures.cases (λ (cut : CutShort Gauges). unread cut.stop) (λ e q. search rules) in
     let g = rw m.is at c.scan_gauges.ensures in
-    rw (p.1, p.2, m.gives) (search (recording_ungauged, h, o, g))
+    rw (p.1, p.2, m.gives) (search (recording_ungauged, h, o, g.number, g.inside, g.rest))
 
 pub scan_states-ended-requires : goal.scan_states-ended-requires
 scan_states-ended-requires c =
